@@ -1,0 +1,144 @@
+-- Laws of walks, of lists joined, and of the bytes of a list by offset.
+-- Assumes nothing.
+use mathlib.Core.Path.{_≡_, refl, sym, ap, _∙_}
+use mathlib.Core.List.{List, [], _∷_, _++_, map, append-nil}
+use Prim.Native.Nat.{ℕ, zero, suc, _+_, _-_, _*_, _≤_, _<_}
+use native.Mathlib.Nat.{suc-mul, zero-mul, zero-add, not-suc-le-zero}
+use native.Mathlib.Numerals.{add-one}
+use native.Mathlib.Omega.{arith}
+use lib.ListN.{length, getD, take, drop, length-append, drop-of-length-le}
+use lib.Seq.{sets, sets-eq, take-at, drop-at, drop-cons}
+use Rattle.numbers.specs.Walk.{walk, flat, bytesAt}
+
+less-one : (k : ℕ) → suc k - 1 ≡ k
+less-one k = omega arith
+
+-- One turn of a loop that counts down from k takes m off the product: the one law of products that the loops need.
+pub times-more : (k m : ℕ) → 0 < k → k * m ≡ m + (k - 1) * m
+times-more zero m h = absurd (not-suc-le-zero h)
+times-more (suc k) m h = rw (less-one, suc-mul) (omega arith)
+
+-- ## Walks
+
+-- A walk of k steps has k elements.
+pub size-walk : {A : Type 0} (f : ℕ → A) (w k at : ℕ) → length (walk f w k at) ≡ k
+size-walk f w zero at = refl
+size-walk f w (suc k) at = ap suc (size-walk f w k (at + w))
+
+-- A walk of at least one step is its first element, and then the walk from the next offset on, a step shorter.
+pub walk-more : {A : Type 0} (f : ℕ → A) (w k at : ℕ) → 0 < k → walk f w k at ≡ f at ∷ walk f w (k - 1) (at + w)
+walk-more f w zero at h = absurd (not-suc-le-zero h)
+walk-more f w (suc k) at h = rw less-one
+
+-- ## Every element
+
+-- P holds of each element of a list.
+abbrev pub All : {A : Type 0} → (A → Type 0) → List A → Type 0
+All P [] = Unit {0}
+All P (x ∷ l) = P x × All P l
+
+-- What holds of each element of a list holds of each of its first k.
+pub all-take : {A : Type 0} (P : A → Type 0) (k : ℕ) (l : List A) → All P l → All P (take k l)
+all-take P zero l h = tt
+all-take P (suc k) [] h = tt
+all-take P (suc k) (x ∷ l) h = (h .0, all-take P k l (h .1))
+
+-- And of each after the first k.
+pub all-drop : {A : Type 0} (P : A → Type 0) (k : ℕ) (l : List A) → All P l → All P (drop k l)
+all-drop P zero l h = h
+all-drop P (suc k) [] h = tt
+all-drop P (suc k) (x ∷ l) h = all-drop P k l (h .1)
+
+-- What holds at every offset holds of each element of a walk.
+pub all-at : {A : Type 0} (P : A → Type 0) (f : ℕ → A) → ((a : ℕ) → P (f a)) → (w k at : ℕ) → All P (walk f w k at)
+all-at P f h w zero at = tt
+all-at P f h w (suc k) at = (h at, all-at P f h w k (at + w))
+
+-- Where P of f shows Q of g at every offset, P of each element of f's walk shows Q of each of g's over the same offsets.
+pub all-walk : {A B : Type 0} (P : A → Type 0) (Q : B → Type 0) (f : ℕ → A) (g : ℕ → B) → ((a : ℕ) → P (f a) → Q (g a))
+    → (w k at : ℕ) → All P (walk f w k at) → All Q (walk g w k at)
+all-walk P Q f g h w zero at p = tt
+all-walk P Q f g h w (suc k) at p = (h at (p .0), all-walk P Q f g h w k (at + w) (p .1))
+
+-- ## Lists joined
+
+-- The lists of a walk of at least one step: the first, and then those from the next offset on.
+pub flat-more : {A B : Type 0} (g : A → List B) (f : ℕ → A) (w k at : ℕ) → 0 < k
+    → flat (map g (walk f w k at)) ≡ g (f at) ++ flat (map g (walk f w (k - 1) (at + w)))
+flat-more g f w k at h = rw (walk-more f w k at)
+
+-- The lists of a walk of no step are the empty list.
+pub flat-none : {A B : Type 0} (g : A → List B) (f : ℕ → A) (w k at : ℕ) → k ≤ 0 → flat (map g (walk f w k at)) ≡ []
+flat-none g f w zero at h = refl
+flat-none g f w (suc k) at h = absurd (not-suc-le-zero h)
+
+-- Joined lists that are the same have the same parts, where their first parts are equally long.
+pub split : {A : Type 0} (s₁ s₂ t₁ t₂ : List A) → length s₁ ≡ length s₂ → s₁ ++ t₁ ≡ s₂ ++ t₂ → (s₁ ≡ s₂) × (t₁ ≡ t₂)
+split s₁ s₂ t₁ t₂ n e = (
+  sym (take-at s₁ t₁ (length s₁) refl) ∙ ap (take (length s₁)) e ∙ take-at s₂ t₂ (length s₁) (sym n),
+  sym (drop-at s₁ t₁ (length s₁) refl) ∙ ap (drop (length s₁)) e ∙ drop-at s₂ t₂ (length s₁) (sym n),
+)
+
+-- Lists with the same first element and the same rest are the same.
+pub cons-eq : {A : Type 0} {x y : A} {l k : List A} → x ≡ y → l ≡ k → x ∷ l ≡ y ∷ k
+cons-eq p q = cc
+
+-- Values, of which P holds, each encoded by g in m elements, and the encodings joined.
+module _ {A B : Type 0} (g : A → List B) (P : A → Type 0) (m : ℕ) (size : (a : A) → P a → length (g a) ≡ m) where
+  -- There are m elements for each value.
+  pub flat-size : (l : List A) → All P l → length (flat (map g l)) ≡ length l * m
+  flat-size [] p = sym (zero-mul m)
+  flat-size (x ∷ l) p =
+      rw suc-mul (omega (arith, length-append (g x) (flat (map g l)), size x (p .0), flat-size l (p .1)))
+
+  -- Where two values with the same encoding are the same, so are two lists of them, equally long, whose joined encodings are the same.
+  pub flat-inj : ((a b : A) → P a → P b → g a ≡ g b → a ≡ b)
+      → (l₁ l₂ : List A) → length l₁ ≡ length l₂ → All P l₁ → All P l₂ → flat (map g l₁) ≡ flat (map g l₂) → l₁ ≡ l₂
+  flat-inj inj [] [] n p q e = refl
+  flat-inj inj [] (y ∷ k) n p q e = absurd (let z : 0 ≡ suc (length k) = n in omega arith)
+  flat-inj inj (x ∷ l) [] n p q e = absurd (let z : suc (length l) ≡ 0 = n in omega arith)
+  flat-inj inj (x ∷ l) (y ∷ k) n p q e =
+      let h = split (g x) (g y) (flat (map g l)) (flat (map g k)) (size x (p .0) ∙ sym (size y (q .0))) e in
+      cons-eq (inj x y (p .0) (q .0) (h .0)) (flat-inj inj l k (omega arith) (p .1) (q .1) (h .1))
+
+-- Where each element of a walk becomes a list of m elements, k steps give k * m of them.
+pub flat-length : {A B : Type 0} (g : A → List B) (f : ℕ → A) (m : ℕ) → ((a : ℕ) → length (g (f a)) ≡ m)
+    → (w k at : ℕ) → length (flat (map g (walk f w k at))) ≡ k * m
+flat-length {A} g f m h w k at =
+    let sized : A → Type 0 = λ a. length (g a) ≡ m in
+    flat-size g sized m (λ a p. p) (walk f w k at) (all-at sized f h w k at)
+    ∙ ap (λ (n : ℕ). n * m) (size-walk f w k at)
+
+-- ## Bytes by offset
+
+-- The bytes from i on are the byte at i, and then the bytes from `i + 1` on.
+pub drop-next : (l : List ℕ) (i : ℕ) → i < length l → drop i l ≡ getD l i 0 ∷ drop (i + 1) l
+drop-next l i h = rw (add-one, drop-cons l i 0)
+
+-- As many bytes as were asked for, wherever the list ends.
+pub size-bytes : (s : List ℕ) (at k : ℕ) → length (bytesAt s at k) ≡ k
+unfolding bytesAt
+size-bytes s at k = size-walk (λ a. getD s a 0) 1 k at
+
+bytes-walk : (s : List ℕ) (k at : ℕ) → at + k ≤ length s → take k (drop at s) ≡ walk (λ a. getD s a 0) 1 k at
+bytes-walk s zero at h = refl
+bytes-walk s (suc k) at h =
+    let i : at < length s = omega arith in
+    rw (drop-next s at) (ap (λ (l : List ℕ). getD s at 0 ∷ l) (bytes-walk s k (at + 1) (omega arith)))
+
+-- A part of a slice, k bytes from `at` on, within the slice.
+pub bytes-part : (s : List ℕ) (at k : ℕ) → at + k ≤ length s → take k (drop at s) ≡ bytesAt s at k
+unfolding bytesAt
+bytes-part s at k h = bytes-walk s k at h
+
+-- The same for a part from a to e, as `&s[a..e]` has it.
+pub bytes-between : (s : List ℕ) (a e k : ℕ) → e ≤ length s → e ≡ a + k → take (e - a) (drop a s) ≡ bytesAt s a k
+bytes-between s a e k h q =
+    let n : e - a ≡ k = omega arith in
+    rw n (bytes-part s a k (omega arith))
+
+-- Stores at 0, 1 and so on, one for each element, leave just the values that were stored.
+pub stored : {A : Type 0} (vs out : List A) → length out ≡ length vs → sets out 0 vs ≡ vs
+stored vs out h =
+    let e : length out ≤ length vs = omega arith in
+    sets-eq vs out 0 (omega arith) ∙ rw (zero-add, drop-of-length-le out e) (append-nil vs)

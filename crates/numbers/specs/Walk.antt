@@ -1,0 +1,25 @@
+-- Walks over a list by offset: the one recursion on numbers that the specifications use.
+-- Assumes nothing.
+use Prim.Native.Nat.{ℕ, zero, suc, _+_}
+use mathlib.Core.Bool.{Bool, true, false}
+use mathlib.Core.List.{List, [], _∷_, _++_}
+use lib.ListN.{getD}
+
+-- what f gives at the offsets `at`, `at + w`, `at + w + w` and so on, k of them
+abbrev pub walk : {A : Type 0} → (ℕ → A) → ℕ → ℕ → ℕ → List A
+walk f w zero at = []
+walk f w (suc k) at = f at ∷ walk f w k (at + w)
+
+-- the lists of a list, one after the other
+abbrev pub flat : {A : Type 0} → List (List A) → List A
+flat [] = []
+flat (l ∷ ls) = l ++ flat ls
+
+-- the first of two where the test is true, the second where it is false
+abbrev pub pick : {A : Type 0} → Bool → A → A → A
+pick true a b = a
+pick false a b = b
+
+-- the k bytes of s from the offset `at` on, with 0 for each that lies past the end: always k of them
+unfoldable pub bytesAt : List ℕ → ℕ → ℕ → List ℕ
+bytesAt s at k = walk (λ a. getD s a 0) 1 k at

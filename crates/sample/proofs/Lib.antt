@@ -1,0 +1,9 @@
+pub mod Twos
+pub mod Magnitudes
+pub mod Pairs
+pub mod First
+pub mod Exact
+pub mod IbmLaws
+pub mod WholeLaws
+pub mod Apart
+pub mod Codes

@@ -1,0 +1,12 @@
+use native.Mathlib.Omega.{arith}
+use Rattle.sample.proofs.limit16.Statement.{statement}
+use Rattle.sample.proofs.limit16.Tie as tie
+
+returns : tie.Need-returns
+returns c = rw (c .if1 .taken) (omega arith)
+
+returns-2 : tie.Need-returns-2
+returns-2 c = rw (c .if1 .left) (omega arith)
+
+pub limit16-spec : {M : Type 1} → statement M
+limit16-spec = tie.close (tie.spec returns returns-2)

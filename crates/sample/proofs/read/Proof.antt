@@ -1,0 +1,135 @@
+use Rattle.sample.proofs.Codes.{no-code}
+use Rattle.sample.specs.declared.Sample.{Sample}
+use Rattle.numbers.specs.Walk.{pick, bytesAt}
+use lib.ListN.{getD}
+use lib.Dec.{eqb}
+use mathlib.Core.Bool.{Bool, true, false, not}
+use mathlib.Core.Path.{_≡_, refl}
+use borrow.Author.Needs.{needs}
+use Rattle.sample.proofs.read.Statement.{statement}
+use Rattle.sample.proofs.read.Tie as tie
+
+swap : (t : Bool) (a b : Sample) → pick (not t) a b ≡ pick t b a
+swap true a b = refl
+swap false a b = refl
+
+array-read-be32 : tie.Need-array-read-be32
+array-read-be32 c = search needs
+
+array-read-be32-2 : tie.Need-array-read-be32-2
+array-read-be32-2 c = search needs
+
+array-read-be32-3 : tie.Need-array-read-be32-3
+array-read-be32-3 c = search needs
+
+array-read-be32-4 : tie.Need-array-read-be32-4
+array-read-be32-4 c = search needs
+
+be32-requires : tie.Need-be32-requires
+be32-requires c κs = search needs
+
+ibm-requires : tie.Need-ibm-requires
+ibm-requires c κs = search needs
+
+array-read-be32-5 : tie.Need-array-read-be32-5
+array-read-be32-5 c = search needs
+
+array-read-be32-6 : tie.Need-array-read-be32-6
+array-read-be32-6 c = search needs
+
+array-read-be32-7 : tie.Need-array-read-be32-7
+array-read-be32-7 c = search needs
+
+array-read-be32-8 : tie.Need-array-read-be32-8
+array-read-be32-8 c = search needs
+
+be32-requires-2 : tie.Need-be32-requires-2
+be32-requires-2 c κs = search needs
+
+whole32-requires : tie.Need-whole32-requires
+whole32-requires c κs = search needs
+
+array-read-be16 : tie.Need-array-read-be16
+array-read-be16 c = search needs
+
+array-read-be16-2 : tie.Need-array-read-be16-2
+array-read-be16-2 c = search needs
+
+be16-requires : tie.Need-be16-requires
+be16-requires c κs = search needs
+
+whole16-requires : tie.Need-whole16-requires
+whole16-requires c κs = search needs
+
+array-read-gain : tie.Need-array-read-gain
+array-read-gain c = search needs
+
+array-read-gain-2 : tie.Need-array-read-gain-2
+array-read-gain-2 c = search needs
+
+array-read-be16-3 : tie.Need-array-read-be16-3
+array-read-be16-3 c = search needs
+
+array-read-be16-4 : tie.Need-array-read-be16-4
+array-read-be16-4 c = search needs
+
+be16-requires-2 : tie.Need-be16-requires-2
+be16-requires-2 c κs = search needs
+
+gain-requires : tie.Need-gain-requires
+gain-requires c κs = search needs
+
+returns : tie.Need-returns
+unfolding bytesAt
+returns c = rw (c .before .before .match .keys1, ← (c .before .be32 .ensures)) (c .ibm .ensures)
+
+returns-2 : tie.Need-returns-2
+unfolding bytesAt
+returns-2 c = rw (c .before .before .match .keys2, ← (c .before .be322 .ensures)) (c .whole32 .ensures)
+
+returns-3 : tie.Need-returns-3
+unfolding bytesAt
+returns-3 c = rw (c .before .before .match .keys3, ← (c .before .be16 .ensures)) (c .whole16 .ensures)
+
+returns-4 : tie.Need-returns-4
+unfolding bytesAt
+returns-4 c =
+    let w = c .before .before .before .args .t2 in
+    rw (c .before .before .match .keys4, swap (eqb (getD w 0 0) 0), ← (c .before .be162 .ensures)) (c .gain .ensures)
+
+returns-5 : tie.Need-returns-5
+returns-5 c =
+    let r = c .match .rest in
+    rw (no-code (c .before .args .code) (r .0 .0 .0 .1) (r .0 .0 .1) (r .0 .1) (r .1))
+
+pub read-spec : {M : Type 1} → statement M
+read-spec =
+    tie.close
+    (tie.spec
+    array-read-be32
+    array-read-be32-2
+    array-read-be32-3
+    array-read-be32-4
+    be32-requires
+    ibm-requires
+    array-read-be32-5
+    array-read-be32-6
+    array-read-be32-7
+    array-read-be32-8
+    be32-requires-2
+    whole32-requires
+    array-read-be16
+    array-read-be16-2
+    be16-requires
+    whole16-requires
+    array-read-gain
+    array-read-gain-2
+    array-read-be16-3
+    array-read-be16-4
+    be16-requires-2
+    gain-requires
+    returns
+    returns-2
+    returns-3
+    returns-4
+    returns-5)

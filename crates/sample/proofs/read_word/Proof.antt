@@ -1,0 +1,34 @@
+use Rattle.sample.specs.Calls.{readSaid}
+use mathlib.Core.Path.{_≡_, sym, ap, _∙_}
+use mir.Facts.{toZ-ofZ}
+use mir.Val.{SFits}
+use mir.Syntax.{w16, w32}
+use borrow.Author.Needs.{needs}
+use Rattle.sample.proofs.read_word.Statement.{statement}
+use Rattle.sample.proofs.read_word.Tie as tie
+
+read-requires : tie.Need-read-requires
+read-requires c κs = search needs
+
+enum-known-e : tie.Need-enum-known-e
+enum-known-e c = search needs
+
+pair-bytes-requires : tie.Need-pair-bytes-requires
+pair-bytes-requires c κs = search needs
+
+enum-known-number : tie.Need-enum-known-number
+enum-known-number c = search needs
+
+returns : tie.Need-returns
+returns c =
+    let x : SFits w16 (c .before .before .e .given .0 .0) = search needs in
+    let y : SFits w32 (c .before .before .e .given .0 .1 .0) = search needs in
+    rw (c .pair-bytes .ensures, toZ-ofZ x, toZ-ofZ y) (ap readSaid (sym (c .before .before .e .given .1) ∙ c .before .before .before .before .read .ensures))
+
+returns-2 : tie.Need-returns-2
+returns-2 c = ap readSaid (sym (c .before .number .given .1) ∙ c .before .before .before .read .ensures)
+
+pub read-word-spec : {M : Type 1} → statement M
+read-word-spec =
+    tie.close
+    (tie.spec read-requires enum-known-e pair-bytes-requires enum-known-number returns returns-2)

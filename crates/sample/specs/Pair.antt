@@ -1,0 +1,52 @@
+-- The canonical sample, document 01's own term: a pair of exponent e and mantissa m, with value m × 2 ^ e.
+use Prim.Native.Nat.{ℕ, zero, suc, _-_, _/_, _%_, _^_}
+use mathlib.Core.Bool.{Bool, _&&_, _||_}
+use lib.Dec.{leb, ltb, eqb}
+use lib.IntN.{ℤ, pos, negsuc, negℤ, natAbs, subℕ, _+ℤ_, _*ℤ_}
+use lib.Signed.{leZ}
+use Rattle.sample.specs.Value.{denominatorPower, signMagnitude}
+use Rattle.sample.specs.declared.Pair.{Pair}
+
+-- The largest e. The least is -280, where V is counted in the denominator's own steps.
+abbrev pub highestExponent : ℕ
+highestExponent = 251
+
+-- The bits of a mantissa in two's complement.
+abbrev pub mantissaBits : ℕ
+mantissaBits = 32
+
+-- How many twos a number other than 0 has. The first argument is a count of steps that is enough, then come the lowest binary digit
+-- and the digits above it.
+unfoldable pub twosIn : ℕ → ℕ → ℕ → ℕ
+twosIn zero d h = zero
+twosIn (suc k) zero h = suc (twosIn k (h % 2) (h / 2))
+twosIn (suc k) (suc d) h = zero
+
+unfoldable pub twos : ℕ → ℕ
+twos n = twosIn n (n % 2) (n / 2)
+
+-- What is left of it when they are counted out.
+unfoldable pub oddPart : ℕ → ℕ
+oddPart n = n / 2 ^ twos n
+
+-- The canonical pair of the value V / 2 ^ 280: for zero e = 0 and m = 0, otherwise m is odd.
+abbrev pub pairOf : ℤ → Pair
+pairOf (pos zero) = record { e = pos 0; m = pos 0 }
+pairOf (pos (suc n)) = record { e = subℕ (twos (suc n)) denominatorPower; m = pos (oddPart (suc n)) }
+pairOf (negsuc n) = record { e = subℕ (twos (suc n)) denominatorPower; m = negℤ (pos (oddPart (suc n))) }
+
+-- The V of a pair whose e is -280 or more: m × 2 ^ (e + 280).
+abbrev pub valueOf : Pair → ℤ
+valueOf p = p .m *ℤ pos (2 ^ natAbs (p .e +ℤ pos denominatorPower))
+
+-- e runs from -280 to 251.
+abbrev pub isExponent : ℤ → Bool
+isExponent e = leZ (negℤ (pos denominatorPower)) e && leZ e (pos highestExponent)
+
+-- |m| is at most 2 ^ 31 - 1, and m is odd.
+abbrev pub isMantissa : ℤ → Bool
+isMantissa m = leb (natAbs m) (2 ^ (mantissaBits - 1) - 1) && eqb (natAbs m % 2) 1
+
+-- A canonical pair: zero, or an odd mantissa, each number within its limits.
+abbrev pub isCanonical : Pair → Bool
+isCanonical p = (eqb (natAbs (p .e)) 0 && eqb (natAbs (p .m)) 0) || (isExponent (p .e) && isMantissa (p .m))

@@ -1,0 +1,467 @@
+// Single samples: the canonical pair of a word under codes 1 to 4, and the word of a pair.
+ghost use mathlib.Core.Path.{_≡_};
+ghost use mathlib.Core.Bool.{Bool, true};
+ghost use Prim.Native.Nat.{_+_, _-_, _*_, _/_, _%_, _^_, _<_, _≤_, min};
+ghost use lib.IntN.{pos, natAbs, subℕ};
+ghost use lib.Dec.{leb};
+ghost use Rattle.numbers.specs.Walk.{pick};
+ghost use Rattle.numbers.specs.TwosComplement.{signedOf, bitsOf};
+ghost use Rattle.sample.specs.Value.{denominatorPower, signMagnitude, ibmValue, wholeValue, gainValue};
+ghost use Rattle.sample.specs.Pair.{highestExponent, isCanonical};
+ghost use Rattle.sample.specs.Reading.{taken, readGain, readWord};
+ghost use Rattle.sample.specs.Writing.{ibmWord, wholeWord, gainWord, writePair};
+ghost use Rattle.sample.specs.Calls.{pairBytes, pairIn, wordRead, pairWritten, readOutcome, writeOutcome};
+ghost use Rattle.sample.specs.Parts.{PartsOf};
+use numbers::Place;
+
+// A sample as exponent and mantissa: the value m × 2^e.
+pub struct Pair {
+    pub e: i16,
+    pub m: i32,
+}
+
+// What reading a word finds: the numbers e and m of its canonical pair, or the number of the refusal.
+pub enum Sample {
+    Taken { e: i16, m: i32 },
+    Refused { number: u8 },
+}
+
+// What writing a pair finds: its word, or the number of the refusal.
+pub enum Written {
+    Word { bits: u32 },
+    Refused { number: u8 },
+}
+
+// The answer of a single-sample call.
+pub enum Answer {
+    Taken,
+    Refused { number: u8, place: Place },
+}
+
+// What reading a single word hands out: beside a refusal the bytes are all 00.
+pub struct WordRead {
+    pub answer: Answer,
+    pub pair: [u8; 6],
+}
+
+// What writing a single pair hands out: beside a refusal the bytes are all 00.
+pub struct PairWritten {
+    pub answer: Answer,
+    pub word: [u8; 4],
+}
+
+// The power of two of the denominator.
+const DENOMINATOR_POWER: u32 = 280;
+
+// e + DENOMINATOR_POWER of the largest e.
+const HIGHEST_SHIFT: u32 = 531;
+
+// ## Reading
+
+// A magnitude with its sign.
+fn with_sign(neg: bool, a: u32) -> i32
+    requires { ⌜ a < 2 ^ 31 ⌝ }
+    ensures { λ r. ⌜ r ≡ signMagnitude neg a ⌝ }
+{
+    if neg { 0 - a as i32 } else { a as i32 }
+}
+
+// The exponent of 2^k in V.
+fn exponent(k: u32) -> i16
+    requires { ⌜ k < 2 ^ 15 ⌝ }
+    ensures { λ r. ⌜ r ≡ subℕ k denominatorPower ⌝ }
+{
+    k as i16 - DENOMINATOR_POWER as i16
+}
+
+// A number without its last t bits.
+fn shifted_down(a: u32, t: u32) -> u32
+    requires { ⌜ t < 32 ⌝ }
+    ensures { λ r. ⌜ r ≡ a / 2 ^ t ⌝ }
+{
+    a >> t
+}
+
+// The canonical pair of V = ± a × 2^k: the power of two in a is counted out of it.
+fn canonical(neg: bool, a: u32, k: u32) -> Sample
+    requires { ⌜ (a ≤ 2 ^ 31) × (k ≤ 2 ^ 14) ⌝ }
+    ensures { λ r. ⌜ r ≡ taken (signMagnitude neg (a * 2 ^ k)) ⌝ }
+{
+    if a == 0 {
+        return Sample::Taken { e: 0, m: 0 };
+    }
+    let twos = u32::trailing_zeros(a);
+    let e = exponent(k + twos);
+    let m = with_sign(neg, shifted_down(a, twos));
+    Sample::Taken { e, m }
+}
+
+// Code 1: the pair of an IBM word, which is sign and magnitude.
+pub fn ibm(n: u32) -> Sample
+    ensures { λ r. ⌜ r ≡ taken (ibmValue n) ⌝ }
+{
+    canonical(0x8000_0000 <= n, n % 0x100_0000, n / 0x100_0000 % 128 * 4)
+}
+
+// The magnitude of a two's complement word, by subtraction from zero.
+fn magnitude32(n: u32) -> u32
+    ensures { λ r. ⌜ (r ≡ natAbs (signedOf 32 n)) × (r ≤ 2 ^ 31) ⌝ }
+{
+    if 0x8000_0000 <= n {
+        std::num::wrapping_sub_u32(0, n)
+    } else {
+        n
+    }
+}
+
+fn magnitude16(n: u16) -> u16
+    ensures { λ r. ⌜ (r ≡ natAbs (signedOf 16 n)) × (r ≤ 2 ^ 15) ⌝ }
+{
+    if 0x8000 <= n {
+        std::num::wrapping_sub_u16(0, n)
+    } else {
+        n
+    }
+}
+
+// Code 2: the pair of a 32-bit number.
+pub fn whole32(n: u32) -> Sample
+    ensures { λ r. ⌜ r ≡ taken (wholeValue (signedOf 32 n)) ⌝ }
+{
+    canonical(0x8000_0000 <= n, magnitude32(n), DENOMINATOR_POWER)
+}
+
+// Code 3: the pair of a 16-bit number.
+pub fn whole16(n: u16) -> Sample
+    ensures { λ r. ⌜ r ≡ taken (wholeValue (signedOf 16 n)) ⌝ }
+{
+    canonical(0x8000 <= n, magnitude16(n) as u32, DENOMINATOR_POWER)
+}
+
+// Code 4: the pair of d / 2^g, where the word's first byte is 00.
+pub fn gain(first: u8, g: u8, d: u16) -> Sample
+    ensures { λ r. ⌜ r ≡ readGain first g d ⌝ }
+{
+    if first != 0 {
+        return Sample::Refused { number: 9 };
+    }
+    canonical(
+        0x8000 <= d,
+        magnitude16(d) as u32,
+        DENOMINATOR_POWER - g as u32,
+    )
+}
+
+// The canonical pair of a word under a code.
+pub fn read(code: u32, word: [u8; 4]) -> Sample
+    ensures { λ r. ⌜ r ≡ readWord code word ⌝ }
+{
+    match code {
+        1 => ibm(numbers::be32(word[0], word[1], word[2], word[3])),
+        2 => whole32(numbers::be32(word[0], word[1], word[2], word[3])),
+        3 => whole16(numbers::be16(word[0], word[1])),
+        4 => gain(word[0], word[1], numbers::be16(word[2], word[3])),
+        _ => Sample::Refused { number: 2 },
+    }
+}
+
+// The six bytes of a pair.
+fn pair_bytes(e: i16, m: i32) -> [u8; 6]
+    ensures { λ r. ⌜ r ≡ pairBytes e m ⌝ }
+{
+    let a = numbers::bytes16(numbers::bits16(e));
+    let b = numbers::bytes32(numbers::bits32(m));
+    [a[0], a[1], b[0], b[1], b[2], b[3]]
+}
+
+// One sample, from its word to its canonical pair.
+pub fn read_word(code: u32, word: [u8; 4]) -> WordRead
+    ensures { λ r. ⌜ wordRead r ≡ readOutcome code word ⌝ }
+{
+    match read(code, word) {
+        Sample::Taken { e, m } => WordRead {
+            answer: Answer::Taken,
+            pair: pair_bytes(e, m),
+        },
+        Sample::Refused { number } => WordRead {
+            answer: Answer::Refused {
+                number,
+                place: Place(0),
+            },
+            pair: [0; 6],
+        },
+    }
+}
+
+// ## Writing
+
+fn lesser(a: u32, b: u32) -> u32
+    ensures { λ r. ⌜ r ≡ min a b ⌝ }
+{
+    if a < b { a } else { b }
+}
+
+fn sign_bit(neg: bool) -> u32
+    ensures { λ r. ⌜ (r ≡ pick neg (2 ^ 31) 0) × (r ≤ 2 ^ 31) ⌝ }
+{
+    if neg { 0x8000_0000 } else { 0 }
+}
+
+// By how many hexadecimal digits a fraction of 24 bits is moved up so that its first digit isn't 0.
+fn digits(f: u32) -> u32
+    requires { ⌜ (0 < f) × (f < 2 ^ 24) ⌝ }
+    ensures { λ r. ⌜ (r < 6) × (2 ^ 20 ≤ f * 2 ^ (r * 4)) × (f * 2 ^ (r * 4) < 2 ^ 24) ⌝ }
+{
+    (u32::leading_zeros(f) - 8) / 4
+}
+
+// Shifts up that lose nothing.
+fn shifted_wide(a: u32, s: u32) -> u64
+    requires { ⌜ s ≤ 32 ⌝ }
+    ensures { λ r. ⌜ r ≡ a * 2 ^ s ⌝ }
+{
+    (a as u64) << s
+}
+
+fn shifted_up(a: u32, s: u32) -> u32
+    requires { ⌜ (s < 32) × (a * 2 ^ s < 2 ^ 32) ⌝ }
+    ensures { λ r. ⌜ r ≡ a * 2 ^ s ⌝ }
+{
+    a << s
+}
+
+// The normal word of V = ± o × 2^k, for an odd o: of the largest characteristic, whose fraction is the least, and then up by digits as
+// far as the characteristic allows.
+fn ibm_of(neg: bool, o: u32, k: u32) -> Written
+    requires { ⌜ (o % 2 ≡ 1) × (o < 2 ^ 31) × (k ≤ denominatorPower + highestExponent) ⌝ }
+    ensures { λ r. ⌜ r ≡ ibmWord (signMagnitude neg (o * 2 ^ k)) ⌝ }
+{
+    let top = lesser(k / 4, 127);
+    let wide = shifted_wide(o, k - top * 4);
+    if 0x100_0000 <= wide {
+        return Written::Refused { number: 14 };
+    }
+    let f = wide as u32;
+    let d = lesser(digits(f), top);
+    let bits = sign_bit(neg) + (top - d) * 0x100_0000 + shifted_up(f, d * 4);
+    Written::Word { bits }
+}
+
+// One more than the largest magnitude of a number of 32 and of 16 bits in two's complement.
+fn limit32(neg: bool) -> u64
+    ensures { λ r. ⌜ (r ≡ 2 ^ 31 + pick neg 1 0) × (r ≤ 2 ^ 32) ⌝ }
+{
+    if neg { 0x8000_0001 } else { 0x8000_0000 }
+}
+
+fn limit16(neg: bool) -> u64
+    ensures { λ r. ⌜ (r ≡ 2 ^ 15 + pick neg 1 0) × (r ≤ 2 ^ 16) ⌝ }
+{
+    if neg { 0x8001 } else { 0x8000 }
+}
+
+// The bits of a number of 32 and of 16 bits, given by sign and magnitude.
+fn complement32(neg: bool, q: u32) -> u32
+    requires { ⌜ (0 < q) × (q < 2 ^ 31 + pick neg 1 0) ⌝ }
+    ensures { λ r. ⌜ r ≡ bitsOf 32 (signMagnitude neg q) ⌝ }
+{
+    if neg {
+        std::num::wrapping_sub_u32(0, q)
+    } else {
+        q
+    }
+}
+
+fn complement16(neg: bool, q: u32) -> u32
+    requires { ⌜ (0 < q) × (q < 2 ^ 15 + pick neg 1 0) ⌝ }
+    ensures { λ r. ⌜ (r ≡ bitsOf 16 (signMagnitude neg q)) × (r < 2 ^ 16) ⌝ }
+{
+    if neg { 0x1_0000 - q } else { q }
+}
+
+// V = ± o × 2^k under code 2, for an odd o.
+fn whole32_of(neg: bool, o: u32, k: u32) -> Written
+    requires { ⌜ (o % 2 ≡ 1) × (o < 2 ^ 31) × (k ≤ denominatorPower + highestExponent) ⌝ }
+    ensures { λ r. ⌜ r ≡ wholeWord 32 1 (signMagnitude neg (o * 2 ^ k)) ⌝ }
+{
+    if k < DENOMINATOR_POWER {
+        return Written::Refused { number: 14 };
+    }
+    let q = shifted_wide(o, lesser(k - DENOMINATOR_POWER, 32));
+    if limit32(neg) <= q {
+        return Written::Refused { number: 14 };
+    }
+    let bits = complement32(neg, q as u32);
+    Written::Word { bits }
+}
+
+// The same under code 3, in the word's first two bytes.
+fn whole16_of(neg: bool, o: u32, k: u32) -> Written
+    requires { ⌜ (o % 2 ≡ 1) × (o < 2 ^ 31) × (k ≤ denominatorPower + highestExponent) ⌝ }
+    ensures { λ r. ⌜ r ≡ wholeWord 16 (2 ^ 16) (signMagnitude neg (o * 2 ^ k)) ⌝ }
+{
+    if k < DENOMINATOR_POWER {
+        return Written::Refused { number: 14 };
+    }
+    let q = shifted_wide(o, lesser(k - DENOMINATOR_POWER, 32));
+    if limit16(neg) <= q {
+        return Written::Refused { number: 14 };
+    }
+    let bits = complement16(neg, q as u32) * 0x1_0000;
+    Written::Word { bits }
+}
+
+// The same under code 4, with the smallest gain.
+fn gain_of(neg: bool, o: u32, k: u32) -> Written
+    requires { ⌜ (o % 2 ≡ 1) × (o < 2 ^ 31) × (k ≤ denominatorPower + highestExponent) ⌝ }
+    ensures { λ r. ⌜ r ≡ gainWord (signMagnitude neg (o * 2 ^ k)) ⌝ }
+{
+    let g = DENOMINATOR_POWER - lesser(k, DENOMINATOR_POWER);
+    if 256 <= g {
+        return Written::Refused { number: 14 };
+    }
+    let q = shifted_wide(o, lesser(k + g - DENOMINATOR_POWER, 32));
+    if limit16(neg) <= q {
+        return Written::Refused { number: 14 };
+    }
+    let bits = g * 0x1_0000 + complement16(neg, q as u32);
+    Written::Word { bits }
+}
+
+// e + 280 as 16 bits: at most 531 for every e of a canonical pair, and for no other e.
+fn shift(e: i16) -> u32
+    ensures { λ r. ⌜ r ≡ (bitsOf 16 e + denominatorPower) % 2 ^ 16 ⌝ }
+{
+    std::num::wrapping_add_u16(numbers::bits16(e), DENOMINATOR_POWER as u16) as u32
+}
+
+// A pair taken apart: not canonical, zero, or V = ± o × 2^k with an odd o.
+enum Parts {
+    NotCanonical,
+    Zero,
+    Odd { neg: bool, o: u32, k: u32 },
+}
+
+impl Pair {
+    fn parts(self) -> Parts
+        ensures { λ r. ⌜ PartsOf self r ⌝ }
+    {
+        let bits = numbers::bits32(self.m);
+        let o = magnitude32(bits);
+        if o == 0 {
+            if numbers::bits16(self.e) == 0 {
+                return Parts::Zero;
+            }
+            return Parts::NotCanonical;
+        }
+        let k = shift(self.e);
+        if o % 2 == 0 {
+            return Parts::NotCanonical;
+        }
+        if HIGHEST_SHIFT < k {
+            return Parts::NotCanonical;
+        }
+        Parts::Odd {
+            neg: 0x8000_0000 <= bits,
+            o,
+            k,
+        }
+    }
+
+    // Whether the pair is canonical.
+    pub fn is_canonical(self) -> bool
+        ensures { λ r. ⌜ r ≡ isCanonical self ⌝ }
+    {
+        match self.parts() {
+            Parts::NotCanonical => false,
+            Parts::Zero => true,
+            Parts::Odd { neg: _, o: _, k: _ } => true,
+        }
+    }
+
+    // The normal word under code 1.
+    pub fn ibm_word(self) -> Written
+        ensures { λ r. ⌜ r ≡ writePair 1 self ⌝ }
+    {
+        match self.parts() {
+            Parts::NotCanonical => Written::Refused { number: 13 },
+            Parts::Zero => Written::Word { bits: 0 },
+            Parts::Odd { neg, o, k } => ibm_of(neg, o, k),
+        }
+    }
+
+    // The number itself under code 2.
+    pub fn whole32_word(self) -> Written
+        ensures { λ r. ⌜ r ≡ writePair 2 self ⌝ }
+    {
+        match self.parts() {
+            Parts::NotCanonical => Written::Refused { number: 13 },
+            Parts::Zero => Written::Word { bits: 0 },
+            Parts::Odd { neg, o, k } => whole32_of(neg, o, k),
+        }
+    }
+
+    // The number itself under code 3, in the word's first two bytes.
+    pub fn whole16_word(self) -> Written
+        ensures { λ r. ⌜ r ≡ writePair 3 self ⌝ }
+    {
+        match self.parts() {
+            Parts::NotCanonical => Written::Refused { number: 13 },
+            Parts::Zero => Written::Word { bits: 0 },
+            Parts::Odd { neg, o, k } => whole16_of(neg, o, k),
+        }
+    }
+
+    // The word of the smallest gain under code 4.
+    pub fn gain_word(self) -> Written
+        ensures { λ r. ⌜ r ≡ writePair 4 self ⌝ }
+    {
+        match self.parts() {
+            Parts::NotCanonical => Written::Refused { number: 13 },
+            Parts::Zero => Written::Word { bits: 0 },
+            Parts::Odd { neg, o, k } => gain_of(neg, o, k),
+        }
+    }
+}
+
+// The word of a pair under a code.
+pub fn write(code: u32, p: Pair) -> Written
+    ensures { λ r. ⌜ r ≡ writePair code p ⌝ }
+{
+    match code {
+        1 => p.ibm_word(),
+        2 => p.whole32_word(),
+        3 => p.whole16_word(),
+        4 => p.gain_word(),
+        _ => Written::Refused { number: 11 },
+    }
+}
+
+// The pair of six bytes.
+fn pair_in(b: [u8; 6]) -> Pair
+    ensures { λ r. ⌜ r ≡ pairIn b ⌝ }
+{
+    Pair {
+        e: numbers::signed16(numbers::be16(b[0], b[1])),
+        m: numbers::signed32(numbers::be32(b[2], b[3], b[4], b[5])),
+    }
+}
+
+// One sample, from its pair to its word.
+pub fn write_pair(code: u32, pair: [u8; 6]) -> PairWritten
+    ensures { λ r. ⌜ pairWritten r ≡ writeOutcome code pair ⌝ }
+{
+    match write(code, pair_in(pair)) {
+        Written::Word { bits } => PairWritten {
+            answer: Answer::Taken,
+            word: numbers::bytes32(bits),
+        },
+        Written::Refused { number } => PairWritten {
+            answer: Answer::Refused {
+                number,
+                place: Place(0),
+            },
+            word: [0; 4],
+        },
+    }
+}

@@ -1,0 +1,486 @@
+"""Test vectors for single samples, worked out from document 01 alone.
+
+Run from the root of the repository:  python3 tools/vectors/samples.py
+It rewrites crates/sample_vectors/stdin and crates/sample_vectors/stdout.
+
+The rules are written here as literally as possible, by whole numbers and by
+trying every case, so that they share nothing with the code they test.
+
+A line of stdin is 24 bytes, a line of stdout 34, line feed included:
+    r CODE(8 hex) WORD(8 hex)----        read a word
+    w CODE(8 hex) PAIR(12 hex)           write a pair
+    NUMBER(3 decimal) PLACE(16 hex) PAIR(12 hex), or WORD(8 hex)----
+"""
+
+from collections import Counter
+from pathlib import Path
+
+FOLDER = Path(__file__).resolve().parents[2] / "crates" / "sample_vectors"
+
+# ---------------------------------------------------------------- the rules
+
+SCALE = 16 ** 70  # the value of a sample is V / SCALE
+
+
+def signed(some_bytes):
+    return int.from_bytes(some_bytes, "big", signed=True)
+
+
+def v_of_word(code, word):
+    """V of a word. The code is 1 to 4, and a gain word begins with 00."""
+    if code == 1:
+        bits = int.from_bytes(word, "big")
+        s = bits // 2 ** 31
+        c = bits // 2 ** 24 % 128
+        f = bits % 2 ** 24
+        v = f * 16 ** c
+        return -v if s == 1 else v
+    if code == 2:
+        return signed(word) * SCALE
+    if code == 3:
+        return signed(word[0:2]) * SCALE
+    if code == 4:
+        g = word[1]
+        d = signed(word[2:4])
+        return d * 2 ** (280 - g)
+
+
+def is_canonical(e, m):
+    if m == 0:
+        return e == 0
+    return m % 2 == 1 and -280 <= e <= 251 and abs(m) <= 2 ** 31 - 1
+
+
+def pair_of_v(v):
+    """The canonical pair of V, found by trying every exponent."""
+    if v == 0:
+        return 0, 0
+    found = []
+    for e in range(-280, 252):
+        # m * 2^e = V / 2^280
+        m, rest = divmod(v, 2 ** (e + 280))
+        if rest == 0 and is_canonical(e, m):
+            found.append((e, m))
+    assert len(found) == 1, "a word's value has one canonical pair"
+    return found[0]
+
+
+def v_of_pair(e, m):
+    return m * 2 ** (e + 280)
+
+
+def word_of_v(code, v):
+    """The word for V under a code from 1 to 4, or None if V doesn't fit."""
+    if code == 1:
+        if v == 0:
+            return bytes(4)
+        any_at_all = False
+        normal = []
+        for c in range(128):
+            f, rest = divmod(abs(v), 16 ** c)
+            if rest == 0 and f < 2 ** 24:
+                any_at_all = True
+                first_digit = f // 16 ** 5
+                if first_digit != 0 or c == 0:
+                    normal.append((c, f))
+        assert len(normal) == (1 if any_at_all else 0)
+        if not normal:
+            return None
+        c, f = normal[0]
+        s = 1 if v < 0 else 0
+        return (s * 2 ** 31 + c * 2 ** 24 + f).to_bytes(4, "big")
+    if code == 2:
+        n, rest = divmod(v, SCALE)
+        if rest != 0 or not -(2 ** 31) <= n <= 2 ** 31 - 1:
+            return None
+        return n.to_bytes(4, "big", signed=True)
+    if code == 3:
+        n, rest = divmod(v, SCALE)
+        if rest != 0 or not -(2 ** 15) <= n <= 2 ** 15 - 1:
+            return None
+        return n.to_bytes(2, "big", signed=True) + bytes(2)
+    if code == 4:
+        for g in range(256):
+            d, rest = divmod(v, 2 ** (280 - g))
+            if rest == 0 and -(2 ** 15) <= d <= 2 ** 15 - 1:
+                return bytes([0, g]) + d.to_bytes(2, "big", signed=True)
+        return None
+
+
+def pair_bytes(e, m):
+    return e.to_bytes(2, "big", signed=True) + m.to_bytes(4, "big", signed=True)
+
+
+def read(code, word):
+    """Number and six bytes for a single word."""
+    if code not in (1, 2, 3, 4):
+        return 2, bytes(6)
+    if code == 4 and word[0] != 0:
+        return 9, bytes(6)
+    return 0, pair_bytes(*pair_of_v(v_of_word(code, word)))
+
+
+def write(code, pair):
+    """Number and four bytes for a single pair."""
+    if code not in (1, 2, 3, 4):
+        return 11, bytes(4)
+    e, m = signed(pair[0:2]), signed(pair[2:6])
+    if not is_canonical(e, m):
+        return 13, bytes(4)
+    word = word_of_v(code, v_of_pair(e, m))
+    if word is None:
+        return 14, bytes(4)
+    return 0, word
+
+
+# ------------------------------------------------- the paper's own examples
+
+# (code, word, e, m)
+EDGES_READ = [
+    (1, "41100000", 0, 1),
+    (1, "42010000", 0, 1),
+    (1, "C276A000", -3, -949),
+    (1, "80000000", 0, 0),
+    (1, "7F000000", 0, 0),
+    (1, "00000001", -280, 1),
+    (1, "7F800000", 251, 1),
+    (1, "7FFFFFFF", 228, 16777215),
+    (2, "80000000", 31, -1),
+    (4, "00010002", 0, 1),
+]
+
+# (code, e, m, number, word), the value in the remark
+EDGES_WRITE = [
+    (4, 0, 1, 0, "00000001"),
+    (1, 0, 16777215, 0, "46FFFFFF"),
+    (1, 0, 16777217, 14, "00000000"),
+    (1, 4, 2097151, 0, "471FFFFF"),  # 33,554,416
+    (1, 1, 16777215, 14, "00000000"),  # 33,554,430
+    (4, 15, -1, 0, "00008000"),  # -32,768
+    (4, 15, 1, 14, "00000000"),  # 32,768
+    (4, -255, 1, 0, "00FF0001"),
+    (4, -256, 1, 14, "00000000"),
+]
+
+
+def check_edges():
+    for code, word, e, m in EDGES_READ:
+        assert read(code, bytes.fromhex(word)) == (0, pair_bytes(e, m)), word
+    for code, e, m, number, word in EDGES_WRITE:
+        got = write(code, pair_bytes(e, m))
+        assert got == (number, bytes.fromhex(word)), (code, e, m)
+    assert pair_bytes(-3, -949) == bytes.fromhex("FFFDFFFFFC4B")
+    assert v_of_pair(4, 2097151) == 33554416 * SCALE
+    assert v_of_pair(1, 16777215) == 33554430 * SCALE
+    assert v_of_pair(15, -1) == -32768 * SCALE
+
+
+# -------------------------------------------------------------- the vectors
+
+
+class Numbers:
+    """The same row of numbers under every Python."""
+
+    def __init__(self, seed):
+        self.state = seed
+
+    def bits(self, count):
+        value = 0
+        for _ in range(count):
+            self.state = (self.state * 6364136223846793005 + 1442695040888963407) % 2 ** 64
+            value = value * 2 + self.state // 2 ** 63
+        return value
+
+    def between(self, low, high):
+        return low + self.bits(64) % (high - low + 1)
+
+
+BAD_CODES = [0, 5, 6, 8, 255, 256, 257, 65537, 0x80000000, 0xFFFFFFFF]
+
+# a good code in some of the bytes, or in another order
+MORE_BAD_CODES = [
+    258, 259, 260, 65540, 0x00040000, 0x01000000, 0x02000000, 0x03000000,
+    0x04000000, 0x01000001, 0x7FFFFFFF, 0x80000001, 0x80000004, 0xFFFFFFFC,
+]
+
+
+class Vectors:
+    def __init__(self):
+        self.lines = {}  # line in, line out; each once, in order
+        self.kinds = Counter()
+        self.taken = 0
+
+    def put(self, line, answer, kind):
+        if line not in self.lines:
+            self.lines[line] = answer
+            self.kinds[kind] += 1
+
+    def w(self, code, pair):
+        number, word = write(code, pair)
+        self.put(
+            f"w {code:08x} {pair.hex()}",
+            f"{number:03d} {0:016x} {word.hex()}----",
+            f"write, {'taken' if number == 0 else 'number %d' % number}"
+            + (f", code {code}" if code in (1, 2, 3, 4) else ""),
+        )
+
+    def w_all(self, pair):
+        for code in (1, 2, 3, 4):
+            self.w(code, pair)
+
+    def pair(self, code, e, m):
+        self.w(code, pair_bytes(e, m))
+
+    def pair_all(self, e, m):
+        self.w_all(pair_bytes(e, m))
+
+    def r(self, code, word):
+        """A word read; if taken its pair is written back, now and then by all codes."""
+        number, pair = read(code, word)
+        self.put(
+            f"r {code:08x} {word.hex()}----",
+            f"{number:03d} {0:016x} {pair.hex()}",
+            f"read, {'taken' if number == 0 else 'number %d' % number}"
+            + (f", code {code}" if code in (1, 2, 3, 4) else ""),
+        )
+        if number == 0:
+            self.w(code, pair)
+            self.taken += 1
+            if self.taken % 24 == 0:
+                self.w_all(pair)
+
+    def ibm(self, s, c, f):
+        self.r(1, (s * 2 ** 31 + c * 2 ** 24 + f).to_bytes(4, "big"))
+
+    def whole32(self, n):
+        self.r(2, n.to_bytes(4, "big", signed=True))
+
+    def whole16(self, n, tail):
+        self.r(3, n.to_bytes(2, "big", signed=True) + tail.to_bytes(2, "big"))
+
+    def gain(self, g, d, first=0):
+        self.r(4, bytes([first, g]) + d.to_bytes(2, "big", signed=True))
+
+
+def near_powers(bits):
+    """0, every power of two of a two's complement number and its neighbours."""
+    numbers = []
+    for k in range(bits):
+        for sign in (1, -1):
+            for step in (-1, 0, 1):
+                n = sign * (2 ** k + step)
+                if -(2 ** (bits - 1)) <= n <= 2 ** (bits - 1) - 1:
+                    numbers.append(n)
+    return sorted(set(numbers))
+
+
+def edges(x, rnd):
+    for code, word, e, m in EDGES_READ:
+        x.r(code, bytes.fromhex(word))
+        x.pair_all(e, m)
+        x.pair_all(e, -m)
+    for code, e, m, _, _ in EDGES_WRITE:
+        x.pair(code, e, m)
+        x.pair_all(e, m)
+        x.pair_all(e, -m)
+    for word in ("46ffffff", "471fffff", "c6ffffff", "c71fffff"):
+        x.r(1, bytes.fromhex(word))
+    for word in ("00000001", "00008000", "00ff0001", "00010002"):
+        x.r(4, bytes.fromhex(word))
+
+
+def ibm_words(x, rnd):
+    # every characteristic: zero, smallest, smallest normal and largest fraction
+    for c in range(128):
+        for s in (0, 1):
+            for f in (0x000000, 0x000001, 0x100000, 0xFFFFFF):
+                x.ibm(s, c, f)
+    # 1 to 5 leading zero digits; C about as large as their count, and far from it
+    for zeros in range(1, 6):
+        low, high = 16 ** (5 - zeros), 16 ** (6 - zeros) - 1
+        for c in (0, 1, 2, 3, 4, 5, 6, 64, 70, 126, 127):
+            for f in (low, high, rnd.between(low, high)):
+                x.ibm(rnd.bits(1), c, f)
+    # every single bit of the fraction
+    for k in range(24):
+        for c in (0, 5, 70, 127):
+            x.ibm(rnd.bits(1), c, 2 ** k)
+    # every first digit
+    for digit in range(16):
+        for c in (0, 1, 70, 127):
+            x.ibm(rnd.bits(1), c, digit * 16 ** 5 + rnd.bits(20))
+    # any normal words, any words, and words of few set bits
+    for _ in range(120):
+        x.ibm(rnd.bits(1), rnd.bits(7), rnd.between(0x100000, 0xFFFFFF))
+    for _ in range(60):
+        x.ibm(rnd.bits(1), rnd.bits(7), rnd.bits(24) // 2 ** rnd.between(1, 23))
+    for _ in range(60):
+        x.ibm(rnd.bits(1), rnd.bits(7), rnd.bits(24) // 2 ** 12 * 2 ** rnd.between(0, 12))
+
+
+def whole_words(x, rnd):
+    for n in near_powers(32):
+        x.whole32(n)
+    for _ in range(80):
+        x.whole32(rnd.bits(32) - 2 ** 31)
+    for _ in range(60):
+        k = rnd.between(0, 31)
+        x.whole32((rnd.bits(32) - 2 ** 31) // 2 ** k * 2 ** rnd.between(0, k))
+    # the last two bytes of a code 3 word are ignored
+    for n in near_powers(16):
+        x.whole16(n, 0x0000)
+        x.whole16(n, rnd.between(1, 0xFFFF))
+    for n in (0, 1, -1, 2, 256, -256, 32767, -32768):
+        for tail in (0x0001, 0x0080, 0x0100, 0x7FFF, 0x8000, 0xFFFF):
+            x.whole16(n, tail)
+    for _ in range(80):
+        x.whole16(rnd.bits(16) - 2 ** 15, rnd.bits(16))
+
+
+def gain_words(x, rnd):
+    for g in range(256):
+        x.gain(g, (rnd.bits(15) - 2 ** 14) * 2)
+        x.gain(g, (rnd.bits(15) - 2 ** 14) * 2 + 1)
+    for g in (0, 1, 2, 14, 15, 16, 128, 254, 255):
+        for d in (0, 1, -1, 2, -2, 16384, -16384, 32766, 32767, -32767, -32768):
+            x.gain(g, d)
+    # a first byte that isn't 00, whatever follows
+    for first in (0x01, 0x02, 0x04, 0x08, 0x10, 0x20, 0x40, 0x80, 0x7F, 0xFE, 0xFF):
+        for g, d in ((0, 0), (0, 1), (1, 2), (255, -32768), (rnd.bits(8), rnd.bits(15))):
+            x.gain(g, d, first)
+
+
+def bad_codes(x, rnd):
+    words = ["00000000", "41100000", "00010002", "01000001", "80ff8000", "ffffffff"]
+    pairs = [
+        (0, 0), (0, 1), (-3, -949),  # canonical
+        (0, 2), (1, 0), (0, -(2 ** 31)), (252, 1), (-281, 1),  # not canonical
+        (251, 2 ** 31 - 1), (-280, -(2 ** 31 - 1)),  # fit nothing
+        (32767, 2), (-32768, -(2 ** 31)),  # wrong twice over
+    ]
+    for code in BAD_CODES:
+        for word in words:
+            x.r(code, bytes.fromhex(word))
+        for e, m in pairs:
+            x.pair(code, e, m)
+    for code in MORE_BAD_CODES:
+        x.r(code, bytes.fromhex("00000001"))
+        x.r(code, bytes.fromhex("01000001"))
+        x.pair(code, 0, 1)
+        x.pair(code, 1, 0)
+    for _ in range(40):
+        code = rnd.bits(32)
+        if code > 4:
+            x.r(code, rnd.bits(32).to_bytes(4, "big"))
+            x.w(code, rnd.bits(48).to_bytes(6, "big"))
+
+
+def not_canonical(x, rnd):
+    some_e = (-280, -4, -1, 0, 1, 31, 251)
+    beyond = (-32768, -32767, -536, -512, -282, -281, 252, 253, 256, 512, 32766, 32767)
+    # m even
+    for e in some_e:
+        for m in (2, -(2 ** 31)):
+            x.pair_all(e, m)
+        for m in (-2, 6, 2 ** 16, 2 ** 30, -(2 ** 31) + 2, 2 ** 31 - 2):
+            x.pair(rnd.between(1, 4), e, m)
+    # m 0 and e not 0
+    for e in some_e + beyond:
+        x.pair_all(e, 0)
+    # e out of range, m odd or even
+    for e in beyond:
+        x.pair_all(e, 1)
+        for m in (-1, 2, 2 ** 31 - 1, -(2 ** 31)):
+            x.pair(rnd.between(1, 4), e, m)
+    for _ in range(30):
+        x.pair(rnd.between(1, 4), rnd.between(-280, 251), (rnd.bits(31) - 2 ** 30) * 2)
+        x.pair(rnd.between(1, 4), rnd.between(252, 32767), rnd.bits(31))
+        x.pair(rnd.between(1, 4), rnd.between(-32768, -281), -rnd.bits(31))
+        x.w(rnd.between(1, 4), rnd.bits(48).to_bytes(6, "big"))
+
+
+def canonical(x, rnd):
+    def both(code, e, m):
+        x.pair(code, e, m)
+        x.pair(code, e, -m)
+
+    def odd(bits):
+        """An odd number of just so many bits."""
+        return (2 ** (bits - 1) + rnd.bits(bits - 1)) | 1 if bits > 1 else 1
+
+    # code 1: mantissas of every length at each of the four alignments
+    for bits in range(1, 32):
+        for e in (-2, -1, 0, 1):
+            x.pair(1, e, 2 ** bits - 1)
+            x.pair(1, e, -(2 ** (bits - 1) | 1))
+    # the low end: C is 0, or just above; 20 to 26 bits
+    for e in range(-280, -250):
+        for m in (1, 2 ** 20 - 1, 2 ** 23 + 1, 2 ** 24 - 1, 2 ** 24 + 1):
+            x.pair(1, e, m if e % 2 == 0 else -m)
+        for bits in (-256 - e, -255 - e):  # F takes 24 bits or 25 with C = 0
+            if 1 <= bits <= 31:
+                both(1, e, odd(bits))
+    # the high end: C is 127 and F takes 24 bits or 25
+    for e in range(220, 252):
+        for bits in (252 - e, 253 - e):
+            if 1 <= bits <= 31:
+                x.pair(1, e, 2 ** bits - 1)
+                x.pair(1, e, -odd(bits))
+        x.pair(1, e, 1)
+        x.pair(1, e, 2 ** 24 - 1)
+    for e in (-280, 251):
+        for m in (1, 3, 15, 17, 2 ** 24 - 1, 2 ** 24 + 1, 2 ** 31 - 1):
+            x.pair_all(e, m)
+            both(1, e, m)
+    # whole numbers at the edge of 16 and 32 bits
+    for e in range(0, 34):
+        for edge, codes in ((15, (3, 4)), (31, (2,))):
+            for code in codes:
+                for bits in (edge - e, edge + 1 - e):  # just fits, just doesn't
+                    if 1 <= bits <= 31:
+                        both(code, e, 2 ** bits - 1)
+                        x.pair(code, e, 2 ** (bits - 1) | 1)
+        for code in (2, 3, 4):
+            both(code, e, 1)
+    for m in (32767, 32769, 65535, 65537, 2 ** 24 + 1, 2 ** 31 - 1):
+        for e in (0, 1, -1):
+            x.pair_all(e, m)
+            x.pair_all(e, -m)
+    # not whole, or far too large
+    for e in (-1, -2, -4, -32, -280, 16, 32, 64, 128, 251):
+        for code in (2, 3, 4):
+            both(code, e, 1)
+            x.pair(code, e, odd(rnd.between(2, 31)))
+    # code 4: the smallest and largest gain, and one beyond
+    for e in (1, 0, -1, -2, -14, -15, -16, -128, -254, -255, -256, -257, -279, -280):
+        for m in (1, 3, 16383, 32765, 32767, 32769):
+            both(4, e, m)
+    # any
+    for _ in range(50):
+        x.pair_all(rnd.between(-280, 251), odd(rnd.between(1, 31)) * (1 - 2 * rnd.bits(1)))
+    for _ in range(40):
+        x.pair_all(rnd.between(-16, 32), odd(rnd.between(1, 31)) * (1 - 2 * rnd.bits(1)))
+    for _ in range(60):
+        x.pair(4, rnd.between(-258, 2), odd(rnd.between(12, 16)) * (1 - 2 * rnd.bits(1)))
+
+
+def main():
+    check_edges()
+    x = Vectors()
+    for seed, part in enumerate(
+        (edges, ibm_words, whole_words, gain_words, bad_codes, not_canonical, canonical)
+    ):
+        part(x, Numbers(1975 + seed))
+    assert all(len(line) == 23 for line in x.lines)
+    assert all(len(line) == 33 for line in x.lines.values())
+    text_in = "".join(line + "\n" for line in x.lines)
+    text_out = "".join(line + "\n" for line in x.lines.values())
+    (FOLDER / "stdin").write_bytes(text_in.encode("ascii"))
+    (FOLDER / "stdout").write_bytes(text_out.encode("ascii"))
+    for kind in sorted(x.kinds):
+        print(f"{x.kinds[kind]:5d}  {kind}")
+    print(f"{len(x.lines):5d}  lines")
+
+
+if __name__ == "__main__":
+    main()
