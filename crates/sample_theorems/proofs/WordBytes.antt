@@ -1,0 +1,46 @@
+-- The numbers in the bytes of a word. Assumes nothing.
+use mathlib.Core.Path.{_≡_, refl, sym, ap, _∙_}
+use mathlib.Core.List.{List, [], _∷_}
+use Prim.Native.Nat.{ℕ, zero, suc, _+_, _*_, _/_, _%_, _^_, _<_}
+use native.Mathlib.Nat.{zero-add, div-one}
+use native.Mathlib.Omega.{arith}
+use lib.ListN.{length, getD}
+use Rattle.numbers.specs.Walk.{bytesAt}
+use Rattle.numbers.specs.BigEndian.{number, bytesOf}
+use Rattle.numbers.proofs.WalkLaws.{all-at, size-bytes}
+use Rattle.numbers.proofs.ByteLaws.{Bytes, number-lt, number-bytes}
+
+-- each byte of a word is a byte, also past its end, where 0 is read
+pub byte-at : (w : List ℕ) → Bytes w → (i : ℕ) → getD w i 0 < 256
+byte-at [] h i = omega arith
+byte-at (b ∷ w) h zero = h .0
+byte-at (b ∷ w) h (suc i) = byte-at w (h .1) i
+
+pub bytes-at : (w : List ℕ) → Bytes w → (at k : ℕ) → Bytes (bytesAt w at k)
+unfolding bytesAt
+bytes-at w h at k = all-at (λ b. b < 256) (λ a. getD w a 0) (byte-at w h) 1 k at
+
+-- the number in k bytes of a word
+pub number-at : (w : List ℕ) → Bytes w → (at k : ℕ) → number (bytesAt w at k) < 256 ^ k
+number-at w h at k = rw (size-bytes w at k) at (number-lt (bytesAt w at k) (bytes-at w h at k))
+
+-- a word of 32 bits, by its bytes
+pub word-number : (n : ℕ) → n < 2 ^ 32 → number (bytesAt (bytesOf 4 n) 0 4) ≡ n
+unfolding bytesAt
+word-number n h = number-bytes 4 n h
+
+-- the first two bytes of a word
+pub first-half : (n : ℕ) → n < 2 ^ 16 → number (bytesAt (bytesOf 4 (n * 2 ^ 16)) 0 2) ≡ n
+unfolding bytesAt
+first-half n h = omega arith
+
+-- the bytes of a gain word
+pub gain-first : (g d : ℕ) → g < 256 → d < 2 ^ 16 → getD (bytesOf 4 (g * 2 ^ 16 + d)) 0 0 ≡ 0
+gain-first g d h l = omega arith
+
+pub gain-byte : (g d : ℕ) → g < 256 → d < 2 ^ 16 → getD (bytesOf 4 (g * 2 ^ 16 + d)) 1 0 ≡ g
+gain-byte g d h l = omega arith
+
+pub gain-half : (g d : ℕ) → g < 256 → d < 2 ^ 16 → number (bytesAt (bytesOf 4 (g * 2 ^ 16 + d)) 2 2) ≡ d
+unfolding bytesAt
+gain-half g d h l = rw div-one (omega arith)
