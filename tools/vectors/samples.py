@@ -1,7 +1,8 @@
 """Test vectors for single samples, worked out from document 01 alone.
 
-Run from the root of the repository:  python3 tools/vectors/samples.py
-It rewrites crates/sample_vectors/stdin and crates/sample_vectors/stdout.
+Run from the root of the repository:  python3 tools/vectors/samples.py [--check]
+It rewrites crates/sample_vectors/stdin and crates/sample_vectors/stdout; with
+--check it compares them with what it would write, and writes nothing.
 
 The rules are written here as literally as possible, by whole numbers and by
 trying every case, so that they share nothing with the code they test.
@@ -12,6 +13,7 @@ A line of stdin is 24 bytes, a line of stdout 34, line feed included:
     NUMBER(3 decimal) PLACE(16 hex) PAIR(12 hex), or WORD(8 hex)----
 """
 
+import sys
 from collections import Counter
 from pathlib import Path
 
@@ -475,8 +477,15 @@ def main():
     assert all(len(line) == 33 for line in x.lines.values())
     text_in = "".join(line + "\n" for line in x.lines)
     text_out = "".join(line + "\n" for line in x.lines.values())
-    (FOLDER / "stdin").write_bytes(text_in.encode("ascii"))
-    (FOLDER / "stdout").write_bytes(text_out.encode("ascii"))
+    files = {"stdin": text_in.encode("ascii"), "stdout": text_out.encode("ascii")}
+    if sys.argv[1:] == ["--check"]:
+        for name, content in files.items():
+            if (FOLDER / name).read_bytes() != content:
+                sys.exit(f"samples.py: {FOLDER.name}/{name} isn't what the rules give")
+        print(f"samples.py: {len(x.lines)} vectors are what the rules give")
+        return
+    for name, content in files.items():
+        (FOLDER / name).write_bytes(content)
     for kind in sorted(x.kinds):
         print(f"{x.kinds[kind]:5d}  {kind}")
     print(f"{len(x.lines):5d}  lines")

@@ -5,12 +5,13 @@ ghost use Prim.Native.Nat.{_+_, _-_, _*_, _/_, _%_, _^_, _<_, _≤_, min};
 ghost use lib.IntN.{pos, natAbs, subℕ};
 ghost use lib.Dec.{leb};
 ghost use Rattle.numbers.specs.Walk.{pick};
+ghost use Rattle.numbers.specs.Outcome.{refused};
 ghost use Rattle.numbers.specs.TwosComplement.{signedOf, bitsOf};
-ghost use Rattle.sample.specs.Value.{denominatorPower, signMagnitude, ibmValue, wholeValue, gainValue};
+ghost use Rattle.sample.specs.Value.{denominatorPower, signMagnitude, fraction, ibmValue, wholeValue, gainValue};
 ghost use Rattle.sample.specs.Pair.{highestExponent, isCanonical};
 ghost use Rattle.sample.specs.Reading.{taken, readGain, readWord};
 ghost use Rattle.sample.specs.Writing.{ibmWord, wholeWord, gainWord, writePair};
-ghost use Rattle.sample.specs.Calls.{pairBytes, pairIn, wordRead, pairWritten, readOutcome, writeOutcome};
+ghost use Rattle.sample.specs.Calls.{pairBytes, pairIn, saidBy, wordRead, pairWritten, readOutcome, writeOutcome};
 ghost use Rattle.sample.specs.Parts.{PartsOf};
 use numbers::Place;
 
@@ -56,6 +57,20 @@ const DENOMINATOR_POWER: u32 = 280;
 // e + DENOMINATOR_POWER of the largest e.
 const HIGHEST_SHIFT: u32 = 531;
 
+// Zero under every code.
+const ZERO_WORD: u32 = 0;
+
+// The numbers of the causes.
+const BAD_CODE: u8 = 2;
+
+const BAD_GAIN: u8 = 9;
+
+const BAD_TARGET: u8 = 11;
+
+const NOT_CANONICAL: u8 = 13;
+
+const UNFIT: u8 = 14;
+
 // ## Reading
 
 // A magnitude with its sign.
@@ -96,11 +111,18 @@ fn canonical(neg: bool, a: u32, k: u32) -> Sample
     Sample::Taken { e, m }
 }
 
-// Code 1: the pair of an IBM word, which is sign and magnitude.
+// The fraction of an IBM word, which is sign and magnitude.
+fn fraction_of(n: u32) -> u32
+    ensures { λ r. ⌜ (r ≡ fraction n) × (r < 2 ^ 24) ⌝ }
+{
+    n % 0x100_0000
+}
+
+// Code 1: the pair of an IBM word.
 pub fn ibm(n: u32) -> Sample
     ensures { λ r. ⌜ r ≡ taken (ibmValue n) ⌝ }
 {
-    canonical(0x8000_0000 <= n, n % 0x100_0000, n / 0x100_0000 % 128 * 4)
+    canonical(0x8000_0000 <= n, fraction_of(n), n / 0x100_0000 % 128 * 4)
 }
 
 // The magnitude of a two's complement word, by subtraction from zero.
@@ -143,7 +165,7 @@ pub fn gain(first: u8, g: u8, d: u16) -> Sample
     ensures { λ r. ⌜ r ≡ readGain first g d ⌝ }
 {
     if first != 0 {
-        return Sample::Refused { number: 9 };
+        return Sample::Refused { number: BAD_GAIN };
     }
     canonical(
         0x8000 <= d,
@@ -161,7 +183,7 @@ pub fn read(code: u32, word: [u8; 4]) -> Sample
         2 => whole32(numbers::be32(word[0], word[1], word[2], word[3])),
         3 => whole16(numbers::be16(word[0], word[1])),
         4 => gain(word[0], word[1], numbers::be16(word[2], word[3])),
-        _ => Sample::Refused { number: 2 },
+        _ => Sample::Refused { number: BAD_CODE },
     }
 }
 
@@ -174,6 +196,16 @@ fn pair_bytes(e: i16, m: i32) -> [u8; 6]
     [a[0], a[1], b[0], b[1], b[2], b[3]]
 }
 
+// The answer of a single-sample call that is refused: the place is 0.
+fn refusal(number: u8) -> Answer
+    ensures { λ r. ⌜ saidBy r ≡ refused number 0 ⌝ }
+{
+    Answer::Refused {
+        number,
+        place: Place(0),
+    }
+}
+
 // One sample, from its word to its canonical pair.
 pub fn read_word(code: u32, word: [u8; 4]) -> WordRead
     ensures { λ r. ⌜ wordRead r ≡ readOutcome code word ⌝ }
@@ -184,10 +216,7 @@ pub fn read_word(code: u32, word: [u8; 4]) -> WordRead
             pair: pair_bytes(e, m),
         },
         Sample::Refused { number } => WordRead {
-            answer: Answer::Refused {
-                number,
-                place: Place(0),
-            },
+            answer: refusal(number),
             pair: [0; 6],
         },
     }
@@ -239,7 +268,7 @@ fn ibm_of(neg: bool, o: u32, k: u32) -> Written
     let top = lesser(k / 4, 127);
     let wide = shifted_wide(o, k - top * 4);
     if 0x100_0000 <= wide {
-        return Written::Refused { number: 14 };
+        return Written::Refused { number: UNFIT };
     }
     let f = wide as u32;
     let d = lesser(digits(f), top);
@@ -285,11 +314,11 @@ fn whole32_of(neg: bool, o: u32, k: u32) -> Written
     ensures { λ r. ⌜ r ≡ wholeWord 32 1 (signMagnitude neg (o * 2 ^ k)) ⌝ }
 {
     if k < DENOMINATOR_POWER {
-        return Written::Refused { number: 14 };
+        return Written::Refused { number: UNFIT };
     }
     let q = shifted_wide(o, lesser(k - DENOMINATOR_POWER, 32));
     if limit32(neg) <= q {
-        return Written::Refused { number: 14 };
+        return Written::Refused { number: UNFIT };
     }
     let bits = complement32(neg, q as u32);
     Written::Word { bits }
@@ -301,11 +330,11 @@ fn whole16_of(neg: bool, o: u32, k: u32) -> Written
     ensures { λ r. ⌜ r ≡ wholeWord 16 (2 ^ 16) (signMagnitude neg (o * 2 ^ k)) ⌝ }
 {
     if k < DENOMINATOR_POWER {
-        return Written::Refused { number: 14 };
+        return Written::Refused { number: UNFIT };
     }
     let q = shifted_wide(o, lesser(k - DENOMINATOR_POWER, 32));
     if limit16(neg) <= q {
-        return Written::Refused { number: 14 };
+        return Written::Refused { number: UNFIT };
     }
     let bits = complement16(neg, q as u32) * 0x1_0000;
     Written::Word { bits }
@@ -318,11 +347,11 @@ fn gain_of(neg: bool, o: u32, k: u32) -> Written
 {
     let g = DENOMINATOR_POWER - lesser(k, DENOMINATOR_POWER);
     if 256 <= g {
-        return Written::Refused { number: 14 };
+        return Written::Refused { number: UNFIT };
     }
     let q = shifted_wide(o, lesser(k + g - DENOMINATOR_POWER, 32));
     if limit16(neg) <= q {
-        return Written::Refused { number: 14 };
+        return Written::Refused { number: UNFIT };
     }
     let bits = g * 0x1_0000 + complement16(neg, q as u32);
     Written::Word { bits }
@@ -384,8 +413,10 @@ impl Pair {
         ensures { λ r. ⌜ r ≡ writePair 1 self ⌝ }
     {
         match self.parts() {
-            Parts::NotCanonical => Written::Refused { number: 13 },
-            Parts::Zero => Written::Word { bits: 0 },
+            Parts::NotCanonical => Written::Refused {
+                number: NOT_CANONICAL,
+            },
+            Parts::Zero => Written::Word { bits: ZERO_WORD },
             Parts::Odd { neg, o, k } => ibm_of(neg, o, k),
         }
     }
@@ -395,8 +426,10 @@ impl Pair {
         ensures { λ r. ⌜ r ≡ writePair 2 self ⌝ }
     {
         match self.parts() {
-            Parts::NotCanonical => Written::Refused { number: 13 },
-            Parts::Zero => Written::Word { bits: 0 },
+            Parts::NotCanonical => Written::Refused {
+                number: NOT_CANONICAL,
+            },
+            Parts::Zero => Written::Word { bits: ZERO_WORD },
             Parts::Odd { neg, o, k } => whole32_of(neg, o, k),
         }
     }
@@ -406,8 +439,10 @@ impl Pair {
         ensures { λ r. ⌜ r ≡ writePair 3 self ⌝ }
     {
         match self.parts() {
-            Parts::NotCanonical => Written::Refused { number: 13 },
-            Parts::Zero => Written::Word { bits: 0 },
+            Parts::NotCanonical => Written::Refused {
+                number: NOT_CANONICAL,
+            },
+            Parts::Zero => Written::Word { bits: ZERO_WORD },
             Parts::Odd { neg, o, k } => whole16_of(neg, o, k),
         }
     }
@@ -417,8 +452,10 @@ impl Pair {
         ensures { λ r. ⌜ r ≡ writePair 4 self ⌝ }
     {
         match self.parts() {
-            Parts::NotCanonical => Written::Refused { number: 13 },
-            Parts::Zero => Written::Word { bits: 0 },
+            Parts::NotCanonical => Written::Refused {
+                number: NOT_CANONICAL,
+            },
+            Parts::Zero => Written::Word { bits: ZERO_WORD },
             Parts::Odd { neg, o, k } => gain_of(neg, o, k),
         }
     }
@@ -433,7 +470,7 @@ pub fn write(code: u32, p: Pair) -> Written
         2 => p.whole32_word(),
         3 => p.whole16_word(),
         4 => p.gain_word(),
-        _ => Written::Refused { number: 11 },
+        _ => Written::Refused { number: BAD_TARGET },
     }
 }
 
@@ -457,10 +494,7 @@ pub fn write_pair(code: u32, pair: [u8; 6]) -> PairWritten
             word: numbers::bytes32(bits),
         },
         Written::Refused { number } => PairWritten {
-            answer: Answer::Refused {
-                number,
-                place: Place(0),
-            },
+            answer: refusal(number),
             word: [0; 4],
         },
     }

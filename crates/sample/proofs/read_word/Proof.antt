@@ -19,6 +19,9 @@ pair-bytes-requires c κs = search needs
 enum-known-number : tie.Need-enum-known-number
 enum-known-number c = search needs
 
+refusal-requires : tie.Need-refusal-requires
+refusal-requires c κs = search needs
+
 returns : tie.Need-returns
 returns c =
     let x : SFits w16 (c .before .before .e .given .0 .0) = search needs in
@@ -26,9 +29,10 @@ returns c =
     rw (c .pair-bytes .ensures, toZ-ofZ x, toZ-ofZ y) (ap readSaid (sym (c .before .before .e .given .1) ∙ c .before .before .before .before .read .ensures))
 
 returns-2 : tie.Need-returns-2
-returns-2 c = ap readSaid (sym (c .before .number .given .1) ∙ c .before .before .before .read .ensures)
+returns-2 c =
+    rw (c .refusal .ensures) (ap readSaid (sym (c .before .before .number .given .1) ∙ c .before .before .before .before .read .ensures))
 
 pub read-word-spec : {M : Type 1} → statement M
 read-word-spec =
     tie.close
-    (tie.spec read-requires enum-known-e pair-bytes-requires enum-known-number returns returns-2)
+    (tie.spec read-requires enum-known-e pair-bytes-requires enum-known-number refusal-requires returns returns-2)

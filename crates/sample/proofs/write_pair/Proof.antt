@@ -20,6 +20,9 @@ bytes32-requires c κs = search needs
 enum-known-number : tie.Need-enum-known-number
 enum-known-number c = search needs
 
+refusal-requires : tie.Need-refusal-requires
+refusal-requires c κs = search needs
+
 returns : tie.Need-returns
 returns c =
     let w = c .before .before .before .before in
@@ -27,8 +30,8 @@ returns c =
 
 returns-2 : tie.Need-returns-2
 returns-2 c =
-    let w = c .before .before .before in
-    ap writeSaid (sym (c .before .number .given .1) ∙ w .write .ensures ∙ ap (writePair (w .before .before .args .code)) (w .before .pair-in .ensures))
+    let w = c .before .before .before .before in
+    rw (c .refusal .ensures) (ap writeSaid (sym (c .before .before .number .given .1) ∙ w .write .ensures ∙ ap (writePair (w .before .before .args .code)) (w .before .pair-in .ensures)))
 
 pub write-pair-spec : {M : Type 1} → statement M
 write-pair-spec =
@@ -39,5 +42,6 @@ write-pair-spec =
     enum-known-bits
     bytes32-requires
     enum-known-number
+    refusal-requires
     returns
     returns-2)
