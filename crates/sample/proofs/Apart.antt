@@ -94,7 +94,6 @@ module _ (p : Pair) where
     pub apart : natAbs (p .m) % 2 ≡ 1 → natAbs (p .m) ≤ 2 ^ 31 → k ≤ highest → (isCanonical p ≡ true) × Apart p (leb (2 ^ 31) n) (natAbs (p .m)) k
     apart o b l =
         let fits : n < 2 ^ 32 = rw bn (bits-lt 32 (p .m) (omega arith) fm) in
-        let small : natAbs (p .m) < 2 ^ 31 = omega arith in
         let range : isExponent (p .e) ≡ true = sym (shift-is (p .e) fe) ∙ rw (← bk) (le-leb k highest l) in
         let sign : p .m ≡ signMagnitude (leb (2 ^ 31) n) (natAbs (p .m)) =
         sym (is-mantissa n (p .m) fm bn) ∙ signed-word 32 n fits ∙ ap (λ (z : ℤ). signMagnitude (leb (2 ^ 31) n) (natAbs z)) (is-mantissa n (p .m) fm bn) in
@@ -102,7 +101,6 @@ module _ (p : Pair) where
           odd-yes o (omega arith) range,
           record {
             odd = o;
-            small = small;
             low = l;
             value =
                 rw power (ap (λ (z : ℤ). z *ℤ pos (2 ^ k)) sign ∙ signed-mul (leb (2 ^ 31) n) (natAbs (p .m)) (2 ^ k));

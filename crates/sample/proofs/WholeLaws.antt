@@ -1,6 +1,6 @@
 -- The words of ± o × 2 ^ k under codes 2, 3 and 4, for an odd o. Assumes nothing.
 use mathlib.Core.Path.{_≡_, refl, sym, ap, _∙_, subst}
-use mathlib.Core.Logic.{⊎-elim}
+use mathlib.Core.Logic.{_⊎_, inl, inr, ⊎-elim}
 use mathlib.Core.Bool.{Bool, true, false}
 use Prim.Native.Nat.{ℕ, zero, suc, _+_, _-_, _*_, _/_, _%_, _^_, _≤_, _<_, min}
 use native.Mathlib.Nat.{le-trans, mul-le-mul-left, mul-le-mul-right, le-of-eq}
@@ -32,12 +32,10 @@ cut-big o t q n h l = le-trans l (le-trans (le-of-eq h) (mul-le-mul-left o (pow-
 
 module _ (s : Bool) (o k : ℕ) (e : o % 2 ≡ 1) where
   module _ (w up : ℕ) where
-    -- a fraction, a number out of range, and a number that fits
-    pub whole-low : k < denominatorPower → wholeWord w up (signMagnitude s (o * 2 ^ k)) ≡ Refused 14
-    whole-low h = rw (holds-odd o k denominatorPower s w e h)
-
-    pub whole-big : denominatorPower ≤ k → 2 ^ (w - 1) + pick s 1 0 ≤ o * 2 ^ (k - denominatorPower) → wholeWord w up (signMagnitude s (o * 2 ^ k)) ≡ Refused 14
-    whole-big h l = rw (holds-big o k denominatorPower s w h l)
+    -- a fraction or a number out of range, and a number that fits
+    pub whole-beyond : (k < denominatorPower) ⊎ ((denominatorPower ≤ k) × (2 ^ (w - 1) + pick s 1 0 ≤ o * 2 ^ (k - denominatorPower))) → wholeWord w up (signMagnitude s (o * 2 ^ k)) ≡ Refused 14
+    whole-beyond (inl h) = rw (holds-odd o k denominatorPower s w e h)
+    whole-beyond (inr h) = rw (holds-big o k denominatorPower s w (h .0) (h .1))
 
     pub whole-word : (q : ℕ) → denominatorPower ≤ k → q ≡ o * 2 ^ (k - denominatorPower) → q < 2 ^ (w - 1) + pick s 1 0
         → wholeWord w up (signMagnitude s (o * 2 ^ k)) ≡ Word (bitsOf w (signMagnitude s q) * up)
@@ -53,13 +51,17 @@ module _ (s : Bool) (o k : ℕ) (e : o % 2 ≡ 1) where
       ap (gainAt (signMagnitude s (o * 2 ^ k))) (first-none (gainFits (signMagnitude s (o * 2 ^ k))) 256 0 (λ i z p. too-small i (omega arith)))
 
   module _ (g q : ℕ) (m : g ≡ denominatorPower - min k denominatorPower) (h : g < 256) where
-    pub gain-big : 2 ^ 15 + pick s 1 0 ≤ o * 2 ^ (k + g - denominatorPower) → gainWord (signMagnitude s (o * 2 ^ k)) ≡ Refused 14
-    gain-big l = ap (gainAt (signMagnitude s (o * 2 ^ k))) (first-none (gainFits (signMagnitude s (o * 2 ^ k))) 256 0 none)
+    pub gain-beyond : (k + g < denominatorPower) ⊎ ((denominatorPower ≤ k + g) × (2 ^ 15 + pick s 1 0 ≤ o * 2 ^ (k + g - denominatorPower))) → gainWord (signMagnitude s (o * 2 ^ k)) ≡ Refused 14
+    gain-beyond (inl l) = absurd (none l)
+      where
+        none : k + g < denominatorPower → ⊥
+        none l = omega arith
+    gain-beyond (inr l) = ap (gainAt (signMagnitude s (o * 2 ^ k))) (first-none (gainFits (signMagnitude s (o * 2 ^ k))) 256 0 none)
       where
         none : (i : ℕ) → 0 ≤ i → i < 0 + 256 → gainFits (signMagnitude s (o * 2 ^ k)) i ≡ false
         none i z p =
             ⊎-elim (λ (y : i < g). too-small i (omega arith))
-            (λ (y : g ≤ i). holds-big o k (denominatorPower - i) s 16 (omega arith) (le-trans l (mul-le-mul-left o (pow-mono (omega arith))))) (below-or i g)
+            (λ (y : g ≤ i). holds-big o k (denominatorPower - i) s 16 (omega arith) (le-trans (l .1) (mul-le-mul-left o (pow-mono (omega arith))))) (below-or i g)
 
     pub gain-word : q ≡ o * 2 ^ (k + g - denominatorPower) → q < 2 ^ 15 + pick s 1 0 → gainWord (signMagnitude s (o * 2 ^ k)) ≡ Word (g * 2 ^ 16 + bitsOf 16 (signMagnitude s q))
     gain-word i l =

@@ -12,7 +12,7 @@ ghost use Rattle.sample.specs.Pair.{highestExponent, isCanonical};
 ghost use Rattle.sample.specs.Reading.{taken, readGain, readWord};
 ghost use Rattle.sample.specs.Writing.{ibmWord, wholeWord, gainWord, writePair};
 ghost use Rattle.sample.specs.Calls.{pairBytes, pairIn, saidBy, wordRead, pairWritten, readOutcome, writeOutcome};
-ghost use Rattle.sample.specs.Parts.{PartsOf};
+ghost use Rattle.sample.specs.Parts.{PartsOf, WholeBelow};
 use numbers::Place;
 
 // A sample as exponent and mantissa: the value m × 2^e.
@@ -262,7 +262,7 @@ fn shifted_up(a: u32, s: u32) -> u32
 // The normal word of V = ± o × 2^k, for an odd o: of the largest characteristic, whose fraction is the least, and then up by digits as
 // far as the characteristic allows.
 fn ibm_of(neg: bool, o: u32, k: u32) -> Written
-    requires { ⌜ (o % 2 ≡ 1) × (o < 2 ^ 31) × (k ≤ denominatorPower + highestExponent) ⌝ }
+    requires { ⌜ (o % 2 ≡ 1) × (k ≤ denominatorPower + highestExponent) ⌝ }
     ensures { λ r. ⌜ r ≡ ibmWord (signMagnitude neg (o * 2 ^ k)) ⌝ }
 {
     let top = lesser(k / 4, 127);
@@ -308,53 +308,68 @@ fn complement16(neg: bool, q: u32) -> u32
     if neg { 0x1_0000 - q } else { q }
 }
 
-// V = ± o × 2^k under code 2, for an odd o.
-fn whole32_of(neg: bool, o: u32, k: u32) -> Written
-    requires { ⌜ (o % 2 ≡ 1) × (o < 2 ^ 31) × (k ≤ denominatorPower + highestExponent) ⌝ }
-    ensures { λ r. ⌜ r ≡ wholeWord 32 1 (signMagnitude neg (o * 2 ^ k)) ⌝ }
+// A whole number below a limit, or none.
+enum Whole {
+    Below { q: u32 },
+    Beyond,
+}
+
+// o × 2^(k - 280), for an odd o, where that is a whole number below a limit.
+fn whole_below(o: u32, k: u32, limit: u64) -> Whole
+    requires { ⌜ (o % 2 ≡ 1) × (limit ≤ 2 ^ 32) ⌝ }
+    ensures { λ r. ⌜ WholeBelow o k limit r ⌝ }
 {
     if k < DENOMINATOR_POWER {
-        return Written::Refused { number: UNFIT };
+        return Whole::Beyond;
     }
     let q = shifted_wide(o, lesser(k - DENOMINATOR_POWER, 32));
-    if limit32(neg) <= q {
-        return Written::Refused { number: UNFIT };
+    if limit <= q {
+        return Whole::Beyond;
     }
-    let bits = complement32(neg, q as u32);
-    Written::Word { bits }
+    Whole::Below { q: q as u32 }
+}
+
+// V = ± o × 2^k under code 2, for an odd o.
+fn whole32_of(neg: bool, o: u32, k: u32) -> Written
+    requires { ⌜ o % 2 ≡ 1 ⌝ }
+    ensures { λ r. ⌜ r ≡ wholeWord 32 1 (signMagnitude neg (o * 2 ^ k)) ⌝ }
+{
+    match whole_below(o, k, limit32(neg)) {
+        Whole::Below { q } => Written::Word {
+            bits: complement32(neg, q),
+        },
+        Whole::Beyond => Written::Refused { number: UNFIT },
+    }
 }
 
 // The same under code 3, in the word's first two bytes.
 fn whole16_of(neg: bool, o: u32, k: u32) -> Written
-    requires { ⌜ (o % 2 ≡ 1) × (o < 2 ^ 31) × (k ≤ denominatorPower + highestExponent) ⌝ }
+    requires { ⌜ o % 2 ≡ 1 ⌝ }
     ensures { λ r. ⌜ r ≡ wholeWord 16 (2 ^ 16) (signMagnitude neg (o * 2 ^ k)) ⌝ }
 {
-    if k < DENOMINATOR_POWER {
-        return Written::Refused { number: UNFIT };
+    match whole_below(o, k, limit16(neg)) {
+        Whole::Below { q } => Written::Word {
+            bits: complement16(neg, q) * 0x1_0000,
+        },
+        Whole::Beyond => Written::Refused { number: UNFIT },
     }
-    let q = shifted_wide(o, lesser(k - DENOMINATOR_POWER, 32));
-    if limit16(neg) <= q {
-        return Written::Refused { number: UNFIT };
-    }
-    let bits = complement16(neg, q as u32) * 0x1_0000;
-    Written::Word { bits }
 }
 
-// The same under code 4, with the smallest gain.
+// The same under code 4, with the smallest gain: the least g at which o × 2^(k + g - 280) is whole.
 fn gain_of(neg: bool, o: u32, k: u32) -> Written
-    requires { ⌜ (o % 2 ≡ 1) × (o < 2 ^ 31) × (k ≤ denominatorPower + highestExponent) ⌝ }
+    requires { ⌜ (o % 2 ≡ 1) × (k ≤ denominatorPower + highestExponent) ⌝ }
     ensures { λ r. ⌜ r ≡ gainWord (signMagnitude neg (o * 2 ^ k)) ⌝ }
 {
     let g = DENOMINATOR_POWER - lesser(k, DENOMINATOR_POWER);
     if 256 <= g {
         return Written::Refused { number: UNFIT };
     }
-    let q = shifted_wide(o, lesser(k + g - DENOMINATOR_POWER, 32));
-    if limit16(neg) <= q {
-        return Written::Refused { number: UNFIT };
+    match whole_below(o, k + g, limit16(neg)) {
+        Whole::Below { q } => Written::Word {
+            bits: g * 0x1_0000 + complement16(neg, q),
+        },
+        Whole::Beyond => Written::Refused { number: UNFIT },
     }
-    let bits = g * 0x1_0000 + complement16(neg, q as u32);
-    Written::Word { bits }
 }
 
 // e + 280 as 16 bits: at most 531 for every e of a canonical pair, and for no other e.

@@ -1,3 +1,4 @@
+-- `sample::canonical` meets its contract. Assumes nothing.
 use Rattle.sample.proofs.Pairs.{taken-zero, taken-at}
 use Rattle.sample.proofs.Twos.{trailing-lt, split}
 use mir.Facts.{toZ-ofZ}

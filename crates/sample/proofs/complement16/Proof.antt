@@ -1,3 +1,4 @@
+-- `sample::complement16` meets its contract. Assumes nothing.
 use Rattle.sample.proofs.Magnitudes.{bits-signed-neg}
 use native.Mathlib.Omega.{arith}
 use Rattle.sample.proofs.complement16.Statement.{statement}

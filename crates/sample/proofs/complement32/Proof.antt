@@ -1,3 +1,4 @@
+-- `sample::complement32` meets its contract. Assumes nothing.
 use Rattle.sample.proofs.Magnitudes.{bits-signed-neg}
 use native.Mathlib.Omega.{arith}
 use borrow.Author.Needs.{needs}

@@ -1,3 +1,4 @@
+-- `sample::digits` meets its contract. Assumes nothing.
 use Rattle.sample.proofs.IbmLaws.{normal}
 use lib.Count.{leadingZeros, leading-top}
 use Prim.Native.Nat.{_*_, _/_, _-_, _^_, _≤_, _<_}

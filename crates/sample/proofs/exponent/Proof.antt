@@ -1,3 +1,4 @@
+-- `sample::exponent` meets its contract. Assumes nothing.
 use Rattle.sample.proofs.Pairs.{sfits-sub}
 use Rattle.sample.specs.Value.{denominatorPower}
 use mir.Facts.{toZ-pos, toZ-ofZ}

@@ -1,3 +1,4 @@
+-- `sample::gain` meets its contract. Assumes nothing.
 use Rattle.sample.proofs.Magnitudes.{signed-mul, signed-word}
 use borrow.Author.Tests.{eq-eqb, ne-eqb}
 use lib.Dec.{leb}

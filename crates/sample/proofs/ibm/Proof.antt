@@ -1,3 +1,4 @@
+-- `sample::ibm` meets its contract. Assumes nothing.
 use Rattle.sample.proofs.Pairs.{sixteens}
 use Prim.Native.Nat.{_/_, _%_, _^_}
 use borrow.Author.Needs.{needs}

@@ -1,3 +1,4 @@
+-- `sample::ibm_of` meets its contract. Assumes nothing.
 use Rattle.sample.proofs.IbmLaws.{ibm-unfit, ibm-moved, moved-fits}
 use Rattle.sample.proofs.Twos.{odd-shl}
 use Prim.Native.Nat.{_-_, _*_, _^_, _≤_, _<_}

@@ -1,3 +1,4 @@
+-- `sample::limit16` meets its contract. Assumes nothing.
 use native.Mathlib.Omega.{arith}
 use Rattle.sample.proofs.limit16.Statement.{statement}
 use Rattle.sample.proofs.limit16.Tie as tie

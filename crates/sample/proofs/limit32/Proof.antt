@@ -1,3 +1,4 @@
+-- `sample::limit32` meets its contract. Assumes nothing.
 use native.Mathlib.Omega.{arith}
 use Rattle.sample.proofs.limit32.Statement.{statement}
 use Rattle.sample.proofs.limit32.Tie as tie

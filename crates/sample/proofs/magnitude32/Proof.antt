@@ -1,3 +1,4 @@
+-- `sample::magnitude32` meets its contract. Assumes nothing.
 use Rattle.sample.proofs.Magnitudes.{abs-high, abs-low}
 use native.Mathlib.Omega.{arith}
 use borrow.Author.Needs.{needs}

@@ -1,3 +1,4 @@
+-- `sample::pair_bytes` meets its contract. Assumes nothing.
 use mir.Facts.{toZ-ofZ}
 use borrow.Author.Needs.{needs}
 use Rattle.sample.proofs.pair_bytes.Statement.{statement}

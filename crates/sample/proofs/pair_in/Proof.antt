@@ -1,3 +1,4 @@
+-- `sample::pair_in` meets its contract. Assumes nothing.
 use Rattle.numbers.specs.Walk.{bytesAt}
 use mir.Facts.{toZ-ofZ}
 use mir.Syntax.{w16, w32}

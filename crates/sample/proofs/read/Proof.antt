@@ -1,3 +1,4 @@
+-- `sample::read` meets its contract. Assumes nothing.
 use Rattle.sample.proofs.Codes.{no-code}
 use Rattle.sample.specs.declared.Sample.{Sample}
 use Rattle.numbers.specs.Walk.{pick, bytesAt}

@@ -1,3 +1,4 @@
+-- `sample::read_word` meets its contract. Assumes nothing.
 use Rattle.sample.specs.Calls.{readSaid}
 use mathlib.Core.Path.{_≡_, sym, ap, _∙_}
 use mir.Facts.{toZ-ofZ}

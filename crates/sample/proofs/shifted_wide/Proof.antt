@@ -1,3 +1,4 @@
+-- `sample::shifted_wide` meets its contract. Assumes nothing.
 use lib.Pow.{shl-exact}
 use native.Mathlib.Omega.{arith}
 use borrow.Author.Needs.{needs}

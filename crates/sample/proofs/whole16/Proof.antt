@@ -1,3 +1,4 @@
+-- `sample::whole16` meets its contract. Assumes nothing.
 use Rattle.sample.proofs.Magnitudes.{signed-mul, signed-word}
 use lib.Dec.{leb}
 use Prim.Native.Nat.{_^_}

@@ -1,78 +1,71 @@
-use Rattle.sample.proofs.WholeLaws.{cut-small, cut-big, whole-low, whole-big, whole-word}
+-- `sample::whole16_of` meets its contract. Assumes nothing.
+use Rattle.sample.proofs.WholeLaws.{whole-beyond, whole-word}
 use Rattle.sample.proofs.Twos.{odd-shl}
+use Rattle.sample.specs.declared.Whole.the-variants.{Below}
+use Rattle.sample.specs.Parts.{WholeBelow}
 use Rattle.sample.specs.Value.{denominatorPower}
 use Rattle.numbers.specs.Walk.{pick}
-use Prim.Native.Nat.{ℕ, _+_, _-_, _*_, _%_, _^_, _≤_, _<_, min}
-use mathlib.Core.Path.{_≡_, sym, ap, _∙_}
+use Prim.Native.Nat.{ℕ, _+_, _-_, _^_}
+use mathlib.Core.Path.{_≡_, sym, ap, _∙_, subst}
 use native.Mathlib.Omega.{arith}
 use borrow.Author.Needs.{needs}
 use Rattle.sample.proofs.whole16_of.Statement.{statement}
 use Rattle.sample.proofs.whole16_of.Tie as tie
 
-record Known (o k q : ℕ) : Type 0 where
-  whole : denominatorPower ≤ k
-  odd : o % 2 ≡ 1
-  cut : q ≡ o * 2 ^ min (k - denominatorPower) 32
-
-known : (c : tie.After-limit16) → let a = c .before .before .before .before .args in Known (a .o) (a .k) (c .before .shifted-wide .result)
-known c =
-    let b = c .before .before .before in
-    record {
-      whole = b .if1 .left;
-      odd = b .before .pre .0;
-      cut = c .before .shifted-wide .ensures ∙ ap (λ (x : ℕ). b .before .args .o * 2 ^ x) (c .before .before .lesser .ensures);
-    }
-
-small : (c : tie.Else2) → c .before .before .shifted-wide .result < 2 ^ 15 + pick (c .before .before .before .before .before .args .neg) 1 0
-small c = rw (c .before .limit16 .ensures .0) at (c .if2 .left)
-
-returns : tie.Need-returns
-returns c = let a = c .before .args in sym (whole-low (a .neg) (a .o) (a .k) (c .before .pre .0) 16 (2 ^ 16) (c .if1 .taken))
-
-lesser-requires : tie.Need-lesser-requires
-lesser-requires c κs = search needs
-
-shifted-wide-requires : tie.Need-shifted-wide-requires
-shifted-wide-requires c κs = search needs
+below : (c : tie.After-q)
+    → let a = c .before .before .before .before .args in
+    WholeBelow (a .o) (a .k) (2 ^ 15 + pick (a .neg) 1 0) (Below (c .q .given .0 .0))
+below c =
+    let a = c .before .before .before .before .args in
+    let l = c .before .before .before .limit16 in
+    let b = subst (WholeBelow (a .o) (a .k) (l .result)) (c .q .given .1) (c .before .before .whole-below .ensures) in
+    rw (l .ensures .0) at b
 
 limit16-requires : tie.Need-limit16-requires
 limit16-requires c κs = search needs
 
-returns-2 : tie.Need-returns-2
-returns-2 c =
-    let k = known (c .before) in
-    let a = c .before .before .before .before .before .args in
-    sym (whole-big (a .neg) (a .o) (a .k) (k .odd) 16 (2 ^ 16) (k .whole) (cut-big (a .o) (a .k - denominatorPower) _ _ (k .cut) (rw (c .before .limit16 .ensures .0) at (c .if2 .taken))))
+whole-below-requires : tie.Need-whole-below-requires
+whole-below-requires c κs = search needs
 
-cast-complement16 : tie.Need-cast-complement16
-cast-complement16 c = search needs
+enum-known-q : tie.Need-enum-known-q
+enum-known-q c = search needs
 
 complement16-requires : tie.Need-complement16-requires
 complement16-requires c κs =
-    let k = known (c .before) in
+    let b = below (c .before) in
     let a = c .before .before .before .before .before .args in
-    (omega (arith, k .cut, odd-shl (a .o) (min (a .k - denominatorPower) 32) (k .odd)), small c)
+    (omega (arith, b .1, odd-shl (a .o) (a .k - denominatorPower) (c .before .before .before .before .before .pre)), b .2)
 
-mul-bits : tie.Need-mul-bits
-mul-bits c = search needs
+mul-t9 : tie.Need-mul-t9
+mul-t9 c = search needs
 
-returns-3 : tie.Need-returns-3
-returns-3 c =
-    let k = known (c .before .before) in
-    let a = c .before .before .before .before .before .before .args in
-    let q = cut-small (a .o) (a .k - denominatorPower) _ _ (k .odd) (k .cut) (c .before .if2 .left) (omega (arith, c .before .before .limit16 .ensures .1)) in
-    rw (c .complement16 .ensures .0) (sym (whole-word (a .neg) (a .o) (a .k) (k .odd) 16 (2 ^ 16) _ (k .whole) q (small (c .before))))
+enum-told : tie.Need-enum-told
+enum-told c = search needs
+
+returns : tie.Need-returns
+returns c =
+    let b = below (c .before .before) in
+    let s = c .before .before .before .before .before .before in
+    let a = s .args in
+    rw (c .complement16 .ensures .0) (sym (whole-word (a .neg) (a .o) (a .k) (s .pre) 16 (2 ^ 16) _ (b .0) (b .1) (b .2)))
+
+returns-2 : tie.Need-returns-2
+returns-2 c =
+    let s = c .before .before .before .before in
+    let a = s .args in
+    let l = c .before .before .before .limit16 in
+    let b = subst (WholeBelow (a .o) (a .k) (l .result)) (c .enum-told .given .1) (c .before .before .whole-below .ensures) in
+    sym (whole-beyond (a .neg) (a .o) (a .k) (s .pre) 16 (2 ^ 16) (rw (l .ensures .0) at b))
 
 pub whole16-of-spec : {M : Type 1} → statement M
 whole16-of-spec =
     tie.close
     (tie.spec
-    returns
-    lesser-requires
-    shifted-wide-requires
     limit16-requires
-    returns-2
-    cast-complement16
+    whole-below-requires
+    enum-known-q
     complement16-requires
-    mul-bits
-    returns-3)
+    mul-t9
+    enum-told
+    returns
+    returns-2)

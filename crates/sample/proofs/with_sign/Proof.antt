@@ -1,3 +1,4 @@
+-- `sample::with_sign` meets its contract. Assumes nothing.
 use Rattle.sample.proofs.Magnitudes.{sfits-signed}
 use mir.Facts.{toZ-pos, toZ-ofZ}
 use lib.IntN.{pos, negℤ, +ℤ-idl}

@@ -1,3 +1,4 @@
+-- `sample::write` meets its contract. Assumes nothing.
 use Rattle.sample.proofs.Codes.{no-code}
 use borrow.Author.Needs.{needs}
 use Rattle.sample.proofs.write.Statement.{statement}

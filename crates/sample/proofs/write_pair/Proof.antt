@@ -1,3 +1,4 @@
+-- `sample::write_pair` meets its contract. Assumes nothing.
 use Rattle.sample.specs.Calls.{writeSaid}
 use Rattle.sample.specs.Writing.{writePair}
 use mathlib.Core.Path.{_≡_, sym, ap, _∙_}

@@ -1,3 +1,4 @@
+-- `sample::Pair::gain_word` meets its contract. Assumes nothing.
 use Rattle.sample.specs.declared.Written.the-variants.{Word}
 use Rattle.sample.specs.declared.Parts.the-variants.{Odd}
 use Rattle.sample.specs.Parts.{PartsOf}
@@ -30,7 +31,7 @@ enum-known-neg : tie.Need-enum-known-neg
 enum-known-neg c = search needs
 
 gain-of-requires : tie.Need-gain-of-requires
-gain-of-requires c κs = let a = apart (c .before) .1 in (a .odd, a .small, a .low)
+gain-of-requires c κs = let a = apart (c .before) .1 in (a .odd, a .low)
 
 returns : tie.Need-returns
 returns c = rw (subst (PartsOf (c .before .before .before .args .self)) (c .enum-told .given .1) (c .before .before .parts .ensures))

@@ -1,3 +1,4 @@
+-- `sample::Pair::is_canonical` meets its contract. Assumes nothing.
 use Rattle.sample.specs.Parts.{PartsOf}
 use mathlib.Core.Path.{sym, subst}
 use borrow.Author.Needs.{needs}

@@ -1,3 +1,4 @@
+-- `sample::Pair::parts` meets its contract. Assumes nothing.
 use Rattle.sample.proofs.Apart.{highest, shift-is, is-mantissa, zero-bits, bits-zero, zero-yes, zero-no, even-no, high-no, zero-value, apart}
 use Rattle.sample.specs.declared.Pair.{Pair}
 use Rattle.sample.specs.Value.{denominatorPower}

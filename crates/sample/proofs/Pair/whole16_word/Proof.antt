@@ -1,3 +1,4 @@
+-- `sample::Pair::whole16_word` meets its contract. Assumes nothing.
 use Prim.Native.Nat.{_^_}
 use Rattle.sample.specs.declared.Written.the-variants.{Word}
 use Rattle.sample.specs.declared.Parts.the-variants.{Odd}
@@ -31,7 +32,7 @@ enum-known-neg : tie.Need-enum-known-neg
 enum-known-neg c = search needs
 
 whole16-of-requires : tie.Need-whole16-of-requires
-whole16-of-requires c κs = let a = apart (c .before) .1 in (a .odd, a .small, a .low)
+whole16-of-requires c κs = apart (c .before) .1 .odd
 
 returns : tie.Need-returns
 returns c = rw (subst (PartsOf (c .before .before .before .args .self)) (c .enum-told .given .1) (c .before .before .parts .ensures))
