@@ -1,5 +1,4 @@
 -- The first cause against an input, by its number, with the place that stands beside it in the table.
--- Assumes nothing.
 use Prim.Native.Nat.{ℕ}
 use mathlib.Core.Bool.{Bool, true, false}
 use mathlib.Core.List.{List, [], _∷_}

@@ -1,5 +1,5 @@
--- Byte numbers and places, document 01's own terms. A byte number is the standard's, counted from 1 at the start of a header;
--- a place is an offset in the input, counted from 0.
+-- Byte numbers and places, document 01's own terms. A byte number is the standard's, counted from 1; a place is an offset in the input,
+-- counted from 0.
 use Prim.Native.Nat.{ℕ, _+_, _-_, _^_}
 use mathlib.Core.Bool.{_&&_}
 use lib.Dec.{leb, ltb}
@@ -16,7 +16,7 @@ placeNo p = p .0
 abbrev pub byteNo : ByteNo → ℕ
 byteNo b = b .0
 
--- Byte number b of a header that begins at the place `start`. No byte has number 0, and a place is a number of 64 bits.
+-- The place of byte number b where byte number 1 stands at the place `start`. No byte has number 0, and a place is a number of 64 bits.
 abbrev pub located : Place → ByteNo → Located
 located start b =
     pick (leb 1 (byteNo b) && ltb (placeNo start + (byteNo b - 1)) (2 ^ 64))

@@ -1,5 +1,4 @@
--- Walks over a list by offset: the one recursion on numbers that the specifications use.
--- Assumes nothing.
+-- What stands at regular offsets of a list, and a choice by a test.
 use Prim.Native.Nat.{ℕ, zero, suc, _+_}
 use mathlib.Core.Bool.{Bool, true, false}
 use mathlib.Core.List.{List, [], _∷_, _++_}

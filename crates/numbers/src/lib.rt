@@ -5,14 +5,15 @@ ghost use Rattle.numbers.specs.BigEndian.{number, bytesOf};
 ghost use Rattle.numbers.specs.TwosComplement.{signedOf, bitsOf};
 ghost use Rattle.numbers.specs.Places.{located};
 
-// A byte number, document 01's own term: the standard's, counted from 1 at the start of a header.
+// A byte number, document 01's own term: the standard's, counted from 1.
 pub struct ByteNo(pub u32);
 
-// A place, document 01's own term: an offset in the input, counted from 0.
+// A place, document 01's own term: an offset in the input, counted from 0. A length is the place
+// behind the last byte.
 pub struct Place(pub usize);
 
 // What a check finds: nothing against the input, or the first cause against it by its number, with
-// what stands beside it in the table: a place, or a length for numbers 1 and 10.
+// the place that stands beside it in the table, which is a length for numbers 1 and 10.
 pub enum Check {
     Fine,
     Refused { number: u8, place: Place },
@@ -24,7 +25,8 @@ pub enum Located {
     Nowhere,
 }
 
-// The one conversion: byte number b of a header that begins at the place start.
+// The one conversion, where byte number 1 stands at the place start: at 0 for the byte numbers of
+// the binary header, at the trace's first byte for those of a trace header.
 pub fn place_of(start: Place, b: ByteNo) -> Located
     ensures { λ r. ⌜ r ≡ located start b ⌝ }
 {

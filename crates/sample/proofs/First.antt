@@ -1,7 +1,8 @@
 -- What `first` finds. Assumes nothing.
 use mathlib.Core.Path.{_≡_, refl, sym, ap, _∙_, subst}
 use mathlib.Core.Logic.{_⊎_, inl, inr, ⊎-elim}
-use mathlib.Core.Bool.{Bool, true, false, cond}
+use mathlib.Core.Bool.{Bool, true, false}
+use Rattle.numbers.specs.Walk.{pick}
 use Prim.Native.Nat.{ℕ, zero, suc, _+_, _≤_, _<_}
 use native.Mathlib.Nat.{add-zero, add-suc, suc-add, eq-or-lt-of-le}
 use native.Mathlib.Omega.{arith}
@@ -38,7 +39,7 @@ found t zero i = record { from = omega arith; passes = λ h. absurd (none h); be
     no x p q = omega arith
 found t (suc n) i = go (t i) refl (found t n (suc i))
   where
-    go : (b : Bool) → t i ≡ b → Found t n (suc i) (first t n (suc i)) → Found t (suc n) i (cond b i (first t n (suc i)))
+    go : (b : Bool) → t i ≡ b → Found t n (suc i) (first t n (suc i)) → Found t (suc n) i (pick b i (first t n (suc i)))
     go true e r = record { from = omega arith; passes = λ h. e; before = λ x p q. absurd (no x p q) }
       where
         no : (x : ℕ) → i ≤ x → x < i → ⊥

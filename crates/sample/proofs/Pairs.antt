@@ -16,7 +16,7 @@ use mir.Val.{SFits, hbits}
 use Rattle.numbers.proofs.SignLaws.{below-or, sub-below, sub-above}
 use Rattle.sample.specs.Value.{denominatorPower, signMagnitude}
 use Rattle.sample.specs.Pair.{twos, oddPart, pairOf, valueOf}
-use Rattle.sample.specs.Reading.{taken}
+use Rattle.sample.specs.Reading.{pairTaken}
 use Rattle.sample.specs.declared.Sample.the-variants.{Taken}
 use Rattle.sample.proofs.Magnitudes.{signed-mul}
 use Rattle.sample.proofs.Twos.{twos-at, oddPart-at, below-shl, split, twos-split}
@@ -45,19 +45,19 @@ pair-at s o t e = rw (pair-of s (o * 2 ^ t) (lt-of-le-of-lt (zero≤ t) (below-s
     zero≤ : (t : ℕ) → 0 ≤ t
     zero≤ t = omega arith
 
-pub taken-zero : (s : Bool) (k a : ℕ) → a ≡ 0 → taken (signMagnitude s (a * 2 ^ k)) ≡ Taken (pos 0) (pos 0)
+pub taken-zero : (s : Bool) (k a : ℕ) → a ≡ 0 → pairTaken (signMagnitude s (a * 2 ^ k)) ≡ Taken (pos 0) (pos 0)
 taken-zero s k a e = rw (nil) (none s)
   where
     nil : a * 2 ^ k ≡ 0
     nil = omega (arith, ap (λ (x : ℕ). x * 2 ^ k) e)
 
-    none : (s : Bool) → taken (signMagnitude s 0) ≡ Taken (pos 0) (pos 0)
+    none : (s : Bool) → pairTaken (signMagnitude s 0) ≡ Taken (pos 0) (pos 0)
     none false = refl
     none true = refl
 
 -- a is a number of w bits
 pub taken-at : (w k : ℕ) (s : Bool) (a : ℕ) → 0 < a → a < 2 ^ w
-    → taken (signMagnitude s (a * 2 ^ k)) ≡ Taken (subℕ (k + trailingZeros w a) denominatorPower) (signMagnitude s (a / 2 ^ trailingZeros w a))
+    → pairTaken (signMagnitude s (a * 2 ^ k)) ≡ Taken (subℕ (k + trailingZeros w a) denominatorPower) (signMagnitude s (a / 2 ^ trailingZeros w a))
 taken-at w k s a p h =
     let d = split w a p h in
     let t = trailingZeros w a in

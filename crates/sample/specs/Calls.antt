@@ -1,11 +1,12 @@
 -- The single-sample calls: a pair's six bytes, and the complete outcome of each call.
-use Prim.Native.Nat.{ℕ, _/_}
+use Prim.Native.Nat.{ℕ, _+_, _/_}
 use mathlib.Core.List.{List, [], _++_}
 use lib.ListN.{replicate}
 use lib.IntN.{ℤ}
 use Rattle.numbers.specs.Walk.{bytesAt}
 use Rattle.numbers.specs.BigEndian.{number, bytesOf}
 use Rattle.numbers.specs.TwosComplement.{signedOf, bitsOf}
+use Rattle.numbers.specs.Places.{placeNo}
 use Rattle.numbers.specs.Outcome.{Said, taken, refused, Outcome}
 use Rattle.sample.specs.Pair.{mantissaBits}
 use Rattle.sample.specs.Reading.{readWord}
@@ -35,7 +36,7 @@ pairIn b =
 -- Document 01's number and place for each case of the answer.
 abbrev pub saidBy : Answer → Said
 saidBy answer.Taken = taken []
-saidBy (answer.Refused number place) = refused number (place .0)
+saidBy (answer.Refused number place) = refused number (placeNo place)
 
 -- What a call hands out, in document 01's terms.
 abbrev pub wordRead : WordRead → Outcome
@@ -47,7 +48,7 @@ pairWritten r = record { said = saidBy (r .answer); bytes = r .word }
 -- The outcome of reading a single word. Beside a refusal the place is 0 and the bytes handed out are all 00.
 abbrev pub readSaid : Sample → Outcome
 readSaid (sample.Taken e m) = record { said = taken []; bytes = pairBytes e m }
-readSaid (sample.Refused number) = record { said = refused number 0; bytes = replicate 6 0 }
+readSaid (sample.Refused number) = record { said = refused number 0; bytes = replicate (2 + mantissaBits / 8) 0 }
 
 abbrev pub readOutcome : ℕ → List ℕ → Outcome
 readOutcome code w = readSaid (readWord code w)

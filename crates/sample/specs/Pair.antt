@@ -1,13 +1,13 @@
 -- The canonical sample, document 01's own term: a pair of exponent e and mantissa m, with value m × 2 ^ e.
 use Prim.Native.Nat.{ℕ, zero, suc, _-_, _/_, _%_, _^_}
 use mathlib.Core.Bool.{Bool, _&&_, _||_}
-use lib.Dec.{leb, ltb, eqb}
+use lib.Dec.{leb, eqb}
 use lib.IntN.{ℤ, pos, negsuc, negℤ, natAbs, subℕ, _+ℤ_, _*ℤ_}
 use lib.Signed.{leZ}
-use Rattle.sample.specs.Value.{denominatorPower, signMagnitude}
+use Rattle.sample.specs.Value.{denominatorPower}
 use Rattle.sample.specs.declared.Pair.{Pair}
 
--- The largest e. The least is -280, where V is counted in the denominator's own steps.
+-- The largest e. The least is -280, as 2 ^ -280 is the step of all values.
 abbrev pub highestExponent : ℕ
 highestExponent = 251
 
@@ -15,7 +15,7 @@ highestExponent = 251
 abbrev pub mantissaBits : ℕ
 mantissaBits = 32
 
--- How many twos a number other than 0 has. The first argument is a count of steps that is enough, then come the lowest binary digit
+-- How often 2 divides a number other than 0. The first argument is a count of steps that is enough, then come the lowest binary digit
 -- and the digits above it.
 unfoldable pub twosIn : ℕ → ℕ → ℕ → ℕ
 twosIn zero d h = zero
@@ -29,7 +29,7 @@ twos n = twosIn n (n % 2) (n / 2)
 unfoldable pub oddPart : ℕ → ℕ
 oddPart n = n / 2 ^ twos n
 
--- The canonical pair of the value V / 2 ^ 280: for zero e = 0 and m = 0, otherwise m is odd.
+-- The canonical pair of the value V / 2 ^ 280, where it has one: for zero e = 0 and m = 0, otherwise m is odd.
 abbrev pub pairOf : ℤ → Pair
 pairOf (pos zero) = record { e = pos 0; m = pos 0 }
 pairOf (pos (suc n)) = record { e = subℕ (twos (suc n)) denominatorPower; m = pos (oddPart (suc n)) }

@@ -6,15 +6,14 @@ use lib.ListN.{getD}
 use lib.Dec.{leb, eqb}
 use lib.IntN.{ℤ}
 use Rattle.numbers.specs.Walk.{pick}
-use Rattle.numbers.specs.TwosComplement.{signedOf}
-use Rattle.sample.specs.Value.{exactValue, gainValue}
+use Rattle.sample.specs.Value.{exactValue}
 use Rattle.sample.specs.Pair.{pairOf}
 use Rattle.sample.specs.declared.Sample.{Sample}
 use Rattle.sample.specs.declared.Sample.the-variants.{Taken, Refused}
 
 -- The canonical pair of a value, as its two numbers.
-abbrev pub taken : ℤ → Sample
-taken v = Taken (pairOf v .e) (pairOf v .m)
+abbrev pub pairTaken : ℤ → Sample
+pairTaken v = Taken (pairOf v .e) (pairOf v .m)
 
 -- The codes are 1 to 4.
 abbrev pub isCode : ℕ → Bool
@@ -24,11 +23,7 @@ isCode code = leb 1 code && leb code 4
 abbrev pub badGain : ℕ → List ℕ → Bool
 badGain code w = eqb code 4 && not (eqb (getD w 0 0) 0)
 
--- A gain word by its first byte, its gain and the bits of d.
-abbrev pub readGain : ℕ → ℕ → ℕ → Sample
-readGain b g d = pick (eqb b 0) (taken (gainValue g (signedOf 16 d))) (Refused 9)
-
 -- A single word is refused by 2, then 9; otherwise it gives the canonical pair of its exact value.
 abbrev pub readWord : ℕ → List ℕ → Sample
 readWord code w =
-    pick (isCode code) (pick (badGain code w) (Refused 9) (taken (exactValue code w))) (Refused 2)
+    pick (isCode code) (pick (badGain code w) (Refused 9) (pairTaken (exactValue code w))) (Refused 2)

@@ -1,6 +1,6 @@
 -- The word of a value under each code, as a number of 32 bits, and what writing a pair gives.
 use Prim.Native.Nat.{ℕ, zero, suc, _+_, _-_, _*_, _/_, _%_, _^_}
-use mathlib.Core.Bool.{Bool, true, false, cond, _&&_, _||_}
+use mathlib.Core.Bool.{Bool, true, false, _&&_, _||_}
 use lib.Dec.{leb, ltb, eqb}
 use lib.IntN.{ℤ, pos, negsuc, negℤ, natAbs}
 use lib.Signed.{leZ, ltZ, quotZ}
@@ -16,7 +16,7 @@ use Rattle.sample.specs.declared.Written.the-variants.{Word, Refused}
 -- The first of the n numbers from i on that passes a test; i + n where none does.
 unfoldable pub first : (ℕ → Bool) → ℕ → ℕ → ℕ
 first t zero i = i
-first t (suc n) i = cond (t i) i (first t n (suc i))
+first t (suc n) i = pick (t i) i (first t n (suc i))
 
 abbrev pub isNegative : ℤ → Bool
 isNegative (pos n) = false
@@ -40,6 +40,7 @@ ibmFits v c = isMultiple (16 ^ c) v && (ltb (natAbs v / 16 ^ c) (2 ^ 24) && isNo
 abbrev pub ibmBits : Bool → ℕ → ℕ → ℕ
 ibmBits s c f = pick s (2 ^ 31) 0 + c * 2 ^ 24 + f
 
+-- The word of a value with characteristic c, or 14 where c is 128: then none of the 128 characteristics serves.
 abbrev pub ibmAt : ℤ → ℕ → Written
 ibmAt v c = pick (ltb c 128) (Word (ibmBits (isNegative v) c (natAbs v / 16 ^ c))) (Refused 14)
 
@@ -53,15 +54,16 @@ ibmWord v = ibmAt v (first (ibmFits v) 128 0)
 abbrev pub inBits : ℕ → ℤ → Bool
 inBits w n = leZ (negℤ (pos (2 ^ (w - 1)))) n && ltZ n (pos (2 ^ (w - 1)))
 
--- A value is n × p with n a number of w bits; the number n itself.
+-- A value divided by p, which is exact where it is a multiple of p.
 abbrev pub numberOf : ℕ → ℤ → ℤ
 numberOf p v = quotZ v (pos p)
 
+-- A value is n × p for a number n of w bits.
 abbrev pub holds : ℕ → ℕ → ℤ → Bool
 holds w p v = isMultiple p v && inBits w (numberOf p v)
 
--- Codes 2 and 3: the number itself, if whole and in range. It stands `up` times higher than its last bit: the two bytes of code 3 are
--- the first of the word.
+-- Codes 2 and 3: the number itself, if whole and in range. Its bits are multiplied by `up`: by 1 under code 2, by 2 ^ 16 under code 3,
+-- whose two bytes are the first of the word, the rest 00.
 abbrev pub wholeWord : ℕ → ℕ → ℤ → Written
 wholeWord w up v =
     pick (holds w (2 ^ denominatorPower) v)
@@ -72,6 +74,7 @@ wholeWord w up v =
 abbrev pub gainFits : ℤ → ℕ → Bool
 gainFits v g = holds 16 (2 ^ (denominatorPower - g)) v
 
+-- The word of a value with gain g, or 14 where g is 256: then none of the 256 gains serves.
 abbrev pub gainAt : ℤ → ℕ → Written
 gainAt v g =
     pick (ltb g 256) (Word (g * 2 ^ 16 + bitsOf 16 (numberOf (2 ^ (denominatorPower - g)) v))) (Refused 14)

@@ -1,15 +1,14 @@
 // Single samples: the canonical pair of a word under codes 1 to 4, and the word of a pair.
 ghost use mathlib.Core.Path.{_≡_};
-ghost use mathlib.Core.Bool.{Bool, true};
+ghost use mathlib.Core.List.{[], _∷_};
 ghost use Prim.Native.Nat.{_+_, _-_, _*_, _/_, _%_, _^_, _<_, _≤_, min};
-ghost use lib.IntN.{pos, natAbs, subℕ};
-ghost use lib.Dec.{leb};
+ghost use lib.IntN.{natAbs, subℕ};
 ghost use Rattle.numbers.specs.Walk.{pick};
 ghost use Rattle.numbers.specs.Outcome.{refused};
 ghost use Rattle.numbers.specs.TwosComplement.{signedOf, bitsOf};
-ghost use Rattle.sample.specs.Value.{denominatorPower, signMagnitude, fraction, ibmValue, wholeValue, gainValue};
+ghost use Rattle.sample.specs.Value.{denominatorPower, signMagnitude, fraction, ibmValue, wholeValue};
 ghost use Rattle.sample.specs.Pair.{highestExponent, isCanonical};
-ghost use Rattle.sample.specs.Reading.{taken, readGain, readWord};
+ghost use Rattle.sample.specs.Reading.{pairTaken, readWord};
 ghost use Rattle.sample.specs.Writing.{ibmWord, wholeWord, gainWord, writePair};
 ghost use Rattle.sample.specs.Calls.{pairBytes, pairIn, saidBy, wordRead, pairWritten, readOutcome, writeOutcome};
 ghost use Rattle.sample.specs.Parts.{PartsOf, WholeBelow};
@@ -81,7 +80,7 @@ fn with_sign(neg: bool, a: u32) -> i32
     if neg { 0 - a as i32 } else { a as i32 }
 }
 
-// The exponent of 2^k in V.
+// The exponent of V = 2^k, which is k - 280.
 fn exponent(k: u32) -> i16
     requires { ⌜ k < 2 ^ 15 ⌝ }
     ensures { λ r. ⌜ r ≡ subℕ k denominatorPower ⌝ }
@@ -100,7 +99,7 @@ fn shifted_down(a: u32, t: u32) -> u32
 // The canonical pair of V = ± a × 2^k: the power of two in a is counted out of it.
 fn canonical(neg: bool, a: u32, k: u32) -> Sample
     requires { ⌜ (a ≤ 2 ^ 31) × (k ≤ 2 ^ 14) ⌝ }
-    ensures { λ r. ⌜ r ≡ taken (signMagnitude neg (a * 2 ^ k)) ⌝ }
+    ensures { λ r. ⌜ r ≡ pairTaken (signMagnitude neg (a * 2 ^ k)) ⌝ }
 {
     if a == 0 {
         return Sample::Taken { e: 0, m: 0 };
@@ -120,7 +119,7 @@ fn fraction_of(n: u32) -> u32
 
 // Code 1: the pair of an IBM word.
 pub fn ibm(n: u32) -> Sample
-    ensures { λ r. ⌜ r ≡ taken (ibmValue n) ⌝ }
+    ensures { λ r. ⌜ r ≡ pairTaken (ibmValue n) ⌝ }
 {
     canonical(0x8000_0000 <= n, fraction_of(n), n / 0x100_0000 % 128 * 4)
 }
@@ -148,25 +147,26 @@ fn magnitude16(n: u16) -> u16
 
 // Code 2: the pair of a 32-bit number.
 pub fn whole32(n: u32) -> Sample
-    ensures { λ r. ⌜ r ≡ taken (wholeValue (signedOf 32 n)) ⌝ }
+    ensures { λ r. ⌜ r ≡ pairTaken (wholeValue (signedOf 32 n)) ⌝ }
 {
     canonical(0x8000_0000 <= n, magnitude32(n), DENOMINATOR_POWER)
 }
 
 // Code 3: the pair of a 16-bit number.
 pub fn whole16(n: u16) -> Sample
-    ensures { λ r. ⌜ r ≡ taken (wholeValue (signedOf 16 n)) ⌝ }
+    ensures { λ r. ⌜ r ≡ pairTaken (wholeValue (signedOf 16 n)) ⌝ }
 {
     canonical(0x8000 <= n, magnitude16(n) as u32, DENOMINATOR_POWER)
 }
 
-// Code 4: the pair of d / 2^g, where the word's first byte is 00.
-pub fn gain(first: u8, g: u8, d: u16) -> Sample
-    ensures { λ r. ⌜ r ≡ readGain first g d ⌝ }
+// Code 4: the pair of d / 2^g, by the word's bytes: 00, the gain g, and the two of d.
+pub fn gain(first: u8, g: u8, high: u8, low: u8) -> Sample
+    ensures { λ r. ⌜ r ≡ readWord 4 (first ∷ g ∷ high ∷ low ∷ []) ⌝ }
 {
     if first != 0 {
         return Sample::Refused { number: BAD_GAIN };
     }
+    let d = numbers::be16(high, low);
     canonical(
         0x8000 <= d,
         magnitude16(d) as u32,
@@ -182,7 +182,7 @@ pub fn read(code: u32, word: [u8; 4]) -> Sample
         1 => ibm(numbers::be32(word[0], word[1], word[2], word[3])),
         2 => whole32(numbers::be32(word[0], word[1], word[2], word[3])),
         3 => whole16(numbers::be16(word[0], word[1])),
-        4 => gain(word[0], word[1], numbers::be16(word[2], word[3])),
+        4 => gain(word[0], word[1], word[2], word[3]),
         _ => Sample::Refused { number: BAD_CODE },
     }
 }
@@ -259,8 +259,8 @@ fn shifted_up(a: u32, s: u32) -> u32
     a << s
 }
 
-// The normal word of V = ± o × 2^k, for an odd o: of the largest characteristic, whose fraction is the least, and then up by digits as
-// far as the characteristic allows.
+// The normal word of V = ± o × 2^k, for an odd o. First the largest C that leaves F whole, where F
+// is least; then F goes up and C down, digit by digit, until F's first digit isn't 0 or C is 0.
 fn ibm_of(neg: bool, o: u32, k: u32) -> Written
     requires { ⌜ (o % 2 ≡ 1) × (k ≤ denominatorPower + highestExponent) ⌝ }
     ensures { λ r. ⌜ r ≡ ibmWord (signMagnitude neg (o * 2 ^ k)) ⌝ }
@@ -276,7 +276,8 @@ fn ibm_of(neg: bool, o: u32, k: u32) -> Written
     Written::Word { bits }
 }
 
-// One more than the largest magnitude of a number of 32 and of 16 bits in two's complement.
+// One more than the largest magnitude of a number of that sign, of 32 and of 16 bits in two's
+// complement.
 fn limit32(neg: bool) -> u64
     ensures { λ r. ⌜ (r ≡ 2 ^ 31 + pick neg 1 0) × (r ≤ 2 ^ 32) ⌝ }
 {
@@ -329,7 +330,7 @@ fn whole_below(o: u32, k: u32, limit: u64) -> Whole
     Whole::Below { q: q as u32 }
 }
 
-// V = ± o × 2^k under code 2, for an odd o.
+// The word of V = ± o × 2^k under code 2, for an odd o.
 fn whole32_of(neg: bool, o: u32, k: u32) -> Written
     requires { ⌜ o % 2 ≡ 1 ⌝ }
     ensures { λ r. ⌜ r ≡ wholeWord 32 1 (signMagnitude neg (o * 2 ^ k)) ⌝ }

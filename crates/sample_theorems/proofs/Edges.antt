@@ -3,9 +3,9 @@
 -- Each is computed by the rules themselves. A word is written as its four bytes, a pair that is read as e and m.
 use mathlib.Core.Path.{_≡_, refl}
 use mathlib.Core.List.{List, [], _∷_}
-use Prim.Native.Nat.{ℕ, _^_, _<_}
+use Prim.Native.Nat.{ℕ, _^_, _≤_, _<_}
 use lib.IntN.{ℤ, pos, negsuc, negℤ}
-use lib.Dec.{lit<}
+use lib.Dec.{lit<, lit≤}
 use Rattle.numbers.specs.Walk.{bytesAt}
 use Rattle.numbers.specs.Outcome.{taken, refused, Outcome}
 use Rattle.sample.specs.Value.{wholeValue}
@@ -20,62 +20,62 @@ use Rattle.sample.specs.declared.Written.{Written}
 use Rattle.sample.specs.declared.Written.the-variants.{Word, Refused}
 
 -- a word of code 1, and one of code 4, as they are read
-ibm : ℕ → ℕ → ℕ → ℕ → Sample
+abbrev pub ibm : ℕ → ℕ → ℕ → ℕ → Sample
 ibm a b c d = readWord 1 (a ∷ b ∷ c ∷ d ∷ [])
 
-gain : ℕ → ℕ → ℕ → ℕ → Sample
+abbrev pub gain : ℕ → ℕ → ℕ → ℕ → Sample
 gain a b c d = readWord 4 (a ∷ b ∷ c ∷ d ∷ [])
 
 -- a whole number, as it is written under a code
-number : ℕ → ℤ → Written
-number code n = writePair code (pairOf (wholeValue n))
+abbrev pub wholeTo : ℕ → ℤ → Written
+wholeTo code n = writePair code (pairOf (wholeValue n))
 
 -- 41100000 and 42010000: e 0, m 1
-one : (ibm 0x41 0x10 0 0 ≡ Taken (pos 0) (pos 1)) × (ibm 0x42 0x01 0 0 ≡ Taken (pos 0) (pos 1))
-unfolding ibm bytesAt twosIn twos oddPart
+pub one : (ibm 0x41 0x10 0 0 ≡ Taken (pos 0) (pos 1)) × (ibm 0x42 0x01 0 0 ≡ Taken (pos 0) (pos 1))
+unfolding bytesAt twosIn twos oddPart
 one = (refl, refl)
 
 -- C276A000: e -3, m -949; bytes FF FD FF FF FC 4B
-minus : (ibm 0xC2 0x76 0xA0 0 ≡ Taken (negsuc 2) (negsuc 948)) × (readOutcome 1 (0xC2 ∷ 0x76 ∷ 0xA0 ∷ 0 ∷ []) ≡ record { said = taken []; bytes = 0xFF ∷ 0xFD ∷ 0xFF ∷ 0xFF ∷ 0xFC ∷ 0x4B ∷ [] })
-unfolding ibm bytesAt twosIn twos oddPart
+pub minus : (ibm 0xC2 0x76 0xA0 0 ≡ Taken (negsuc 2) (negsuc 948)) × (readOutcome 1 (0xC2 ∷ 0x76 ∷ 0xA0 ∷ 0 ∷ []) ≡ record { said = taken []; bytes = 0xFF ∷ 0xFD ∷ 0xFF ∷ 0xFF ∷ 0xFC ∷ 0x4B ∷ [] })
+unfolding bytesAt twosIn twos oddPart
 minus = (refl, refl)
 
 -- 80000000 and 7F000000: zero
-nothing : (ibm 0x80 0 0 0 ≡ Taken (pos 0) (pos 0)) × (ibm 0x7F 0 0 0 ≡ Taken (pos 0) (pos 0))
-unfolding ibm bytesAt
+pub nothing : (ibm 0x80 0 0 0 ≡ Taken (pos 0) (pos 0)) × (ibm 0x7F 0 0 0 ≡ Taken (pos 0) (pos 0))
+unfolding bytesAt
 nothing = (refl, refl)
 
 -- 00000001: e -280, m 1; 7F800000: e 251, m 1
-ends : (ibm 0 0 0 1 ≡ Taken (negsuc 279) (pos 1)) × (ibm 0x7F 0x80 0 0 ≡ Taken (pos 251) (pos 1))
-unfolding ibm bytesAt twosIn twos oddPart
+pub ends : (ibm 0 0 0 1 ≡ Taken (negsuc 279) (pos 1)) × (ibm 0x7F 0x80 0 0 ≡ Taken (pos 251) (pos 1))
+unfolding bytesAt twosIn twos oddPart
 ends = (refl, refl)
 
 -- 7FFFFFFF: e 228, m 16,777,215
-largest : ibm 0x7F 0xFF 0xFF 0xFF ≡ Taken (pos 228) (pos 16_777_215)
-unfolding ibm bytesAt twosIn twos oddPart
+pub largest : ibm 0x7F 0xFF 0xFF 0xFF ≡ Taken (pos 228) (pos 16_777_215)
+unfolding bytesAt twosIn twos oddPart
 largest = refl
 
 -- gain 00010002: e 0, m 1; written 00000001
-halved : (gain 0 1 0 2 ≡ Taken (pos 0) (pos 1)) × (writeOutcome 4 (0 ∷ 0 ∷ 0 ∷ 0 ∷ 0 ∷ 1 ∷ []) ≡ record { said = taken []; bytes = 0 ∷ 0 ∷ 0 ∷ 1 ∷ [] })
-unfolding gain bytesAt twosIn twos oddPart first
+pub halved : (gain 0 1 0 2 ≡ Taken (pos 0) (pos 1)) × (writeOutcome 4 (0 ∷ 0 ∷ 0 ∷ 0 ∷ 0 ∷ 1 ∷ []) ≡ record { said = taken []; bytes = 0 ∷ 0 ∷ 0 ∷ 1 ∷ [] })
+unfolding bytesAt twosIn twos oddPart first
 halved = (refl, refl)
 
 -- 16,777,215 to code 1: 46FFFFFF; 16,777,217: number 14
-bits-24 : (number 1 (pos 16_777_215) ≡ Word 0x46FF_FFFF) × (number 1 (pos 16_777_217) ≡ Refused 14)
-unfolding number twosIn twos oddPart first
+pub bits-24 : (wholeTo 1 (pos 16_777_215) ≡ Word 0x46FF_FFFF) × (wholeTo 1 (pos 16_777_217) ≡ Refused 14)
+unfolding twosIn twos oddPart first
 bits-24 = (refl, refl)
 
 -- 33,554,416 to code 1: 471FFFFF; 33,554,430: number 14, though its m has 24 bits
-digits-6 : (number 1 (pos 33_554_416) ≡ Word 0x471F_FFFF) × (number 1 (pos 33_554_430) ≡ Refused 14) × (pairOf (wholeValue (pos 33_554_430)) .m ≡ pos 16_777_215) × (16_777_215 < 2 ^ 24)
-unfolding number twosIn twos oddPart first
-digits-6 = (refl, refl, refl, lit< tt)
+pub digits-6 : (wholeTo 1 (pos 33_554_416) ≡ Word 0x471F_FFFF) × (wholeTo 1 (pos 33_554_430) ≡ Refused 14) × (pairOf (wholeValue (pos 33_554_430)) .m ≡ pos 16_777_215) × (2 ^ 23 ≤ 16_777_215) × (16_777_215 < 2 ^ 24)
+unfolding twosIn twos oddPart first
+digits-6 = (refl, refl, refl, lit≤ tt, lit< tt)
 
 -- -32,768 to code 4: 00008000; 32,768: number 14
-bits-16 : (number 4 (negℤ (pos 32_768)) ≡ Word 0x0000_8000) × (number 4 (pos 32_768) ≡ Refused 14)
-unfolding number twosIn twos oddPart first
+pub bits-16 : (wholeTo 4 (negℤ (pos 32_768)) ≡ Word 0x0000_8000) × (wholeTo 4 (pos 32_768) ≡ Refused 14)
+unfolding twosIn twos oddPart first
 bits-16 = (refl, refl)
 
 -- e -255, m 1 fits code 4; e -256 doesn't (a line without a star)
-least-gain : (writePair 4 (record { e = negsuc 254; m = pos 1 }) ≡ Word 0x00FF_0001) × (writePair 4 (record { e = negsuc 255; m = pos 1 }) ≡ Refused 14)
+pub least-gain : (writePair 4 (record { e = negsuc 254; m = pos 1 }) ≡ Word 0x00FF_0001) × (writePair 4 (record { e = negsuc 255; m = pos 1 }) ≡ Refused 14)
 unfolding first
 least-gain = (refl, refl)

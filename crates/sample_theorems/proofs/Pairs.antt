@@ -1,6 +1,6 @@
 -- # Theorems 1 and 2: what a pair says
 --
--- Each byte of a word is a number below 256. Nothing else is assumed.
+-- `Bytes` says that each byte of a list is a number below 256.
 use mathlib.Core.Path.{_≡_, refl, sym, ap, ap₂, _∙_, subst}
 use mathlib.Core.Bool.{Bool, true, false, not, _&&_, _||_}
 use mathlib.Core.Logic.{⊎-elim}
@@ -24,7 +24,7 @@ use Rattle.numbers.proofs.ByteLaws.{Bytes, number-bytes, bytes-number}
 use Rattle.numbers.proofs.SignLaws.{below-or, sub-below, sub-above, signed-bits, bits-signed, bits-lt, mag-signed}
 use Rattle.sample.specs.Value.{denominatorPower, signMagnitude, characteristic, fraction, signBit, ibmValue, wholeValue, gainValue, exactValue}
 use Rattle.sample.specs.Pair.{highestExponent, mantissaBits, pairOf, valueOf, isExponent, isMantissa, isCanonical}
-use Rattle.sample.specs.Reading.{taken, isCode, badGain, readWord}
+use Rattle.sample.specs.Reading.{pairTaken, isCode, badGain, readWord}
 use Rattle.sample.specs.Writing.{isNegative}
 use Rattle.sample.specs.Calls.{pairBytes, pairIn}
 use Rattle.sample.specs.declared.Pair.{Pair}
@@ -136,7 +136,7 @@ bytes-again : (b : List ℕ) (at k : ℕ) → Bytes b → bytesOf k (number (byt
 bytes-again b at k h =
     ap (λ (n : ℕ). bytesOf n (number (bytesAt b at k))) (sym (size-bytes b at k)) ∙ bytes-number (bytesAt b at k) (bytes-at b h at k)
 
--- And the bytes of the pair of six bytes are those bytes, whether or not it is canonical: so no two lists of six bytes are one pair.
+-- And the bytes of the pair of six bytes are those bytes, whether or not it is canonical: so no two lists of six bytes give one pair.
 pub pair-bytes : (b : List ℕ) → length b ≡ 6 → Bytes b → pairBytes (pairIn b .e) (pairIn b .m) ≡ b
 pair-bytes b n h =
     let x = bits-signed 16 (number (bytesAt b 0 2)) (omega arith) (number-at b h 0 2) in
@@ -223,14 +223,22 @@ value-canonical code w h =
     (canon-whole 16 a denominatorPower na (omega (arith, abs-most 16 a (omega arith) na)) (omega arith))
     (canon-whole 16 b (denominatorPower - getD w 1 0) nb (omega (arith, abs-most 16 b (omega arith) nb)) (omega arith))
 
--- a word that is read gives the pair of its value
+-- a word that is read was one of the four codes'
+pub taken-code : (code : ℕ) (w : List ℕ) (e m : ℤ) → readWord code w ≡ Taken e m → isCode code ≡ true
+taken-code code w e m h = go (isCode code) refl h
+  where
+    go : (b : Bool) → isCode code ≡ b → pick b (pick (badGain code w) (Refused 9) (pairTaken (exactValue code w))) (Refused 2) ≡ Taken e m → isCode code ≡ true
+    go true x q = x
+    go false x q = absurd (let z : _≡_ {A = ℕ} 0 1 = cc in omega arith)
+
+-- and gives the pair of its value
 taken-is : (code : ℕ) (w : List ℕ) (e m : ℤ) → readWord code w ≡ Taken e m → record { e = e; m = m } ≡ pairOf (exactValue code w)
 taken-is code w e m h = go (isCode code) (badGain code w) h
   where
     v : ℤ
     v = exactValue code w
 
-    go : (b t : Bool) → pick b (pick t (Refused 9) (taken v)) (Refused 2) ≡ Taken e m → record { e = e; m = m } ≡ pairOf v
+    go : (b t : Bool) → pick b (pick t (Refused 9) (pairTaken v)) (Refused 2) ≡ Taken e m → record { e = e; m = m } ≡ pairOf v
     go true true q = absurd (let z : _≡_ {A = ℕ} 0 1 = cc in omega arith)
     go true false q =
         let x : pairOf v .e ≡ e = cc in

@@ -1,19 +1,26 @@
 -- # Theorem 4: there and back
-use mathlib.Core.Path.{_≡_, sym, ap, _∙_}
+use mathlib.Core.Path.{_≡_, refl, sym, ap, _∙_}
 use mathlib.Core.Bool.{true, false}
-use mathlib.Core.List.{List}
+use mathlib.Core.List.{List, []}
 use Prim.Native.Nat.{ℕ}
+use native.Mathlib.Omega.{arith}
+use lib.ListN.{length}
 use lib.IntN.{ℤ}
 use Rattle.numbers.specs.BigEndian.{bytesOf}
+use Rattle.numbers.specs.Outcome.{taken, refused, Outcome}
 use Rattle.numbers.proofs.ByteLaws.{Bytes}
 use Rattle.sample.specs.Value.{exactValue}
 use Rattle.sample.specs.Pair.{pairOf, valueOf, isCanonical}
-use Rattle.sample.specs.Reading.{isCode, badGain, readWord}
+use Rattle.sample.specs.Reading.{readWord}
 use Rattle.sample.specs.Writing.{writePair}
+use Rattle.sample.specs.Calls.{pairIn, readSaid, readOutcome, writeSaid, writeOutcome}
 use Rattle.sample.specs.declared.Pair.{Pair}
+use Rattle.sample.specs.declared.Sample.{Sample}
+use Rattle.sample.specs.declared.Sample.the-variants as sample
+use Rattle.sample.specs.declared.Written.{Written}
 use Rattle.sample.specs.declared.Sample.the-variants.{Taken}
-use Rattle.sample.specs.declared.Written.the-variants.{Word}
-use Rattle.sample_theorems.proofs.Pairs.{value-pair-back, reading-value, reading-canonical, reading-takes}
+use Rattle.sample.specs.declared.Written.the-variants.{Word, Refused}
+use Rattle.sample_theorems.proofs.Pairs.{bytes-pair, pair-bytes, taken-code, value-pair-back, reading-value, reading-canonical, reading-takes}
 use Rattle.sample_theorems.proofs.Words.{Normal, Writes, written-is, writing-sound, writing-complete, writing-normal}
 
 -- THEOREM 4. A pair that is written under a code, and the word read under that code, give the pair again.
@@ -31,10 +38,10 @@ pub record Back (code : ℕ) (w : List ℕ) (p : Pair) (n : ℕ) : Type 0 where
   pub normal : code ≡ 1 → Normal n
 
 -- A word that is read is never refused when its pair is written under the same code.
-pub read-write : (code : ℕ) (w : List ℕ) (e m : ℤ) → isCode code ≡ true → Bytes w → readWord code w ≡ Taken e m → (n : ℕ) × Back code w (record { e = e; m = m }) n
-read-write code w e m h b t =
+pub read-write : (code : ℕ) (w : List ℕ) (e m : ℤ) → Bytes w → readWord code w ≡ Taken e m → (n : ℕ) × Back code w (record { e = e; m = m }) n
+read-write code w e m b t =
     let p : Pair = record { e = e; m = m } in
-    let x = writing-complete code p w h (reading-canonical code w e m b t) b (sym (reading-value code w e m t)) in (
+    let x = writing-complete code p w (taken-code code w e m t) (reading-canonical code w e m b t) b (sym (reading-value code w e m t)) in (
       x .0,
       record {
         word = x .1;
@@ -42,3 +49,28 @@ read-write code w e m h b t =
         normal = λ q. writing-normal p (x .0) (ap (λ (c : ℕ). writePair c p) (sym q) ∙ x .1);
       },
     )
+
+-- ## The two calls, by the bytes that they hand out
+
+-- Six bytes that are written, and the word read under the same code, give the six bytes again.
+pub calls-write-read : (code : ℕ) (b : List ℕ) → length b ≡ 6 → Bytes b → writeOutcome code b .said ≡ taken []
+    → readOutcome code (writeOutcome code b .bytes) ≡ record { said = taken []; bytes = b }
+calls-write-read code b k h t = go (writePair code (pairIn b)) refl t
+  where
+    go : (r : Written) → writePair code (pairIn b) ≡ r → writeSaid r .said ≡ taken [] → readOutcome code (writeSaid r .bytes) ≡ record { said = taken []; bytes = b }
+    go (Word n) e q = ap readSaid (write-read code (pairIn b) n e) ∙ ap (λ (l : List ℕ). outcome l) (pair-bytes b k h)
+      where
+        outcome : List ℕ → Outcome
+        outcome l = record { said = taken []; bytes = l }
+    go (Refused n) e q = absurd (let z : _≡_ {A = ℕ} 0 1 = cc in omega arith)
+
+-- A word that is read is not refused when the six bytes are written under the same code.
+pub calls-read-write : (code : ℕ) (w : List ℕ) → Bytes w → readOutcome code w .said ≡ taken [] → writeOutcome code (readOutcome code w .bytes) .said ≡ taken []
+calls-read-write code w h t = go (readWord code w) refl t
+  where
+    go : (r : Sample) → readWord code w ≡ r → readSaid r .said ≡ taken [] → writeOutcome code (readSaid r .bytes) .said ≡ taken []
+    go (sample.Taken e m) x q =
+        let p : Pair = record { e = e; m = m } in
+        let y = read-write code w e m h x in
+        ap (λ (b : Pair). writeSaid (writePair code b) .said) (bytes-pair p (reading-canonical code w e m h x)) ∙ ap (λ (r : Written). writeSaid r .said) (y .1 .word)
+    go (sample.Refused n) x q = absurd (let z : _≡_ {A = ℕ} 0 1 = cc in omega arith)

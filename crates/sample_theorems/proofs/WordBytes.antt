@@ -1,13 +1,13 @@
 -- The numbers in the bytes of a word. Assumes nothing.
 use mathlib.Core.Path.{_≡_, refl, sym, ap, _∙_}
-use mathlib.Core.List.{List, [], _∷_}
+use mathlib.Core.List.{List, [], _∷_, _++_}
 use Prim.Native.Nat.{ℕ, zero, suc, _+_, _*_, _/_, _%_, _^_, _<_}
 use native.Mathlib.Nat.{zero-add, div-one}
 use native.Mathlib.Omega.{arith}
 use lib.ListN.{length, getD}
 use Rattle.numbers.specs.Walk.{bytesAt}
 use Rattle.numbers.specs.BigEndian.{number, bytesOf}
-use Rattle.numbers.proofs.WalkLaws.{all-at, size-bytes}
+use Rattle.numbers.proofs.WalkLaws.{all-at, size-bytes, cons-eq}
 use Rattle.numbers.proofs.ByteLaws.{Bytes, number-lt, number-bytes}
 
 -- each byte of a word is a byte, also past its end, where 0 is read
@@ -33,6 +33,14 @@ word-number n h = number-bytes 4 n h
 pub first-half : (n : ℕ) → n < 2 ^ 16 → number (bytesAt (bytesOf 4 (n * 2 ^ 16)) 0 2) ≡ n
 unfolding bytesAt
 first-half n h = omega arith
+
+pub half-bytes : (n : ℕ) → n < 2 ^ 16 → bytesOf 4 (n * 2 ^ 16) ≡ bytesOf 2 n ++ (0 ∷ 0 ∷ [])
+half-bytes n h =
+    let a : n * 2 ^ 16 / 256 ^ 3 % 256 ≡ n / 256 ^ 1 % 256 = omega arith in
+    let b : n * 2 ^ 16 / 256 ^ 2 % 256 ≡ n / 256 ^ 0 % 256 = omega arith in
+    let c : n * 2 ^ 16 / 256 ^ 1 % 256 ≡ 0 = omega arith in
+    let d : n * 2 ^ 16 / 256 ^ 0 % 256 ≡ 0 = omega arith in
+    cons-eq a (cons-eq b (cons-eq c (cons-eq d refl)))
 
 -- the bytes of a gain word
 pub gain-first : (g d : ℕ) → g < 256 → d < 2 ^ 16 → getD (bytesOf 4 (g * 2 ^ 16 + d)) 0 0 ≡ 0

@@ -4,7 +4,7 @@
 use mathlib.Core.Path.{_≡_, refl, sym, ap, ap₂, _∙_, subst}
 use mathlib.Core.Logic.{_⊎_, inl, inr, ⊎-elim}
 use mathlib.Core.Bool.{Bool, true, false, not, _&&_}
-use mathlib.Core.List.{List}
+use mathlib.Core.List.{List, [], _∷_, _++_}
 use Prim.Native.Nat.{ℕ, zero, suc, _+_, _-_, _*_, _/_, _%_, _^_, _≤_, _<_}
 use native.Mathlib.Nat.{mul-one, eq-or-lt-of-le}
 use native.Mathlib.Omega.{arith}
@@ -17,7 +17,7 @@ use Rattle.numbers.specs.Walk.{pick, bytesAt}
 use Rattle.numbers.specs.BigEndian.{number, bytesOf}
 use Rattle.numbers.specs.TwosComplement.{signedOf, bitsOf}
 use Rattle.numbers.proofs.ByteLaws.{Bytes}
-use Rattle.numbers.proofs.SignLaws.{below-or, bits-lt}
+use Rattle.numbers.proofs.SignLaws.{below-or, bits-lt, bits-signed}
 use Rattle.sample.specs.Value.{denominatorPower, signMagnitude, signBit, characteristic, fraction, ibmValue, wholeValue, gainValue, exactValue}
 use Rattle.sample.specs.Pair.{valueOf, isCanonical}
 use Rattle.sample.specs.Reading.{isCode, badGain}
@@ -27,9 +27,9 @@ use Rattle.sample.specs.declared.Written.{Written}
 use Rattle.sample.specs.declared.Written.the-variants.{Word, Refused}
 use Rattle.sample.proofs.First.{Found, found}
 use Rattle.sample.proofs.Magnitudes.{abs-signed, neg-signed, signed-back}
-use Rattle.sample_theorems.proofs.Held.{and-true, in-mag, held-sound, held-complete}
+use Rattle.sample_theorems.proofs.Held.{and-true, mul-quot, in-mag, held-sound, held-complete}
 use Rattle.sample_theorems.proofs.NormalWords.{no-fraction, Parts, parts, bits-parts, value-parts, At, normalise, one-at, written, writes}
-use Rattle.sample_theorems.proofs.WordBytes.{byte-at, number-at, word-number, first-half, gain-first, gain-byte, gain-half}
+use Rattle.sample_theorems.proofs.WordBytes.{byte-at, number-at, word-number, half-bytes, first-half, gain-first, gain-byte, gain-half}
 
 no-zero-one : _≡_ {A = ℕ} 0 1 → ⊥
 no-zero-one q = omega arith
@@ -255,7 +255,7 @@ sign-word : (n : ℕ) → (ibmValue n ≡ pos 0 → ⊥) → isNegative (ibmValu
 sign-word n z =
     neg-signed (signBit n) (fraction n * 16 ^ characteristic n) (rw (abs-signed (signBit n) (fraction n * 16 ^ characteristic n)) at (some-abs (ibmValue n) z))
 
--- THEOREM 3, code 1. The normal word is the only one of its value.
+-- THEOREM 3, code 1. No two normal words have the same value.
 pub normal-only : (n₁ n₂ : ℕ) → n₁ < 2 ^ 32 → n₂ < 2 ^ 32 → Normal n₁ → Normal n₂ → ibmValue n₁ ≡ ibmValue n₂ → n₁ ≡ n₂
 normal-only n₁ n₂ h₁ h₂ t₁ t₂ e = go (eqb (natAbs (ibmValue n₁)) 0) refl
   where
@@ -318,3 +318,24 @@ writing-least p n g d h b e =
     let serves : gainFits v g ≡ true = rw (← e) (gain-held g d b) in
     let is : getD (bytesOf 4 n) 1 0 ≡ x .0 = ap (λ (k : ℕ). getD (bytesOf 4 k) 1 0) (t .is) ∙ gain-byte (x .0) (x .1) (t .gain) (t .bits) in
     rw is (⊎-elim (λ (l : g < x .0). absurd (subst T (sym serves ∙ t .least g l) tt)) (λ (l : x .0 ≤ g). l) (below-or g (x .0)))
+
+-- THEOREM 3, codes 2 and 3. No other number of 32 bits, nor of 16, has the value of the word that is written: it is the number itself.
+whole-inj : (w : ℕ) (x y : ℕ) → 0 < w → x < 2 ^ w → y < 2 ^ w → wholeValue (signedOf w x) ≡ wholeValue (signedOf w y) → x ≡ y
+whole-inj w x y h a b e =
+    let p = 2 ^ denominatorPower in
+    let same : signedOf w x ≡ signedOf w y = sym (mul-quot p (signedOf w x) (pow-pos denominatorPower)) ∙ ap (numberOf p) e ∙ mul-quot p (signedOf w y) (pow-pos denominatorPower) in
+    sym (bits-signed w x h a) ∙ ap (bitsOf w) same ∙ bits-signed w y h b
+
+pub writing-32 : (p : Pair) (n k : ℕ) → writePair 2 p ≡ Word n → k < 2 ^ 32 → wholeValue (signedOf 32 k) ≡ valueOf p → k ≡ n
+writing-32 p n k h b e =
+    let s = writing-sound 2 p n h in
+    whole-inj 32 k n (omega arith) b (s .fit) (e ∙ sym (s .value) ∙ ap (λ (x : ℕ). wholeValue (signedOf 32 x)) (word-number n (s .fit)))
+
+-- Under code 3 that number is the word's first two bytes, and the last two are 00.
+pub writing-16 : (p : Pair) (n k : ℕ) → writePair 3 p ≡ Word n → k < 2 ^ 16 → wholeValue (signedOf 16 k) ≡ valueOf p → bytesOf 4 n ≡ bytesOf 2 k ++ (0 ∷ 0 ∷ [])
+writing-16 p n k h b e =
+    let t = whole-is 16 (2 ^ 16) (valueOf p) n (written-is 3 p n h .2) in
+    let q = bitsOf 16 (numberOf (2 ^ denominatorPower) (valueOf p)) in
+    let l = held-lt 16 (2 ^ denominatorPower) (valueOf p) (omega arith) (t .0) in
+    let same : q ≡ k = whole-inj 16 q k (omega arith) l b (held-sound 16 (2 ^ denominatorPower) (valueOf p) (omega arith) (t .0) ∙ sym e) in
+    ap (bytesOf 4) (t .1 ∙ ap (λ (x : ℕ). x * 2 ^ 16) same) ∙ half-bytes k b

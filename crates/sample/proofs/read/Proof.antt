@@ -1,18 +1,11 @@
 -- `sample::read` meets its contract. Assumes nothing.
 use Rattle.sample.proofs.Codes.{no-code}
-use Rattle.sample.specs.declared.Sample.{Sample}
 use Rattle.numbers.specs.Walk.{pick, bytesAt}
-use lib.ListN.{getD}
-use lib.Dec.{eqb}
 use mathlib.Core.Bool.{Bool, true, false, not}
 use mathlib.Core.Path.{_≡_, refl}
 use borrow.Author.Needs.{needs}
 use Rattle.sample.proofs.read.Statement.{statement}
 use Rattle.sample.proofs.read.Tie as tie
-
-swap : (t : Bool) (a b : Sample) → pick (not t) a b ≡ pick t b a
-swap true a b = refl
-swap false a b = refl
 
 array-read-be32 : tie.Need-array-read-be32
 array-read-be32 c = search needs
@@ -68,14 +61,11 @@ array-read-gain c = search needs
 array-read-gain-2 : tie.Need-array-read-gain-2
 array-read-gain-2 c = search needs
 
-array-read-be16-3 : tie.Need-array-read-be16-3
-array-read-be16-3 c = search needs
+array-read-gain-3 : tie.Need-array-read-gain-3
+array-read-gain-3 c = search needs
 
-array-read-be16-4 : tie.Need-array-read-be16-4
-array-read-be16-4 c = search needs
-
-be16-requires-2 : tie.Need-be16-requires-2
-be16-requires-2 c κs = search needs
+array-read-gain-4 : tie.Need-array-read-gain-4
+array-read-gain-4 c = search needs
 
 gain-requires : tie.Need-gain-requires
 gain-requires c κs = search needs
@@ -94,9 +84,7 @@ returns-3 c = rw (c .before .before .match .keys3, ← (c .before .be16 .ensures
 
 returns-4 : tie.Need-returns-4
 unfolding bytesAt
-returns-4 c =
-    let w = c .before .before .before .args .t2 in
-    rw (c .before .before .match .keys4, swap (eqb (getD w 0 0) 0), ← (c .before .be162 .ensures)) (c .gain .ensures)
+returns-4 c = rw (c .before .match .keys4) (c .gain .ensures)
 
 returns-5 : tie.Need-returns-5
 returns-5 c =
@@ -125,9 +113,8 @@ read-spec =
     whole16-requires
     array-read-gain
     array-read-gain-2
-    array-read-be16-3
-    array-read-be16-4
-    be16-requires-2
+    array-read-gain-3
+    array-read-gain-4
     gain-requires
     returns
     returns-2
