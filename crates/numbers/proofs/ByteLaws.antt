@@ -1,13 +1,14 @@
 -- A number and its bytes determine each other, at every width. Assumes nothing.
 use mathlib.Core.Path.{_≡_, refl, sym, ap, _∙_}
-use mathlib.Core.List.{List, [], _∷_}
+use mathlib.Core.List.{List, [], _∷_, _++_}
 use Prim.Native.Nat.{ℕ, zero, suc, _+_, _*_, _/_, _%_, _^_, _<_}
 use native.Mathlib.Nat.{mod-one, mul-one, add-zero, pow-suc, one-le-pow, zero-lt-suc, mul-assoc, mul-comm, add-assoc, mod-eq-of-lt, zero-mul, zero-add, add-mul, mul-add-div-right, mul-add-mod-self-right}
 use native.Mathlib.Omega.{arith}
 use lib.Arith.{mod-mul, digits-div, digits-mod, digits-lt}
-use lib.ListN.{length}
+use lib.ListN.{length, getD}
 use lib.Pow.{pow-add}
-use Rattle.numbers.proofs.WalkLaws.{All, cons-eq}
+use Rattle.numbers.proofs.WalkLaws.{All, all-at, cons-eq, size-bytes}
+use Rattle.numbers.specs.Walk.{walk, bytesAt}
 use Rattle.numbers.specs.BigEndian.{numberAfter, number, bytesOf}
 
 -- Each element of a list is a byte.
@@ -66,3 +67,35 @@ bytes-number (b ∷ l) h =
     rw (first-is b l)
     (cons-eq (ap (λ (x : ℕ). x % 256) (digits-div b (number-lt l (h .1))) ∙ mod-eq-of-lt (h .0))
     (ap (λ (x : ℕ). bytesOf k (b * 256 ^ x + n)) (sym (zero-add k)) ∙ low-bytes k 0 b n ∙ bytes-number l (h .1)))
+
+-- ## Bytes by offset
+
+-- a list of bytes has a byte at every offset: past its end 0 is read
+pub byte-at : (s : List ℕ) → Bytes s → (i : ℕ) → getD s i 0 < 256
+byte-at [] h i = omega arith
+byte-at (b ∷ s) h zero = h .0
+byte-at (b ∷ s) h (suc i) = byte-at s (h .1) i
+
+pub bytes-at : (s : List ℕ) → Bytes s → (at k : ℕ) → Bytes (bytesAt s at k)
+unfolding bytesAt
+bytes-at s h at k = all-at (λ b. b < 256) (λ a. getD s a 0) (byte-at s h) 1 k at
+
+-- the number in k bytes, and those bytes again
+pub number-at : (s : List ℕ) → Bytes s → (at k : ℕ) → number (bytesAt s at k) < 256 ^ k
+number-at s h at k = rw (size-bytes s at k) at (number-lt (bytesAt s at k) (bytes-at s h at k))
+
+pub bytes-again : (s : List ℕ) → Bytes s → (at k : ℕ) → bytesOf k (number (bytesAt s at k)) ≡ bytesAt s at k
+bytes-again s h at k =
+    ap (λ (n : ℕ). bytesOf n (number (bytesAt s at k))) (sym (size-bytes s at k)) ∙ bytes-number (bytesAt s at k) (bytes-at s h at k)
+
+walk-append : (f : ℕ → ℕ) (k j at : ℕ) → walk f 1 (k + j) at ≡ walk f 1 k at ++ walk f 1 j (at + k)
+walk-append f zero j at = rw (zero-add, add-zero)
+walk-append f (suc k) j at =
+    let n : suc k + j ≡ suc (k + j) = omega arith in
+    let m : at + suc k ≡ at + 1 + k = omega arith in
+    rw (n, m) (ap (λ (l : List ℕ). f at ∷ l) (walk-append f k j (at + 1)))
+
+-- k bytes, and the j bytes behind them
+pub bytes-append : (s : List ℕ) (at k j : ℕ) → bytesAt s at (k + j) ≡ bytesAt s at k ++ bytesAt s (at + k) j
+unfolding bytesAt
+bytes-append s at k j = walk-append (λ a. getD s a 0) k j at

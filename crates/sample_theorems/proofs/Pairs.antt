@@ -19,8 +19,8 @@ use lib.Seq.{take-all}
 use Rattle.numbers.specs.Walk.{pick, bytesAt}
 use Rattle.numbers.specs.BigEndian.{number, bytesOf}
 use Rattle.numbers.specs.TwosComplement.{signedOf, bitsOf}
-use Rattle.numbers.proofs.WalkLaws.{size-bytes, bytes-part}
-use Rattle.numbers.proofs.ByteLaws.{Bytes, number-bytes, bytes-number}
+use Rattle.numbers.proofs.WalkLaws.{bytes-part}
+use Rattle.numbers.proofs.ByteLaws.{Bytes, number-bytes, number-at, bytes-again}
 use Rattle.numbers.proofs.SignLaws.{below-or, sub-below, sub-above, signed-bits, bits-signed, bits-lt, mag-signed}
 use Rattle.sample.specs.Value.{denominatorPower, signMagnitude, characteristic, fraction, signBit, ibmValue, wholeValue, gainValue, exactValue}
 use Rattle.sample.specs.Pair.{highestExponent, mantissaBits, pairOf, valueOf, isExponent, isMantissa, isCanonical}
@@ -36,7 +36,6 @@ use Rattle.sample.proofs.Pairs.{sub-add, pair-at, sixteens, value-pair}
 use Rattle.sample.proofs.Apart.{highest, odd-yes}
 use Rattle.sample.proofs.IbmLaws.{grow}
 use Rattle.sample_theorems.proofs.Held.{and-true}
-use Rattle.sample_theorems.proofs.WordBytes.{bytes-at, number-at}
 
 -- A and B hold in the same cases.
 abbrev pub Iff : Type 0 → Type 0 → Type 0
@@ -132,18 +131,14 @@ bytes-pair p h =
     let y = ap (signedOf mantissaBits) (number-bytes 4 (bitsOf mantissaBits (p .m)) (bits-lt mantissaBits (p .m) (omega arith) (f .m))) ∙ signed-bits mantissaBits (p .m) (omega arith) (f .m) in
     sym (eta p _ _ (sym x) (sym y))
 
-bytes-again : (b : List ℕ) (at k : ℕ) → Bytes b → bytesOf k (number (bytesAt b at k)) ≡ bytesAt b at k
-bytes-again b at k h =
-    ap (λ (n : ℕ). bytesOf n (number (bytesAt b at k))) (sym (size-bytes b at k)) ∙ bytes-number (bytesAt b at k) (bytes-at b h at k)
-
 -- And the bytes of the pair of six bytes are those bytes, whether or not it is canonical: so no two lists of six bytes give one pair.
 pub pair-bytes : (b : List ℕ) → length b ≡ 6 → Bytes b → pairBytes (pairIn b .e) (pairIn b .m) ≡ b
 pair-bytes b n h =
     let x = bits-signed 16 (number (bytesAt b 0 2)) (omega arith) (number-at b h 0 2) in
     let y = bits-signed mantissaBits (number (bytesAt b 2 4)) (omega arith) (number-at b h 2 4) in
     let t : length (drop 2 b) ≤ 4 = simp length-drop (omega arith) in
-    let front = ap (bytesOf 2) x ∙ bytes-again b 0 2 h ∙ sym (bytes-part b 0 2 (omega arith)) in
-    let back = ap (bytesOf 4) y ∙ bytes-again b 2 4 h ∙ sym (bytes-part b 2 4 (omega arith)) ∙ take-all 4 (drop 2 b) t in
+    let front = ap (bytesOf 2) x ∙ bytes-again b h 0 2 ∙ sym (bytes-part b 0 2 (omega arith)) in
+    let back = ap (bytesOf 4) y ∙ bytes-again b h 2 4 ∙ sym (bytes-part b 2 4 (omega arith)) ∙ take-all 4 (drop 2 b) t in
     ap₂ (λ (k l : List ℕ). k ++ l) front back ∙ take-append-drop 2 b
 
 -- ## Reading

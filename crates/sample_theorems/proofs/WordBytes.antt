@@ -7,22 +7,8 @@ use native.Mathlib.Omega.{arith}
 use lib.ListN.{length, getD}
 use Rattle.numbers.specs.Walk.{bytesAt}
 use Rattle.numbers.specs.BigEndian.{number, bytesOf}
-use Rattle.numbers.proofs.WalkLaws.{all-at, size-bytes, cons-eq}
-use Rattle.numbers.proofs.ByteLaws.{Bytes, number-lt, number-bytes}
-
--- each byte of a word is a byte, also past its end, where 0 is read
-pub byte-at : (w : List ℕ) → Bytes w → (i : ℕ) → getD w i 0 < 256
-byte-at [] h i = omega arith
-byte-at (b ∷ w) h zero = h .0
-byte-at (b ∷ w) h (suc i) = byte-at w (h .1) i
-
-pub bytes-at : (w : List ℕ) → Bytes w → (at k : ℕ) → Bytes (bytesAt w at k)
-unfolding bytesAt
-bytes-at w h at k = all-at (λ b. b < 256) (λ a. getD w a 0) (byte-at w h) 1 k at
-
--- the number in k bytes of a word
-pub number-at : (w : List ℕ) → Bytes w → (at k : ℕ) → number (bytesAt w at k) < 256 ^ k
-number-at w h at k = rw (size-bytes w at k) at (number-lt (bytesAt w at k) (bytes-at w h at k))
+use Rattle.numbers.proofs.WalkLaws.{cons-eq}
+use Rattle.numbers.proofs.ByteLaws.{number-bytes}
 
 -- a word of 32 bits, by its bytes
 pub word-number : (n : ℕ) → n < 2 ^ 32 → number (bytesAt (bytesOf 4 n) 0 4) ≡ n

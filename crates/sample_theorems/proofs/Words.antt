@@ -16,7 +16,7 @@ use lib.ListN.{getD}
 use Rattle.numbers.specs.Walk.{pick, bytesAt}
 use Rattle.numbers.specs.BigEndian.{number, bytesOf}
 use Rattle.numbers.specs.TwosComplement.{signedOf, bitsOf}
-use Rattle.numbers.proofs.ByteLaws.{Bytes}
+use Rattle.numbers.proofs.ByteLaws.{Bytes, byte-at, number-at}
 use Rattle.numbers.proofs.SignLaws.{below-or, bits-lt, bits-signed}
 use Rattle.sample.specs.Value.{denominatorPower, signMagnitude, signBit, characteristic, fraction, ibmValue, wholeValue, gainValue, exactValue}
 use Rattle.sample.specs.Pair.{valueOf, isCanonical}
@@ -29,7 +29,7 @@ use Rattle.sample.proofs.First.{Found, found}
 use Rattle.sample.proofs.Magnitudes.{abs-signed, neg-signed, signed-back}
 use Rattle.sample_theorems.proofs.Held.{and-true, mul-quot, in-mag, held-sound, held-complete}
 use Rattle.sample_theorems.proofs.NormalWords.{no-fraction, Parts, parts, bits-parts, value-parts, At, normalise, one-at, written, writes}
-use Rattle.sample_theorems.proofs.WordBytes.{byte-at, number-at, word-number, half-bytes, first-half, gain-first, gain-byte, gain-half}
+use Rattle.sample_theorems.proofs.WordBytes.{word-number, half-bytes, first-half, gain-first, gain-byte, gain-half}
 
 no-zero-one : _≡_ {A = ℕ} 0 1 → ⊥
 no-zero-one q = omega arith

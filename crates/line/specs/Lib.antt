@@ -1,0 +1,3 @@
+-- Decimal text, and the program's line.
+pub mod Decimal
+pub mod Line

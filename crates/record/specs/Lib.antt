@@ -1,0 +1,2 @@
+-- The record of a meaning.
+pub mod Record

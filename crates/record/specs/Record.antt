@@ -1,0 +1,59 @@
+-- The record of a meaning: tagged fields in the order that document 01 sets.
+use Prim.Native.Nat.{ℕ, _+_, _*_, _/_}
+use mathlib.Core.List.{List, [], _∷_, _++_, map}
+use lib.ListN.{length, take, drop}
+use lib.IntN.{ℤ, pos}
+use Rattle.numbers.specs.Walk.{flat}
+use Rattle.numbers.specs.BigEndian.{bytesOf}
+use Rattle.numbers.specs.TwosComplement.{bitsOf}
+use Rattle.sample.specs.Pair.{mantissaBits, pairOf}
+use Rattle.sample.specs.Calls.{pairBytes}
+use Rattle.reel.specs.Layout.{binaryWidths, traceWidths, samplesOf, tracesOf}
+use Rattle.reel.specs.Meaning.{Trace, Meaning, meaningOf}
+
+-- A tagged field: one byte of tag, two bytes of length, the content.
+unfoldable pub field : ℕ → List ℕ → List ℕ
+field tag l = tag ∷ (bytesOf 2 (length l) ++ l)
+
+-- Header numbers, each in its field's bytes.
+abbrev pub numberBytes : List ℕ → List ℤ → List ℕ
+numberBytes [] zs = []
+numberBytes (w ∷ ws) [] = []
+numberBytes (w ∷ ws) (z ∷ zs) = bytesOf w (bitsOf (8 * w) z) ++ numberBytes ws zs
+
+-- The binary fields, the format code replaced by 0: it is the tenth of the 27, and its number is not among the 26 of a meaning.
+abbrev pub withCode : List ℤ → List ℤ
+withCode zs = take 9 zs ++ (pos 0 ∷ drop 9 zs)
+
+unfoldable pub binaryBytes : List ℤ → List ℕ
+binaryBytes zs = numberBytes binaryWidths (withCode zs)
+
+-- A sample: the six bytes of the canonical pair of its value.
+abbrev pub valueBytes : ℤ → List ℕ
+valueBytes v = pairBytes (pairOf v .e) (pairOf v .m)
+
+-- The bytes of a pair.
+abbrev pub pairLength : ℕ
+pairLength = 2 + mantissaBits / 8
+
+-- The samples of a trace as they stand in the record: one field with tag 04.
+unfoldable pub samplesField : List ℤ → List ℕ
+samplesField vs = field 4 (flat (map valueBytes vs))
+
+-- A trace: tag 03 with its 71 fields, then its samples.
+unfoldable pub traceBytes : Trace → List ℕ
+traceBytes t = field 3 (numberBytes traceWidths (t .numbers)) ++ samplesField (t .values)
+
+-- The record of a meaning: tag 01 with the card bytes, tag 02 with the binary fields, the traces, and tag 05 with their count.
+unfoldable pub recordOf : Meaning → List ℕ
+recordOf m =
+    field 1 (m .cards)
+    ++ (field 2 (binaryBytes (m .binary)) ++ (flat (map traceBytes (m .traces)) ++ field 5 (bytesOf 4 (length (m .traces)))))
+
+-- The record of a reel is that of what it means.
+abbrev pub reelRecord : List ℕ → List ℕ
+reelRecord s = recordOf (meaningOf s)
+
+-- A record of t traces of n samples is 3273 + t × (186 + 6n) bytes.
+abbrev pub recordLength : ℕ → ℕ → ℕ
+recordLength t n = 3273 + t * (186 + pairLength * n)

@@ -1,0 +1,133 @@
+-- What a reel's checks find, and what follows where they find nothing. Assumes nothing.
+use mathlib.Core.Path.{_≡_, refl, sym, ap, _∙_, subst}
+use mathlib.Core.Logic.{⊎-elim}
+use mathlib.Core.List.{List, [], _∷_}
+use mathlib.Core.Bool.{Bool, true, false, not, _&&_}
+use Prim.Native.Nat.{ℕ, zero, suc, _+_, _-_, _*_, _/_, _%_, _^_, _≤_, _<_}
+use native.Mathlib.Nat.{mul-le-mul, div-mul-le-self}
+use native.Mathlib.Omega.{arith}
+use borrow.Author.Tests.{lt-ltb, lt-leb, le-leb, leb-true, ne-eqb, ltb-false}
+use lib.Dec.{T, leb, ltb, eqb}
+use lib.ListN.{length, getD}
+use Rattle.numbers.specs.Walk.{pick, walk, bytesAt}
+use Rattle.numbers.specs.Cause.{refuseIf, then, firstOf}
+use Rattle.numbers.specs.Places.{placeNo, byteNo, located}
+use Rattle.numbers.specs.declared.Check.{Check}
+use Rattle.numbers.specs.declared.Check.the-variants.{Fine, Refused}
+use Rattle.numbers.specs.declared.Place.{Place}
+use Rattle.numbers.specs.declared.ByteNo.{ByteNo}
+use Rattle.numbers.specs.declared.Located.{Located}
+use Rattle.numbers.specs.declared.Located.the-variants.{At, Nowhere}
+use Rattle.numbers.proofs.CauseLaws.{passed, then-fine}
+use Rattle.sample.specs.Reading.{isCode, badGain, readWord, pairTaken}
+use Rattle.sample.specs.Value.{exactValue}
+use Rattle.sample.specs.declared.Sample.{Sample}
+use Rattle.sample.specs.declared.Sample.the-variants as sample
+use Rattle.reel.specs.Layout.{firstTrace, word, samplesOf, codeOf, intervalOf, sampleBytes, stride, strideOf, tracesOf, leftOver}
+use Rattle.reel.specs.Causes.{mostSamples, mostTraces, within, neither, headerCauses, sizeCauses, wordCause, wordRefused, traceCauses, behindCauses, causesOf}
+
+-- ## Places
+
+-- a field's place, where byte number 1 stands at `start`
+pub located-at : (start : Place) (b : ByteNo) → 1 ≤ byteNo b → placeNo start + byteNo b < 2 ^ 64 → located start b ≡ At (record { 0 = placeNo start + (byteNo b - 1) })
+located-at start b h l = rw (le-leb 1 (byteNo b) h, lt-ltb (placeNo start + (byteNo b - 1)) (2 ^ 64) (omega arith))
+
+-- ## Rows
+
+pub then-last : (c : Check) → then c Fine ≡ c
+then-last Fine = refl
+then-last (Refused number place) = refl
+
+-- a word's refusal under code 4
+pub gain-refused : (w : List ℕ) (at : ℕ) → wordRefused (readWord 4 w) at ≡ refuseIf (badGain 4 w) 9 at
+gain-refused w at = go (badGain 4 w) (exactValue 4 w)
+  where
+    go : (b : Bool) (v : _) → wordRefused (pick b (sample.Refused 9) (pairTaken v)) at ≡ refuseIf b 9 at
+    go true v = refl
+    go false v = refl
+
+-- under another code no word is refused
+pub no-gain : (s : List ℕ) (code : ℕ) → (code ≡ 4 → ⊥) → (w k at : ℕ) → firstOf (walk (wordCause s code) w k at) ≡ Fine
+no-gain s code h w zero at = refl
+no-gain s code h w (suc k) at = rw (ne-eqb code 4 h) (no-gain s code h w k (at + w))
+
+-- ## Where nothing is found
+
+both-true : (a b : Bool) → not (a && b) ≡ false → (a ≡ true) × (b ≡ true)
+both-true true true e = (refl, refl)
+both-true true false e = absurd (subst T e tt)
+both-true false b e = absurd (subst T e tt)
+
+pub in-limits : (a b n number place : ℕ) → refuseIf (not (within a b n)) number place ≡ Fine → (a ≤ n) × (n ≤ b)
+in-limits a b n number place e =
+    let t = both-true (leb a n) (leb n b) (passed (not (within a b n)) number place e) in
+    (leb-true a n (t .0), leb-true n b (t .1))
+
+-- the header's numbers are within their limits
+pub record Numbers (code n i : ℕ) : Type 0 where
+  pub code-low : 1 ≤ code
+  pub code-high : code ≤ 4
+  pub n-low : 1 ≤ n
+  pub n-high : n ≤ mostSamples
+  pub i-low : 1 ≤ i
+  pub i-high : i ≤ 32767
+
+pub header-fine : (code n i : ℕ) → headerCauses code n i ≡ Fine → Numbers code n i
+header-fine code n i e =
+    let a = then-fine (refuseIf (not (isCode code)) 2 3224) _ e in
+    let b = then-fine (refuseIf (not (within 1 mostSamples n)) 3 3220) _ (a .1) in
+    let c = then-fine (refuseIf (not (within 1 32767 i)) 4 3216) _ (b .1) in
+    let x = in-limits 1 4 code 2 3224 (a .0) in
+    let y = in-limits 1 mostSamples n 3 3220 (b .0) in
+    let z = in-limits 1 32767 i 4 3216 (c .0) in
+    record { code-low = x .0; code-high = x .1; n-low = y .0; n-high = y .1; i-low = z .0; i-high = z .1 }
+
+-- a sample has two or four bytes
+pub width-low : (code : ℕ) → 2 ≤ sampleBytes code
+width-low code = go (eqb code 3)
+  where
+    go : (b : Bool) → 2 ≤ pick b 2 4
+    go true = omega arith
+    go false = omega arith
+
+pub width-high : (code : ℕ) → sampleBytes code ≤ 4
+width-high code = go (eqb code 3)
+  where
+    go : (b : Bool) → pick b 2 4 ≤ 4
+    go true = omega arith
+    go false = omega arith
+
+-- a trace is from 240 to 32,240 bytes
+pub stride-high : (code n : ℕ) → n ≤ mostSamples → stride n (sampleBytes code) ≤ 32240
+stride-high code n h = let l = mul-le-mul h (width-high code) in omega arith
+
+-- what a reel is to which no cause applies
+pub record Sound (s : List ℕ) : Type 0 where
+  pub long : firstTrace ≤ length s
+  pub numbers : Numbers (codeOf s) (samplesOf s) (intervalOf s)
+  pub whole : leftOver s ≡ 0
+  pub few : tracesOf s ≤ mostTraces
+  pub traces : firstOf (walk (traceCauses s (codeOf s) (samplesOf s) (intervalOf s)) (strideOf s) (tracesOf s) firstTrace) ≡ Fine
+
+pub reel-fine : (s : List ℕ) → causesOf s ≡ Fine → Sound s
+unfolding causesOf behindCauses
+reel-fine s e =
+    let a = then-fine (refuseIf (ltb (length s) firstTrace) 1 (length s)) _ e in
+    let b = then-fine (headerCauses (codeOf s) (samplesOf s) (intervalOf s)) _ (a .1) in
+    let c = then-fine (sizeCauses (length s) (strideOf s) (tracesOf s) (leftOver s)) _ (b .1) in
+    let d = then-fine (refuseIf (ltb 0 (leftOver s)) 5 (length s - leftOver s)) _ (c .0) in
+    let f = then-fine (refuseIf (ltb mostTraces (tracesOf s)) 6 (firstTrace + mostTraces * strideOf s)) _ (d .1) in
+    record {
+      long = ltb-false (length s) firstTrace (passed _ _ _ (a .0));
+      numbers = header-fine (codeOf s) (samplesOf s) (intervalOf s) (b .0);
+      whole = none (ltb-false 0 (leftOver s) (passed _ _ _ (d .0)));
+      few = ltb-false mostTraces (tracesOf s) (passed _ _ _ (f .0));
+      traces = c .1;
+    }
+  where
+    none : {n : ℕ} → n ≤ 0 → n ≡ 0
+    none h = omega arith
+
+-- the traces end where the reel ends
+pub inside : (s : List ℕ) → Sound s → firstTrace + tracesOf s * strideOf s ≤ length s
+inside s h = omega (arith, h .long, div-mul-le-self (length s - firstTrace) (strideOf s))

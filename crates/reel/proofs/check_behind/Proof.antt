@@ -1,0 +1,64 @@
+-- `reel::check_behind` meets its contract. Assumes nothing.
+use Rattle.reel.specs.Causes.{behindCauses}
+use Rattle.reel.specs.Layout.{firstTrace}
+use Rattle.numbers.proofs.CauseLaws.{then-stop, then-next}
+use lib.ListN.{length}
+use native.Mathlib.Nat.{mod-le, div-mul-le-self}
+use mathlib.Core.Path.{_≡_, sym, _∙_}
+use native.Mathlib.Omega.{arith}
+use borrow.Author.Needs.{needs}
+use Rattle.reel.proofs.check_behind.Statement.{statement}
+use Rattle.reel.proofs.check_behind.Tie as tie
+
+sub-t : tie.Need-sub-t
+sub-t c = search needs
+
+div-t : tie.Need-div-t
+div-t c = search needs
+
+sub-check-size : tie.Need-sub-check-size
+sub-check-size c = search needs
+
+rem-check-size : tie.Need-rem-check-size
+rem-check-size c = search needs
+
+check-size-requires : tie.Need-check-size-requires
+check-size-requires c κs =
+    let s = c .before in
+    let size = length (s .args .reel .now) in
+    (omega (arith, mod-le (size - firstTrace) (s .args .w)), s .pre .2)
+
+enum-told : tie.Need-enum-told
+enum-told c = search needs
+
+enum-told-2 : tie.Need-enum-told-2
+enum-told-2 c = search needs
+
+returns : tie.Need-returns
+unfolding behindCauses
+returns c = let e = c .before .before .check-size .ensures in e ∙ then-stop _ _ (sym e ∙ c .enum-told2 .given .1)
+
+check-traces-requires : tie.Need-check-traces-requires
+check-traces-requires c κs =
+    let s = c .before .before .before .before in
+    let size = length (s .args .reel .now) in
+    (s .pre .0, s .pre .1, omega (arith, div-mul-le-self (size - firstTrace) (s .args .w), s .pre .3))
+
+returns-2 : tie.Need-returns-2
+unfolding behindCauses
+returns-2 c = c .check-traces .ensures ∙ then-next _ _ (sym (c .before .before .before .check-size .ensures) ∙ c .before .enum-told .given .1)
+
+pub check-behind-spec : {M : Type 1} → statement M
+check-behind-spec =
+    tie.close
+    (tie.spec
+    sub-t
+    div-t
+    sub-check-size
+    rem-check-size
+    check-size-requires
+    enum-told
+    enum-told-2
+    returns
+    check-traces-requires
+    returns-2)

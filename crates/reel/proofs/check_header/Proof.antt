@@ -1,0 +1,94 @@
+-- `reel::check_header` meets its contract. Assumes nothing.
+use Rattle.reel.proofs.CheckLaws.{then-last}
+use Rattle.reel.specs.Causes.{mostSamples, within}
+use Rattle.sample.specs.Reading.{isCode}
+use Rattle.numbers.proofs.CauseLaws.{then-stop, then-next}
+use Rattle.numbers.specs.Cause.{refuseIf}
+use Prim.Native.Nat.{ℕ}
+use mathlib.Core.Bool.{not}
+use mathlib.Core.Path.{_≡_, sym, ap, _∙_}
+use borrow.Author.Needs.{needs}
+use Rattle.reel.proofs.check_header.Statement.{statement}
+use Rattle.reel.proofs.check_header.Tie as tie
+
+-- the three rows
+row1 : (c : tie.After-check-limits) → c .check-limits .result ≡ refuseIf (not (isCode (c .before .before .args .code))) 2 3224
+row1 c = c .check-limits .ensures ∙ ap (λ (x : ℕ). refuseIf (not (isCode (c .before .before .args .code))) 2 x) (c .before .field-at .ensures)
+
+row2 : (c : tie.After-check-limits2)
+    → let n = c .before .before .before .before .before .before .args .n in
+    c .check-limits2 .result ≡ refuseIf (not (within 1 mostSamples n)) 3 3220
+row2 c =
+    let n = c .before .before .before .before .before .before .args .n in
+    c .check-limits2 .ensures ∙ ap (λ (x : ℕ). refuseIf (not (within 1 mostSamples n)) 3 x) (c .before .field-at2 .ensures)
+
+row3 : (c : tie.After-check-limits3)
+    → let i = c .before .before .before .before .before .before .before .before .before .before .args .i in
+    c .check-limits3 .result ≡ refuseIf (not (within 1 32767 i)) 4 3216
+row3 c =
+    let i = c .before .before .before .before .before .before .before .before .before .before .args .i in
+    c .check-limits3 .ensures ∙ ap (λ (x : ℕ). refuseIf (not (within 1 32767 i)) 4 x) (c .before .field-at3 .ensures)
+
+field-at-requires : tie.Need-field-at-requires
+field-at-requires c κs = search needs
+
+check-limits-requires : tie.Need-check-limits-requires
+check-limits-requires c κs = search needs
+
+enum-told : tie.Need-enum-told
+enum-told c = search needs
+
+enum-told-2 : tie.Need-enum-told-2
+enum-told-2 c = search needs
+
+returns : tie.Need-returns
+returns c = let e = row1 (c .before .before) in e ∙ then-stop _ _ (sym e ∙ c .enum-told2 .given .1)
+
+field-at-requires-2 : tie.Need-field-at-requires-2
+field-at-requires-2 c κs = search needs
+
+check-limits-requires-2 : tie.Need-check-limits-requires-2
+check-limits-requires-2 c κs = search needs
+
+enum-told-3 : tie.Need-enum-told-3
+enum-told-3 c = search needs
+
+enum-told-4 : tie.Need-enum-told-4
+enum-told-4 c = search needs
+
+returns-2 : tie.Need-returns-2
+returns-2 c =
+    let b = c .before .before in
+    let a = b .before .before in
+    let e = row2 b in
+    e ∙ then-stop _ _ (sym e ∙ c .enum-told4 .given .1) ∙ then-next _ _ (sym (row1 (a .before .before)) ∙ a .enum-told .given .1)
+
+field-at-requires-3 : tie.Need-field-at-requires-3
+field-at-requires-3 c κs = search needs
+
+check-limits-requires-3 : tie.Need-check-limits-requires-3
+check-limits-requires-3 c κs = search needs
+
+returns-3 : tie.Need-returns-3
+returns-3 c =
+    let b = c .before .before in
+    let a = b .before .before .before .before in
+    row3 c ∙ sym (then-last _) ∙ then-next _ _ (sym (row2 (b .before .before)) ∙ b .enum-told3 .given .1) ∙ then-next _ _ (sym (row1 (a .before .before)) ∙ a .enum-told .given .1)
+
+pub check-header-spec : {M : Type 1} → statement M
+check-header-spec =
+    tie.close
+    (tie.spec
+    field-at-requires
+    check-limits-requires
+    enum-told
+    enum-told-2
+    returns
+    field-at-requires-2
+    check-limits-requires-2
+    enum-told-3
+    enum-told-4
+    returns-2
+    field-at-requires-3
+    check-limits-requires-3
+    returns-3)

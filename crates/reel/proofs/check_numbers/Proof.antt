@@ -1,0 +1,64 @@
+-- `reel::check_numbers` meets its contract. Assumes nothing.
+use Rattle.reel.proofs.CheckLaws.{header-fine}
+use Rattle.reel.specs.Causes.{behindCauses}
+use Rattle.reel.specs.Layout.{stride}
+use Rattle.numbers.proofs.CauseLaws.{then-stop, then-next}
+use native.Mathlib.Nat.{mul-le-mul}
+use Prim.Native.Nat.{ℕ, _*_, _≤_}
+use mathlib.Core.Path.{_≡_, refl, sym, ap, _∙_}
+use native.Mathlib.Omega.{arith}
+use borrow.Author.Needs.{needs}
+use Rattle.reel.proofs.check_numbers.Statement.{statement}
+use Rattle.reel.proofs.check_numbers.Tie as tie
+
+-- a trace's samples are at most 32,000 bytes
+small : (c : tie.After-width-of) → c .before .before .before .before .before .args .n * c .width-of .result ≤ 32000
+small c =
+    let a = c .before .before .before .before .before .args in
+    let f = header-fine (a .code) (a .n) (a .i) (sym (c .before .before .before .check-header .ensures) ∙ c .before .enum-told .given .1) in
+    mul-le-mul (f .n-high) (c .width-of .ensures .2)
+
+check-header-requires : tie.Need-check-header-requires
+check-header-requires c κs = search needs
+
+enum-told : tie.Need-enum-told
+enum-told c = search needs
+
+enum-told-2 : tie.Need-enum-told-2
+enum-told-2 c = search needs
+
+returns : tie.Need-returns
+returns c = let e = c .before .before .check-header .ensures in e ∙ then-stop _ _ (sym e ∙ c .enum-told2 .given .1)
+
+width-of-requires : tie.Need-width-of-requires
+width-of-requires c κs = search needs
+
+mul-check-behind : tie.Need-mul-check-behind
+mul-check-behind c = omega (arith, small c)
+
+add-check-behind : tie.Need-add-check-behind
+add-check-behind c = omega (arith, small c)
+
+check-behind-requires : tie.Need-check-behind-requires
+check-behind-requires c κs = (c .width-of .ensures .0, refl, omega (arith, small c), c .before .before .before .before .before .pre)
+
+returns-2 : tie.Need-returns-2
+returns-2 c =
+    let a = c .before .before .before .before .before .before .args in
+    let h = c .before .before in
+    c .check-behind .ensures ∙ ap (λ (x : ℕ). behindCauses (a .reel .now) (a .code) (a .n) (a .i) (stride (a .n) x)) (c .before .width-of .ensures .0)
+    ∙ then-next _ _ (sym (h .before .before .check-header .ensures) ∙ h .enum-told .given .1)
+
+pub check-numbers-spec : {M : Type 1} → statement M
+check-numbers-spec =
+    tie.close
+    (tie.spec
+    check-header-requires
+    enum-told
+    enum-told-2
+    returns
+    width-of-requires
+    mul-check-behind
+    add-check-behind
+    check-behind-requires
+    returns-2)

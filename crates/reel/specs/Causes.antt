@@ -1,0 +1,87 @@
+-- The causes 1 to 9 against a reel, in the order of document 01's table, each with what stands beside it.
+use Prim.Native.Nat.{ℕ, _+_, _-_, _*_, _/_, _%_}
+use mathlib.Core.List.{List, [], _∷_}
+use mathlib.Core.Bool.{Bool, not, _&&_}
+use lib.ListN.{length, getD}
+use lib.Dec.{leb, ltb, eqb}
+use Rattle.numbers.specs.Walk.{walk, bytesAt}
+use Rattle.numbers.specs.Cause.{refuseIf, then, firstOf}
+use Rattle.numbers.specs.declared.Check.{Check}
+use Rattle.numbers.specs.declared.Check.the-variants.{Fine, Refused}
+use Rattle.reel.specs.declared.Checked.{Checked}
+use Rattle.reel.specs.declared.Checked.the-variants as fine
+use Rattle.sample.specs.Reading.{isCode, badGain}
+use Rattle.sample.specs.declared.Sample.{Sample}
+use Rattle.sample.specs.declared.Sample.the-variants as sample
+use Rattle.reel.specs.Layout.{firstTrace, traceHeader, word, intervalOf, samplesOf, codeOf, sampleBytes, strideOf, tracesOf, leftOver}
+
+-- The most samples of a trace, and the most traces of a reel.
+abbrev pub mostSamples : ℕ
+mostSamples = 8000
+
+abbrev pub mostTraces : ℕ
+mostTraces = 100000
+
+-- n is from a to b.
+abbrev pub within : ℕ → ℕ → ℕ → Bool
+within a b n = leb a n && leb n b
+
+-- n is neither 0 nor m.
+abbrev pub neither : ℕ → ℕ → Bool
+neither n m = not (eqb n 0) && not (eqb n m)
+
+-- 2, 3, 4: format code not 1 to 4; N not 1 to 8,000; interval not 1 to 32,767.
+abbrev pub headerCauses : ℕ → ℕ → ℕ → Check
+headerCauses code n i =
+    firstOf
+    (refuseIf (not (isCode code)) 2 3224
+    ∷ refuseIf (not (within 1 mostSamples n)) 3 3220
+    ∷ refuseIf (not (within 1 32767 i)) 4 3216
+    ∷ [])
+
+-- 5, 6, of a reel of `size` bytes with t whole traces of w bytes and `over` bytes behind them: bytes after the last whole trace, at the
+-- first of them; more than 100,000 traces, at trace 100,001.
+abbrev pub sizeCauses : ℕ → ℕ → ℕ → ℕ → Check
+sizeCauses size w t over =
+    firstOf
+    (refuseIf (ltb 0 over) 5 (size - over)
+    ∷ refuseIf (ltb mostTraces t) 6 (firstTrace + mostTraces * w)
+    ∷ [])
+
+-- 9: the first byte of a gain word not 00.
+abbrev pub wordCause : List ℕ → ℕ → ℕ → Check
+wordCause s code at = refuseIf (badGain code (bytesAt s at 4)) 9 at
+
+-- The same, from what reading a word gives.
+abbrev pub wordRefused : Sample → ℕ → Check
+wordRefused (sample.Taken e m) at = Fine
+wordRefused (sample.Refused number) at = Refused number (record { 0 = at })
+
+-- 7, 8, then 9 at the first such word, of the trace at the place `at`, in a reel of n samples a trace, interval i and code `code`. Fields
+-- 115 and 117 stand 114 and 116 places behind the trace's start.
+unfoldable pub traceCauses : List ℕ → ℕ → ℕ → ℕ → ℕ → Check
+traceCauses s code n i at =
+    then (refuseIf (neither (word s (at + 114)) n) 7 (at + 114))
+    (then (refuseIf (neither (word s (at + 116)) i) 8 (at + 116))
+    (firstOf (walk (wordCause s code) (sampleBytes code) n (at + traceHeader))))
+
+-- 5 and 6, then trace by trace 7, 8, 9, of traces of w bytes.
+unfoldable pub behindCauses : List ℕ → ℕ → ℕ → ℕ → ℕ → Check
+behindCauses s code n i w =
+    then (sizeCauses (length s) w ((length s - firstTrace) / w) ((length s - firstTrace) % w))
+    (firstOf (walk (traceCauses s code n i) w ((length s - firstTrace) / w) firstTrace))
+
+-- 1 to 6 in that order; then trace by trace 7, 8, 9.
+unfoldable pub causesOf : List ℕ → Check
+causesOf s =
+    then (refuseIf (ltb (length s) firstTrace) 1 (length s))
+    (then (headerCauses (codeOf s) (samplesOf s) (intervalOf s))
+    (behindCauses s (codeOf s) (samplesOf s) (intervalOf s) (strideOf s)))
+
+-- A reel to which no cause applies, with its own numbers; or the first cause.
+abbrev pub checked : List ℕ → Check → Checked
+checked s Fine = fine.Fine (codeOf s) (samplesOf s) (intervalOf s) (sampleBytes (codeOf s)) (strideOf s) (tracesOf s)
+checked s (Refused number place) = fine.Refused number place
+
+abbrev pub checkedOf : List ℕ → Checked
+checkedOf s = checked s (causesOf s)

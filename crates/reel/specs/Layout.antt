@@ -1,0 +1,91 @@
+-- The layout of a reel: 3,200 card bytes, 400 binary header bytes, then traces of 240 header bytes and N samples each. A reel is given
+-- as the list of its bytes.
+use Prim.Native.Nat.{ℕ, _+_, _-_, _*_, _/_, _%_}
+use mathlib.Core.List.{List, [], _∷_, _++_}
+use lib.ListN.{length, replicate}
+use lib.Dec.{eqb}
+use lib.IntN.{ℤ}
+use Rattle.numbers.specs.Walk.{pick, bytesAt}
+use Rattle.numbers.specs.BigEndian.{number}
+use Rattle.numbers.specs.TwosComplement.{signedOf}
+
+-- The card bytes, 40 cards of 80.
+abbrev pub cardBytes : ℕ
+cardBytes = 3200
+
+-- The place of the first trace, behind both headers.
+abbrev pub firstTrace : ℕ
+firstTrace = 3600
+
+-- The bytes of a trace header.
+abbrev pub traceHeader : ℕ
+traceHeader = 240
+
+-- ## Fields
+
+-- An assigned header field: the byte number where it begins, and its bytes.
+pub record Field : Type 0 where
+  pub byteNo : ℕ
+  pub width : ℕ
+
+-- Fields of these widths, one after the other from a byte number on.
+abbrev pub fieldsFrom : ℕ → List ℕ → List Field
+fieldsFrom b [] = []
+fieldsFrom b (w ∷ ws) = record { byteNo = b; width = w } ∷ fieldsFrom (b + w) ws
+
+-- The 27 assigned fields of the binary header: 3201, 3205 and 3209 with four bytes, then 24 of two bytes from 3213 to 3260.
+unfoldable pub binaryWidths : List ℕ
+binaryWidths = replicate 3 4 ++ replicate 24 2
+
+unfoldable pub binaryFields : List Field
+binaryFields = fieldsFrom 3201 binaryWidths
+
+-- The 71 assigned fields of a trace header: four bytes at 1, 5 .. 25; two at 29, 31, 33, 35; four at 37, 41 .. 65; two at 69 and 71;
+-- four at 73, 77, 81, 85; two at 89, 91 .. 179.
+unfoldable pub traceWidths : List ℕ
+traceWidths =
+    replicate 7 4 ++ (replicate 4 2 ++ (replicate 8 4 ++ (replicate 2 2 ++ (replicate 4 4 ++ replicate 46 2))))
+
+unfoldable pub traceFields : List Field
+traceFields = fieldsFrom 1 traceWidths
+
+-- The signed number in a field of a header whose byte number 1 stands at the place `start`.
+abbrev pub fieldNumber : List ℕ → ℕ → Field → ℤ
+fieldNumber s start f = signedOf (8 * f .width) (number (bytesAt s (start + (f .byteNo - 1)) (f .width)))
+
+-- The number in two bytes, where its sign plays no part: the numbers of a reel below are from 1 to 32,767 or refused.
+abbrev pub word : List ℕ → ℕ → ℕ
+word s at = number (bytesAt s at 2)
+
+-- ## The reel's own numbers
+
+-- Field 3217, the sample interval in microseconds.
+abbrev pub intervalOf : List ℕ → ℕ
+intervalOf s = word s 3216
+
+-- Field 3221, N, the samples of a trace.
+abbrev pub samplesOf : List ℕ → ℕ
+samplesOf s = word s 3220
+
+-- Field 3225, the format code.
+abbrev pub codeOf : List ℕ → ℕ
+codeOf s = word s 3224
+
+-- The bytes of a sample under a code.
+abbrev pub sampleBytes : ℕ → ℕ
+sampleBytes code = pick (eqb code 3) 2 4
+
+-- From one trace to the next: n samples of w bytes behind the header.
+abbrev pub stride : ℕ → ℕ → ℕ
+stride n w = traceHeader + n * w
+
+abbrev pub strideOf : List ℕ → ℕ
+strideOf s = stride (samplesOf s) (sampleBytes (codeOf s))
+
+-- T, the whole traces behind the headers.
+abbrev pub tracesOf : List ℕ → ℕ
+tracesOf s = (length s - firstTrace) / strideOf s
+
+-- The bytes behind the last whole trace.
+abbrev pub leftOver : List ℕ → ℕ
+leftOver s = (length s - firstTrace) % strideOf s

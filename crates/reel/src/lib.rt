@@ -1,0 +1,279 @@
+// A reel's causes 1 to 9 and its own numbers.
+ghost use mathlib.Core.Path.{_≡_};
+ghost use Prim.Native.Nat.{_+_, _-_, _*_, _/_, _%_, _^_, _<_, _≤_};
+ghost use lib.ListN.{length};
+ghost use Rattle.numbers.specs.Walk.{walk};
+ghost use mathlib.Core.Bool.{not};
+ghost use Rattle.numbers.specs.Cause.{refuseIf, then, firstOf};
+ghost use Rattle.numbers.specs.declared.Check.the-variants.{Fine};
+ghost use Rattle.numbers.specs.Places.{placeNo, byteNo};
+ghost use Rattle.reel.specs.Layout.{firstTrace, word, sampleBytes, stride};
+ghost use Rattle.reel.specs.Causes.{within, neither, headerCauses, sizeCauses, wordRefused, wordCause, traceCauses, behindCauses, causesOf, checkedOf};
+use numbers::ByteNo;
+use numbers::Check;
+use numbers::Located;
+use numbers::Place;
+use sample::Sample;
+
+// What checking a reel finds: its own numbers, where no cause applies, or the first cause. The numbers are the format code, N, the
+// interval, the bytes of a sample, the bytes from trace to trace, and T.
+pub enum Checked {
+    Fine {
+        code: usize,
+        samples: usize,
+        interval: usize,
+        width: usize,
+        stride: usize,
+        traces: usize,
+    },
+    Refused {
+        number: u8,
+        place: Place,
+    },
+}
+
+// The number in two bytes.
+fn word_at(reel: &[u8], at: usize) -> usize
+    requires { ⌜ at + 1 < length (now reel) ⌝ }
+    ensures { λ r. ⌜ (r ≡ word (now (reel .entry)) at) × (r < 2 ^ 16) ⌝ }
+{
+    numbers::be16(reel[at], reel[at + 1]) as usize
+}
+
+// The place of a field, where byte number 1 stands at the place start.
+fn field_at(start: Place, b: ByteNo) -> Place
+    requires { ⌜ (1 ≤ byteNo b) × (placeNo start + byteNo b < 2 ^ 64) ⌝ }
+    ensures { λ r. ⌜ placeNo r ≡ placeNo start + (byteNo b - 1) ⌝ }
+{
+    let found = numbers::place_of(start, b);
+    let Located::At(p) = found else {
+        return start;
+    };
+    p
+}
+
+// A cause that applies where a number is outside its limits.
+fn check_limits(n: usize, least: usize, most: usize, number: u8, place: Place) -> Check
+    ensures { λ r. ⌜ r ≡ refuseIf (not (within least most n)) number (placeNo place) ⌝ }
+{
+    if n < least {
+        return Check::Refused { number, place };
+    }
+    if most < n {
+        return Check::Refused { number, place };
+    }
+    Check::Fine
+}
+
+// A cause that applies where a trace's own number is neither 0 nor the reel's.
+fn check_own(n: usize, own: usize, number: u8, place: Place) -> Check
+    ensures { λ r. ⌜ r ≡ refuseIf (neither n own) number (placeNo place) ⌝ }
+{
+    if n == 0 {
+        return Check::Fine;
+    }
+    if n == own {
+        return Check::Fine;
+    }
+    Check::Refused { number, place }
+}
+
+// 2, 3 and 4: the format code, N and the interval.
+fn check_header(code: usize, n: usize, i: usize) -> Check
+    ensures { λ r. ⌜ r ≡ headerCauses code n i ⌝ }
+{
+    let a = check_limits(code, 1, 4, 2, field_at(Place(0), ByteNo(3225)));
+    let Check::Fine = a else {
+        return a;
+    };
+    let b = check_limits(n, 1, 8000, 3, field_at(Place(0), ByteNo(3221)));
+    let Check::Fine = b else {
+        return b;
+    };
+    check_limits(i, 1, 32767, 4, field_at(Place(0), ByteNo(3217)))
+}
+
+// 5 and 6: the bytes behind the last whole trace, and the count of traces.
+fn check_size(size: usize, w: usize, t: usize, over: usize) -> Check
+    requires { ⌜ (over ≤ size) × (w ≤ 40000) ⌝ }
+    ensures { λ r. ⌜ r ≡ sizeCauses size w t over ⌝ }
+{
+    if 0 < over {
+        return Check::Refused {
+            number: 5,
+            place: Place(size - over),
+        };
+    }
+    if 100000 < t {
+        return Check::Refused {
+            number: 6,
+            place: Place(3600 + 100000 * w),
+        };
+    }
+    Check::Fine
+}
+
+// The refusal of a word at a place.
+fn refused(word: Sample, at: usize) -> Check
+    ensures { λ r. ⌜ r ≡ wordRefused word at ⌝ }
+{
+    match word {
+        Sample::Taken { e: _, m: _ } => Check::Fine,
+        Sample::Refused { number } => Check::Refused {
+            number,
+            place: Place(at),
+        },
+    }
+}
+
+// 9: the first of n gain words from start on that is refused.
+fn check_gains(reel: &[u8], n: usize, start: usize) -> Check
+    requires { ⌜ start + n * 4 ≤ length (now reel) ⌝ }
+    ensures { λ r. ⌜ r ≡ firstOf (walk (wordCause (now (reel .entry)) 4) 4 n start) ⌝ }
+{
+    let mut at = start;
+    let mut left = n;
+    while 0 < left {
+        let word = sample::gain(reel[at], reel[at + 1], reel[at + 2], reel[at + 3]);
+        let Sample::Taken { e: _, m: _ } = word else {
+            return refused(word, at);
+        };
+        at += 4;
+        left -= 1;
+    }
+    Check::Fine
+}
+
+// 7, 8 and 9, of the trace at a place. Only gain words can be refused.
+fn check_trace(reel: &[u8], code: usize, n: usize, i: usize, v: usize, at: usize) -> Check
+    requires { ⌜ (v ≡ sampleBytes code) × (at + (240 + n * v) ≤ length (now reel)) ⌝ }
+    ensures { λ r. ⌜ r ≡ traceCauses (now (reel .entry)) code n i at ⌝ }
+{
+    let a = check_own(
+        word_at(reel, at + 114),
+        n,
+        7,
+        field_at(Place(at), ByteNo(115)),
+    );
+    let Check::Fine = a else {
+        return a;
+    };
+    let b = check_own(
+        word_at(reel, at + 116),
+        i,
+        8,
+        field_at(Place(at), ByteNo(117)),
+    );
+    let Check::Fine = b else {
+        return b;
+    };
+    if code == 4 {
+        return check_gains(reel, n, at + 240);
+    }
+    Check::Fine
+}
+
+// 7, 8 and 9, trace by trace.
+fn check_traces(reel: &[u8], code: usize, n: usize, i: usize, v: usize, w: usize, t: usize) -> Check
+    requires { ⌜ (v ≡ sampleBytes code) × (w ≡ stride n v) × (3600 + t * w ≤ length (now reel)) ⌝ }
+    ensures { λ r. ⌜ r ≡ firstOf (walk (traceCauses (now (reel .entry)) code n i) w t 3600) ⌝ }
+{
+    let mut at = 3600;
+    let mut left = t;
+    while 0 < left {
+        let c = check_trace(reel, code, n, i, v, at);
+        let Check::Fine = c else {
+            return c;
+        };
+        at += w;
+        left -= 1;
+    }
+    Check::Fine
+}
+
+// The bytes of a sample.
+fn width_of(code: usize) -> usize
+    ensures { λ r. ⌜ (r ≡ sampleBytes code) × (2 ≤ r) × (r ≤ 4) ⌝ }
+{
+    if code == 3 {
+        return 2;
+    }
+    4
+}
+
+// 5 to 9.
+fn check_behind(reel: &[u8], code: usize, n: usize, i: usize, v: usize, w: usize) -> Check
+    requires { ⌜ (v ≡ sampleBytes code) × (w ≡ stride n v) × (w ≤ 40000) × (3600 ≤ length (now reel)) ⌝ }
+    ensures { λ r. ⌜ r ≡ behindCauses (now (reel .entry)) code n i w ⌝ }
+{
+    let size = reel.len();
+    let t = (size - 3600) / w;
+    let a = check_size(size, w, t, (size - 3600) % w);
+    let Check::Fine = a else {
+        return a;
+    };
+    check_traces(reel, code, n, i, v, w, t)
+}
+
+// 2 to 9.
+fn check_numbers(reel: &[u8], code: usize, n: usize, i: usize) -> Check
+    requires { ⌜ 3600 ≤ length (now reel) ⌝ }
+    ensures { λ r. ⌜ r ≡ then (headerCauses code n i) (behindCauses (now (reel .entry)) code n i (stride n (sampleBytes code))) ⌝ }
+{
+    let a = check_header(code, n, i);
+    let Check::Fine = a else {
+        return a;
+    };
+    let v = width_of(code);
+    check_behind(reel, code, n, i, v, 240 + n * v)
+}
+
+// The causes 1 to 9.
+fn check_causes(reel: &[u8]) -> Check
+    ensures { λ r. ⌜ r ≡ causesOf (now (reel .entry)) ⌝ }
+{
+    let size = reel.len();
+    if size < 3600 {
+        return Check::Refused {
+            number: 1,
+            place: Place(size),
+        };
+    }
+    check_numbers(
+        reel,
+        word_at(reel, 3224),
+        word_at(reel, 3220),
+        word_at(reel, 3216),
+    )
+}
+
+// The reel's own numbers.
+fn own_numbers(reel: &[u8]) -> Checked
+    requires { ⌜ causesOf (now reel) ≡ Fine ⌝ }
+    ensures { λ r. ⌜ r ≡ checkedOf (now (reel .entry)) ⌝ }
+{
+    let code = word_at(reel, 3224);
+    let samples = word_at(reel, 3220);
+    let interval = word_at(reel, 3216);
+    let width = width_of(code);
+    let stride = 240 + samples * width;
+    Checked::Fine {
+        code,
+        samples,
+        interval,
+        width,
+        stride,
+        traces: (reel.len() - 3600) / stride,
+    }
+}
+
+// Whether a cause of 1 to 9 applies to a reel, and its own numbers where none does.
+pub fn check_reel(reel: &[u8]) -> Checked
+    ensures { λ r. ⌜ r ≡ checkedOf (now (reel .entry)) ⌝ }
+{
+    let c = check_causes(reel);
+    match c {
+        Check::Refused { number, place } => Checked::Refused { number, place },
+        Check::Fine => own_numbers(reel),
+    }
+}

@@ -1,0 +1,112 @@
+-- The pieces of a record as the code writes them: how long each is, and what the code puts into a sample's six bytes. Assumes nothing.
+use mathlib.Core.Path.{_≡_, refl, sym, ap, _∙_, subst}
+use mathlib.Core.Bool.{Bool, true, false, _&&_}
+use borrow.Author.Tests.{leb-true}
+use lib.Dec.{T, leb}
+use mathlib.Core.List.{List, [], _∷_, _++_, map}
+use Prim.Native.Nat.{ℕ, _+_, _-_, _*_, _≤_, _<_}
+use native.Mathlib.Omega.{arith}
+use lib.ListN.{length, getD, length-append, length-map}
+use Rattle.numbers.specs.Walk.{walk, flat, bytesAt}
+use Rattle.numbers.specs.BigEndian.{number, bytesOf}
+use Rattle.numbers.specs.TwosComplement.{signedOf}
+use Rattle.numbers.proofs.WalkLaws.{flat-length, flat-more, flat-none, size-bytes}
+use Rattle.sample.specs.Value.{ibmValue, wholeValue}
+use Rattle.sample.specs.Reading.{isCode, pairTaken, readWord}
+use Rattle.sample.specs.declared.Sample.{Sample}
+use Rattle.sample.specs.declared.Sample.the-variants.{Taken, Refused}
+use Rattle.reel.specs.Layout.{firstTrace, sampleBytes}
+use Rattle.reel.specs.Meaning.{blank, cardText}
+use Rattle.transcribe.specs.Copied.{tagBytes, binaryCopied, headCopied, ownOr, headerCopied, sampleContent, sampleCopied, places, samplesCopied, traceCopied, recordCopied}
+
+-- ## Lengths
+
+pub size-binary : (s : List ℕ) → length (binaryCopied s) ≡ 60
+unfolding binaryCopied
+size-binary s = simp (length-append, size-bytes)
+
+pub size-cards : (s : List ℕ) → length (cardText s) ≡ 3200
+unfolding cardText
+size-cards s = simp (length-map, size-bytes)
+
+pub size-head : (s : List ℕ) → length (headCopied s) ≡ 3266
+unfolding headCopied
+size-head s = simp (length-append, size-cards, size-binary)
+
+pub size-header : (s : List ℕ) (n i at : ℕ) → length (headerCopied s n i at) ≡ 180
+unfolding headerCopied
+size-header s n i at = simp (length-append, size-bytes)
+
+pub size-content : (q : Sample) → length (sampleContent q) ≡ 6
+size-content (Taken e m) = refl
+size-content (Refused number) = refl
+
+pub size-samples : (s : List ℕ) (code n at : ℕ) → length (samplesCopied s code n at) ≡ n * 6
+unfolding samplesCopied
+size-samples s code n at = flat-length (sampleCopied s code) (λ p. p) 6 (λ p. size-content (readWord code (bytesAt s p 4))) (sampleBytes code) n at
+
+module _ (s : List ℕ) (code n i : ℕ) where
+  pub size-trace : (at : ℕ) → length (traceCopied s code n i at) ≡ 186 + n * 6
+  unfolding traceCopied
+  size-trace at = simp (length-append, size-header, size-samples) (omega arith)
+
+  pub size-traces : (w t at : ℕ) → length (flat (map (traceCopied s code n i) (places w t at))) ≡ t * (186 + n * 6)
+  size-traces w t at = flat-length (traceCopied s code n i) (λ p. p) (186 + n * 6) size-trace w t at
+
+  pub size-record : (w t : ℕ) → length (recordCopied s code n i w t) ≡ 3273 + t * (186 + n * 6)
+  unfolding recordCopied
+  size-record w t = simp (length-append, size-head, size-traces) (omega arith)
+
+-- ## Samples
+
+-- the four bytes of a word, by their offsets
+four-bytes : (s : List ℕ) (at : ℕ) → bytesAt s at 4 ≡ getD s at 0 ∷ getD s (at + 1) 0 ∷ getD s (at + 2) 0 ∷ getD s (at + 3) 0 ∷ []
+unfolding bytesAt
+four-bytes s at =
+    let b : at + 1 + 1 + 1 ≡ at + 3 = omega arith in
+    let a : at + 1 + 1 ≡ at + 2 = omega arith in
+    rw (b, a)
+
+module _ (s : List ℕ) (at : ℕ) where
+  -- what the code reads under each code
+  pub ibm-copied : pairTaken (ibmValue (number (getD s at 0 ∷ getD s (at + 1) 0 ∷ getD s (at + 2) 0 ∷ getD s (at + 3) 0 ∷ []))) ≡ readWord 1 (bytesAt s at 4)
+  unfolding bytesAt
+  ibm-copied = sym (ap (readWord 1) (four-bytes s at))
+
+  pub whole32-copied : pairTaken (wholeValue (signedOf 32 (number (getD s at 0 ∷ getD s (at + 1) 0 ∷ getD s (at + 2) 0 ∷ getD s (at + 3) 0 ∷ [])))) ≡ readWord 2 (bytesAt s at 4)
+  unfolding bytesAt
+  whole32-copied = sym (ap (readWord 2) (four-bytes s at))
+
+  pub whole16-copied : pairTaken (wholeValue (signedOf 16 (number (getD s at 0 ∷ getD s (at + 1) 0 ∷ [])))) ≡ readWord 3 (bytesAt s at 4)
+  unfolding bytesAt
+  whole16-copied = sym (ap (readWord 3) (four-bytes s at))
+
+  pub gain-copied : readWord 4 (getD s at 0 ∷ getD s (at + 1) 0 ∷ getD s (at + 2) 0 ∷ getD s (at + 3) 0 ∷ []) ≡ readWord 4 (bytesAt s at 4)
+  gain-copied = sym (ap (readWord 4) (four-bytes s at))
+
+-- samples, one more and none
+pub samples-more : (s : List ℕ) (code k at : ℕ) → 0 < k → samplesCopied s code k at ≡ sampleCopied s code at ++ samplesCopied s code (k - 1) (at + sampleBytes code)
+unfolding samplesCopied
+samples-more s code k at h = flat-more (sampleCopied s code) (λ p. p) (sampleBytes code) k at h
+
+pub samples-none : (s : List ℕ) (code k at : ℕ) → k ≤ 0 → samplesCopied s code k at ≡ []
+unfolding samplesCopied
+samples-none s code k at h = flat-none (sampleCopied s code) (λ p. p) (sampleBytes code) k at h
+
+-- traces, one more and none
+module _ (s : List ℕ) (code n i w : ℕ) where
+  pub traces-more : (k at : ℕ) → 0 < k
+      → flat (map (traceCopied s code n i) (places w k at)) ≡ traceCopied s code n i at ++ flat (map (traceCopied s code n i) (places w (k - 1) (at + w)))
+  traces-more k at h = flat-more (traceCopied s code n i) (λ p. p) w k at h
+
+  pub traces-none : (k at : ℕ) → k ≤ 0 → flat (map (traceCopied s code n i) (places w k at)) ≡ []
+  traces-none k at h = flat-none (traceCopied s code n i) (λ p. p) w k at h
+
+-- the code that is left
+pub last-code : (code : ℕ) → isCode code ≡ true → (code ≡ 1 → ⊥) → (code ≡ 2 → ⊥) → (code ≡ 3 → ⊥) → code ≡ 4
+last-code code h a b c = go (leb 1 code) (leb code 4) refl refl h
+  where
+    go : (x y : Bool) → leb 1 code ≡ x → leb code 4 ≡ y → (x && y) ≡ true → code ≡ 4
+    go true true p q e = let l = leb-true 1 code p in let m = leb-true code 4 q in omega arith
+    go true false p q e = absurd (subst T (sym e) tt)
+    go false y p q e = absurd (subst T (sym e) tt)

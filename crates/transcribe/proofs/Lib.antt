@@ -1,0 +1,3 @@
+pub mod CopiedLaws
+pub mod RecordLaws
+pub mod ReadLaws

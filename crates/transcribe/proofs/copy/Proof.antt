@@ -1,0 +1,58 @@
+-- `transcribe::copy` meets its contract. Assumes nothing.
+use Rattle.numbers.proofs.Filling.{Filling, start, finish, again, put}
+use Rattle.numbers.proofs.WalkLaws.{drop-next}
+use lib.ListN.{length, drop, length-set, drop-of-length-le}
+use Prim.Native.Nat.{_-_, _≤_}
+use mathlib.Core.Path.{_≡_}
+use borrow.Author.Needs.{needs}
+use native.Mathlib.Omega.{arith}
+use Rattle.transcribe.proofs.copy.Statement.{statement}
+use Rattle.transcribe.proofs.copy.Tie as tie
+
+abbrev Inv-loop : tie.InvT-loop
+Inv-loop src out₀ i₀ out i = (i ≤ length src) × (length out ≡ length src) × Filling src out i (drop i src)
+
+abbrev μ-loop : tie.MeasureT-loop
+μ-loop src out₀ i₀ out i = length src - i
+
+loop-holds : tie.Need-loop-holds Inv-loop μ-loop
+loop-holds c = (omega arith, c .pre, start _ _ (c .pre))
+
+shared-slice-read-out : tie.Need-shared-slice-read-out Inv-loop μ-loop
+shared-slice-read-out c = search needs
+
+slice-write-out : tie.Need-slice-write-out Inv-loop μ-loop
+slice-write-out c = search needs
+
+add-i : tie.Need-add-i Inv-loop μ-loop
+add-i c = search needs
+
+loop-less : tie.Need-loop-less Inv-loop μ-loop
+loop-less c = search needs
+
+loop-again : tie.Need-loop-again Inv-loop μ-loop
+loop-again c =
+    let h = c .before .before in
+    let s = h .before .args .src .now in
+    (omega arith, simp length-set (omega arith), put _ (again (h .loop .inv .2) (drop-next s (h .loop .i) (c .before .loop-test .taken))))
+
+same-length : tie.Need-same-length Inv-loop μ-loop
+same-length c = search needs
+
+returns : tie.Need-returns Inv-loop μ-loop
+returns c = finish (c .before .loop .inv .2) (drop-of-length-le (c .before .before .args .src .now) (c .loop-test .left))
+
+pub copy-spec : {M : Type 1} → statement M
+copy-spec =
+    tie.close
+    (tie.spec
+    Inv-loop
+    μ-loop
+    loop-holds
+    shared-slice-read-out
+    slice-write-out
+    add-i
+    loop-less
+    loop-again
+    same-length
+    returns)

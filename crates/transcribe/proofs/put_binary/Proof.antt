@@ -1,0 +1,107 @@
+-- `transcribe::put_binary` meets its contract. Assumes nothing.
+use Rattle.transcribe.proofs.CopiedLaws.{size-binary}
+use Rattle.transcribe.specs.Copied.{binaryCopied}
+use Rattle.numbers.proofs.Filling.{start, lend, close}
+use Rattle.numbers.proofs.WalkLaws.{bytes-between, size-bytes}
+use Rattle.numbers.specs.BigEndian.{bytesOf}
+use Rattle.numbers.specs.Walk.{bytesAt}
+use mathlib.Core.List.{_++_}
+use mathlib.Core.Path.{_≡_, refl, sym, _∙_}
+use native.Mathlib.Omega.{arith}
+use borrow.Author.Needs.{needs}
+use Rattle.transcribe.proofs.put_binary.Statement.{statement}
+use Rattle.transcribe.proofs.put_binary.Tie as tie
+
+sub-copy : tie.Need-sub-copy
+sub-copy c = search needs
+
+part-copy-start : tie.Need-part-copy-start
+part-copy-start c = search needs
+
+part-copy-end : tie.Need-part-copy-end
+part-copy-end c = search needs
+
+sub-copy-2 : tie.Need-sub-copy-2
+sub-copy-2 c = search needs
+
+part-copy-start-2 : tie.Need-part-copy-start-2
+part-copy-start-2 c = search needs
+
+part-copy-end-2 : tie.Need-part-copy-end-2
+part-copy-end-2 c = search needs
+
+copy-requires : tie.Need-copy-requires
+copy-requires c κs = search needs
+
+sub-put16 : tie.Need-sub-put16
+sub-put16 c = search needs
+
+part-put16-start : tie.Need-part-put16-start
+part-put16-start c = search needs
+
+part-put16-end : tie.Need-part-put16-end
+part-put16-end c = search needs
+
+put16-requires : tie.Need-put16-requires
+put16-requires c κs = search needs
+
+sub-copy-3 : tie.Need-sub-copy-3
+sub-copy-3 c = search needs
+
+part-copy-start-3 : tie.Need-part-copy-start-3
+part-copy-start-3 c = search needs
+
+part-copy-end-3 : tie.Need-part-copy-end-3
+part-copy-end-3 c = search needs
+
+sub-copy-4 : tie.Need-sub-copy-4
+sub-copy-4 c = search needs
+
+part-copy-start-4 : tie.Need-part-copy-start-4
+part-copy-start-4 c = search needs
+
+part-copy-end-4 : tie.Need-part-copy-end-4
+part-copy-end-4 c = search needs
+
+copy-requires-2 : tie.Need-copy-requires-2
+copy-requires-2 c κs = search needs
+
+same-length : tie.Need-same-length
+same-length c = search needs
+
+returns : tie.Need-returns
+unfolding binaryCopied
+returns c =
+    let b = c .before .before .before .before .before .before .before .before .before .before .before .before .before .before .before .before in
+    let s = b .args .reel .now in
+    let x = bytesAt s 3200 24 in
+    let z = bytesAt s 3226 34 in
+    let w₀ = start _ (b .args .out .now) (b .pre .1 ∙ sym (size-binary s)) in
+    let w₁ = lend x (bytesOf 2 0 ++ z) 24 w₀ (omega arith) (size-bytes s 3200 24) (c .before .before .before .before .before .before .before .before .before .before .before .copy .ensures ∙ bytes-between s 3200 3224 24 (omega (arith, b .pre .0)) refl) in
+    let w₂ = lend (bytesOf 2 0) z 26 w₁ (omega arith) refl (c .before .before .before .before .before .before .before .put16 .ensures) in
+    close z 60 w₂ (omega arith) (size-bytes s 3226 34) (c .before .before .copy2 .ensures ∙ bytes-between s 3226 3260 34 (omega (arith, b .pre .0)) refl)
+
+pub put-binary-spec : {M : Type 1} → statement M
+put-binary-spec =
+    tie.close
+    (tie.spec
+    sub-copy
+    part-copy-start
+    part-copy-end
+    sub-copy-2
+    part-copy-start-2
+    part-copy-end-2
+    copy-requires
+    sub-put16
+    part-put16-start
+    part-put16-end
+    put16-requires
+    sub-copy-3
+    part-copy-start-3
+    part-copy-end-3
+    sub-copy-4
+    part-copy-start-4
+    part-copy-end-4
+    copy-requires-2
+    same-length
+    returns)

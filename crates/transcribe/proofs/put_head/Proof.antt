@@ -1,0 +1,111 @@
+-- `transcribe::put_head` meets its contract. Assumes nothing.
+use Rattle.transcribe.proofs.CopiedLaws.{size-cards, size-binary, size-head}
+use Rattle.transcribe.specs.Copied.{tagBytes, binaryCopied, headCopied}
+use Rattle.reel.specs.Meaning.{blank, cardText}
+use Rattle.numbers.proofs.Filling.{start, lend, close}
+use Rattle.numbers.proofs.WalkLaws.{bytes-between}
+use mathlib.Core.List.{_++_, map}
+use mathlib.Core.Path.{_≡_, refl, sym, ap, _∙_}
+use native.Mathlib.Omega.{arith}
+use borrow.Author.Needs.{needs}
+use Rattle.transcribe.proofs.put_head.Statement.{statement}
+use Rattle.transcribe.proofs.put_head.Tie as tie
+
+sub-put-tag : tie.Need-sub-put-tag
+sub-put-tag c = search needs
+
+part-put-tag-start : tie.Need-part-put-tag-start
+part-put-tag-start c = search needs
+
+part-put-tag-end : tie.Need-part-put-tag-end
+part-put-tag-end c = search needs
+
+put-tag-requires : tie.Need-put-tag-requires
+put-tag-requires c κs = search needs
+
+sub-put-cards : tie.Need-sub-put-cards
+sub-put-cards c = search needs
+
+part-put-cards-start : tie.Need-part-put-cards-start
+part-put-cards-start c = search needs
+
+part-put-cards-end : tie.Need-part-put-cards-end
+part-put-cards-end c = search needs
+
+sub-put-cards-2 : tie.Need-sub-put-cards-2
+sub-put-cards-2 c = search needs
+
+part-put-cards-start-2 : tie.Need-part-put-cards-start-2
+part-put-cards-start-2 c = search needs
+
+part-put-cards-end-2 : tie.Need-part-put-cards-end-2
+part-put-cards-end-2 c = search needs
+
+put-cards-requires : tie.Need-put-cards-requires
+put-cards-requires c κs = search needs
+
+sub-put-tag-2 : tie.Need-sub-put-tag-2
+sub-put-tag-2 c = search needs
+
+part-put-tag-start-2 : tie.Need-part-put-tag-start-2
+part-put-tag-start-2 c = search needs
+
+part-put-tag-end-2 : tie.Need-part-put-tag-end-2
+part-put-tag-end-2 c = search needs
+
+put-tag-requires-2 : tie.Need-put-tag-requires-2
+put-tag-requires-2 c κs = search needs
+
+sub-put-binary : tie.Need-sub-put-binary
+sub-put-binary c = search needs
+
+part-put-binary-start : tie.Need-part-put-binary-start
+part-put-binary-start c = search needs
+
+part-put-binary-end : tie.Need-part-put-binary-end
+part-put-binary-end c = search needs
+
+put-binary-requires : tie.Need-put-binary-requires
+put-binary-requires c κs = search needs
+
+same-length : tie.Need-same-length
+same-length c = search needs
+
+returns : tie.Need-returns
+unfolding headCopied cardText
+returns c =
+    let b = c .before .before .before .before .before .before .before .before .before .before .before .before .before .before .before .before .before .before .before in
+    let s = b .args .reel .now in
+    let z = binaryCopied s in
+    let cards = c .before .before .before .before .before .before .before .before .before .before .put-cards .ensures ∙ ap (map blank) (bytes-between s 0 3200 3200 (omega (arith, b .pre .0)) refl) in
+    let w₀ = start _ (b .args .out .now) (b .pre .1 ∙ sym (size-head s)) in
+    let w₁ = lend (tagBytes 1 3200) (cardText s ++ (tagBytes 2 60 ++ z)) 3 w₀ (omega arith) refl (c .before .before .before .before .before .before .before .before .before .before .before .before .before .before .before .put-tag .ensures) in
+    let w₂ = lend (cardText s) (tagBytes 2 60 ++ z) 3203 w₁ (omega arith) (size-cards s) cards in
+    let w₃ = lend (tagBytes 2 60) z 3206 w₂ (omega arith) refl (c .before .before .before .before .before .before .put-tag2 .ensures) in
+    close z 3266 w₃ (omega arith) (size-binary s) (c .before .before .put-binary .ensures)
+
+pub put-head-spec : {M : Type 1} → statement M
+put-head-spec =
+    tie.close
+    (tie.spec
+    sub-put-tag
+    part-put-tag-start
+    part-put-tag-end
+    put-tag-requires
+    sub-put-cards
+    part-put-cards-start
+    part-put-cards-end
+    sub-put-cards-2
+    part-put-cards-start-2
+    part-put-cards-end-2
+    put-cards-requires
+    sub-put-tag-2
+    part-put-tag-start-2
+    part-put-tag-end-2
+    put-tag-requires-2
+    sub-put-binary
+    part-put-binary-start
+    part-put-binary-end
+    put-binary-requires
+    same-length
+    returns)

@@ -1,0 +1,89 @@
+-- `transcribe::put_pair` meets its contract. Assumes nothing.
+use Rattle.sample.specs.Calls.{pairBytes}
+use Rattle.numbers.proofs.WalkLaws.{stored}
+use mir.Facts.{toZ-ofZ}
+use lib.ListN.{length-set}
+use native.Mathlib.Omega.{arith}
+use borrow.Author.Needs.{needs}
+use Rattle.transcribe.proofs.put_pair.Statement.{statement}
+use Rattle.transcribe.proofs.put_pair.Tie as tie
+
+bits16-requires : tie.Need-bits16-requires
+bits16-requires c κs = search needs
+
+bytes16-requires : tie.Need-bytes16-requires
+bytes16-requires c κs = search needs
+
+bits32-requires : tie.Need-bits32-requires
+bits32-requires c κs = search needs
+
+bytes32-requires : tie.Need-bytes32-requires
+bytes32-requires c κs = search needs
+
+array-read-out : tie.Need-array-read-out
+array-read-out c = search needs
+
+slice-write-out : tie.Need-slice-write-out
+slice-write-out c = search needs
+
+array-read-out-2 : tie.Need-array-read-out-2
+array-read-out-2 c = search needs
+
+slice-write-out-2 : tie.Need-slice-write-out-2
+slice-write-out-2 c = search needs
+
+array-read-out-3 : tie.Need-array-read-out-3
+array-read-out-3 c = search needs
+
+slice-write-out-3 : tie.Need-slice-write-out-3
+slice-write-out-3 c = search needs
+
+array-read-out-4 : tie.Need-array-read-out-4
+array-read-out-4 c = search needs
+
+slice-write-out-4 : tie.Need-slice-write-out-4
+slice-write-out-4 c = search needs
+
+array-read-out-5 : tie.Need-array-read-out-5
+array-read-out-5 c = search needs
+
+slice-write-out-5 : tie.Need-slice-write-out-5
+slice-write-out-5 c = simp length-set (omega arith)
+
+array-read-out-6 : tie.Need-array-read-out-6
+array-read-out-6 c = search needs
+
+slice-write-out-6 : tie.Need-slice-write-out-6
+slice-write-out-6 c = simp length-set (omega arith)
+
+same-length : tie.Need-same-length
+same-length c = simp length-set
+
+returns : tie.Need-returns
+returns c =
+    let s = c .before .before .before .before .before in
+    rw (c .before .before .bytes16 .ensures, c .bytes32 .ensures, c .before .before .before .bits16 .ensures, c .before .bits32 .ensures, toZ-ofZ (s .fits .e), toZ-ofZ (s .fits .m))
+    (stored (pairBytes (s .args .e) (s .args .m)) (s .args .out .now) (s .pre))
+
+pub put-pair-spec : {M : Type 1} → statement M
+put-pair-spec =
+    tie.close
+    (tie.spec
+    bits16-requires
+    bytes16-requires
+    bits32-requires
+    bytes32-requires
+    array-read-out
+    slice-write-out
+    array-read-out-2
+    slice-write-out-2
+    array-read-out-3
+    slice-write-out-3
+    array-read-out-4
+    slice-write-out-4
+    array-read-out-5
+    slice-write-out-5
+    array-read-out-6
+    slice-write-out-6
+    same-length
+    returns)

@@ -1,0 +1,114 @@
+-- `transcribe::put_record` meets its contract. Assumes nothing.
+use Rattle.transcribe.proofs.CopiedLaws.{size-head, size-traces, size-record}
+use Rattle.transcribe.specs.Copied.{tagBytes, headCopied, places, traceCopied, recordCopied}
+use Rattle.reel.specs.Layout.{firstTrace}
+use Rattle.numbers.proofs.Filling.{start, lend, close}
+use Rattle.numbers.specs.BigEndian.{bytesOf}
+use Rattle.numbers.specs.Walk.{flat}
+use lib.ListN.{length}
+use Prim.Native.Nat.{_+_, _*_}
+use mathlib.Core.List.{_++_, map}
+use mathlib.Core.Path.{_≡_, refl, sym, ap, _∙_}
+use native.Mathlib.Omega.{arith}
+use borrow.Author.Needs.{needs}
+use Rattle.transcribe.proofs.put_record.Statement.{statement}
+use Rattle.transcribe.proofs.put_record.Tie as tie
+
+mul-m : tie.Need-mul-m
+mul-m c = search needs
+
+add-m : tie.Need-add-m
+add-m c = search needs
+
+mul-e : tie.Need-mul-e
+mul-e c = search needs
+
+add-e : tie.Need-add-e
+add-e c = search needs
+
+sub-put-head : tie.Need-sub-put-head
+sub-put-head c = search needs
+
+part-put-head-start : tie.Need-part-put-head-start
+part-put-head-start c = search needs
+
+part-put-head-end : tie.Need-part-put-head-end
+part-put-head-end c = search needs
+
+put-head-requires : tie.Need-put-head-requires
+put-head-requires c κs = search needs
+
+sub-put-traces : tie.Need-sub-put-traces
+sub-put-traces c = search needs
+
+part-put-traces-start : tie.Need-part-put-traces-start
+part-put-traces-start c = search needs
+
+part-put-traces-end : tie.Need-part-put-traces-end
+part-put-traces-end c = search needs
+
+put-traces-requires : tie.Need-put-traces-requires
+put-traces-requires c κs = let s = c .before .before .before .before .before .before .before in (s .pre .0, s .pre .1, s .pre .2, s .pre .3, refl, s .pre .5, search needs)
+
+cast-put-count : tie.Need-cast-put-count
+cast-put-count c = search needs
+
+add-put-count : tie.Need-add-put-count
+add-put-count c = search needs
+
+sub-put-count : tie.Need-sub-put-count
+sub-put-count c = search needs
+
+part-put-count-start : tie.Need-part-put-count-start
+part-put-count-start c = search needs
+
+part-put-count-end : tie.Need-part-put-count-end
+part-put-count-end c = search needs
+
+put-count-requires : tie.Need-put-count-requires
+put-count-requires c κs = search needs
+
+returns : tie.Need-returns
+unfolding recordCopied
+returns c =
+    let b = c .before .before .before .before .before .before .before .before .before .before .before .before .before .before in
+    let a = b .args in
+    let s = a .reel .now in
+    let g = flat (map (traceCopied s (a .code) (a .n) (a .i)) (places (a .w) (a .t) firstTrace)) in
+    let z = tagBytes 5 4 ++ bytesOf 4 (a .t) in
+    let e = 3266 + a .t * (186 + a .n * 6) in
+    let w₀ = start _ (a .out .now) (b .pre .6 ∙ sym (size-record s (a .code) (a .n) (a .i) (a .w) (a .t))) in
+    let w₁ = lend (headCopied s) (g ++ z) 3266 w₀ (omega arith) (size-head s) (c .before .before .before .before .before .before .before .before .before .before .put-head .ensures) in
+    let w₂ = lend g z e w₁ (omega arith) (size-traces s (a .code) (a .n) (a .i) (a .w) (a .t) firstTrace ∙ omega arith) (c .before .before .before .before .before .before .put-traces .ensures) in
+    close z (e + 7) w₂ (omega arith) (omega arith) (c .before .before .put-count .ensures)
+
+same-length : tie.Need-same-length
+same-length c =
+    let b = c .before .before .before .before .before .before .before .before .before .before .before .before .before .before in
+    let a = b .args in
+    ap length (returns c) ∙ size-record (a .reel .now) (a .code) (a .n) (a .i) (a .w) (a .t) ∙ sym (b .pre .6)
+
+pub put-record-spec : {M : Type 1} → statement M
+put-record-spec =
+    tie.close
+    (tie.spec
+    mul-m
+    add-m
+    mul-e
+    add-e
+    sub-put-head
+    part-put-head-start
+    part-put-head-end
+    put-head-requires
+    sub-put-traces
+    part-put-traces-start
+    part-put-traces-end
+    put-traces-requires
+    cast-put-count
+    add-put-count
+    sub-put-count
+    part-put-count-start
+    part-put-count-end
+    put-count-requires
+    same-length
+    returns)

@@ -1,0 +1,118 @@
+-- `transcribe::put_trace` meets its contract. Assumes nothing.
+use Rattle.transcribe.proofs.CopiedLaws.{size-header, size-samples, size-trace}
+use Rattle.transcribe.specs.Copied.{tagBytes, headerCopied, samplesCopied, traceCopied}
+use Rattle.reel.specs.Layout.{traceHeader}
+use Rattle.numbers.proofs.Filling.{start, lend, close}
+use Prim.Native.Nat.{_+_, _*_}
+use mathlib.Core.List.{_++_}
+use mathlib.Core.Path.{_≡_, refl, sym, _∙_}
+use native.Mathlib.Omega.{arith}
+use borrow.Author.Needs.{needs}
+use Rattle.transcribe.proofs.put_trace.Statement.{statement}
+use Rattle.transcribe.proofs.put_trace.Tie as tie
+
+mul-size : tie.Need-mul-size
+mul-size c = search needs
+
+cast-e : tie.Need-cast-e
+cast-e c = search needs
+
+add-e : tie.Need-add-e
+add-e c = search needs
+
+sub-put-tag : tie.Need-sub-put-tag
+sub-put-tag c = search needs
+
+part-put-tag-start : tie.Need-part-put-tag-start
+part-put-tag-start c = search needs
+
+part-put-tag-end : tie.Need-part-put-tag-end
+part-put-tag-end c = search needs
+
+put-tag-requires : tie.Need-put-tag-requires
+put-tag-requires c κs = search needs
+
+sub-put-header : tie.Need-sub-put-header
+sub-put-header c = search needs
+
+part-put-header-start : tie.Need-part-put-header-start
+part-put-header-start c = search needs
+
+part-put-header-end : tie.Need-part-put-header-end
+part-put-header-end c = search needs
+
+put-header-requires : tie.Need-put-header-requires
+put-header-requires c κs = search needs
+
+sub-put-tag-2 : tie.Need-sub-put-tag-2
+sub-put-tag-2 c = search needs
+
+part-put-tag-start-2 : tie.Need-part-put-tag-start-2
+part-put-tag-start-2 c = search needs
+
+part-put-tag-end-2 : tie.Need-part-put-tag-end-2
+part-put-tag-end-2 c = search needs
+
+put-tag-requires-2 : tie.Need-put-tag-requires-2
+put-tag-requires-2 c κs = search needs
+
+add-put-samples : tie.Need-add-put-samples
+add-put-samples c = search needs
+
+sub-put-samples : tie.Need-sub-put-samples
+sub-put-samples c = search needs
+
+part-put-samples-start : tie.Need-part-put-samples-start
+part-put-samples-start c = search needs
+
+part-put-samples-end : tie.Need-part-put-samples-end
+part-put-samples-end c = search needs
+
+put-samples-requires : tie.Need-put-samples-requires
+put-samples-requires c κs =
+    let s = c .before .before .before .before .before .before .before .before .before .before .before .before .before .before .before in
+    (s .pre .0, s .pre .1, omega (arith, s .pre .3), omega arith)
+
+same-length : tie.Need-same-length
+same-length c = search needs
+
+returns : tie.Need-returns
+unfolding traceCopied
+returns c =
+    let b = c .before .before .before .before .before .before .before .before .before .before .before .before .before .before .before .before .before .before in
+    let a = b .args in
+    let s = a .reel .now in
+    let y = headerCopied s (a .n) (a .i) (a .at) in
+    let z = samplesCopied s (a .code) (a .n) (a .at + traceHeader) in
+    let w₀ = start _ (a .out .now) (b .pre .4 ∙ sym (size-trace s (a .code) (a .n) (a .i) (a .at))) in
+    let w₁ = lend (tagBytes 3 180) (y ++ (tagBytes 4 (6 * a .n) ++ z)) 3 w₀ (omega arith) refl (c .before .before .before .before .before .before .before .before .before .before .before .before .before .before .put-tag .ensures) in
+    let w₂ = lend y (tagBytes 4 (6 * a .n) ++ z) 183 w₁ (omega arith) (size-header s (a .n) (a .i) (a .at)) (c .before .before .before .before .before .before .before .before .before .before .put-header .ensures) in
+    let w₃ = lend (tagBytes 4 (6 * a .n)) z 186 w₂ (omega arith) refl (c .before .before .before .before .before .before .put-tag2 .ensures) in
+    close z (186 + 6 * a .n) w₃ (omega arith) (size-samples s (a .code) (a .n) (a .at + traceHeader) ∙ omega arith) (c .before .before .put-samples .ensures)
+
+pub put-trace-spec : {M : Type 1} → statement M
+put-trace-spec =
+    tie.close
+    (tie.spec
+    mul-size
+    cast-e
+    add-e
+    sub-put-tag
+    part-put-tag-start
+    part-put-tag-end
+    put-tag-requires
+    sub-put-header
+    part-put-header-start
+    part-put-header-end
+    put-header-requires
+    sub-put-tag-2
+    part-put-tag-start-2
+    part-put-tag-end-2
+    put-tag-requires-2
+    add-put-samples
+    sub-put-samples
+    part-put-samples-start
+    part-put-samples-end
+    put-samples-requires
+    same-length
+    returns)

@@ -1,0 +1,57 @@
+-- `transcribe::whole32_at` meets its contract. Assumes nothing.
+use Rattle.numbers.specs.TwosComplement.{signedOf}
+use Rattle.sample.specs.Value.{wholeValue}
+use Rattle.transcribe.proofs.CopiedLaws.{whole32-copied}
+use Rattle.sample.specs.Reading.{pairTaken}
+use Prim.Native.Nat.{ℕ}
+use mathlib.Core.Path.{_≡_, ap, _∙_}
+use borrow.Author.Needs.{needs}
+use Rattle.transcribe.proofs.whole32_at.Statement.{statement}
+use Rattle.transcribe.proofs.whole32_at.Tie as tie
+
+shared-slice-read-be32 : tie.Need-shared-slice-read-be32
+shared-slice-read-be32 c = search needs
+
+add-be32 : tie.Need-add-be32
+add-be32 c = search needs
+
+shared-slice-read-be32-2 : tie.Need-shared-slice-read-be32-2
+shared-slice-read-be32-2 c = search needs
+
+add-be32-2 : tie.Need-add-be32-2
+add-be32-2 c = search needs
+
+shared-slice-read-be32-3 : tie.Need-shared-slice-read-be32-3
+shared-slice-read-be32-3 c = search needs
+
+add-be32-3 : tie.Need-add-be32-3
+add-be32-3 c = search needs
+
+shared-slice-read-be32-4 : tie.Need-shared-slice-read-be32-4
+shared-slice-read-be32-4 c = search needs
+
+be32-requires : tie.Need-be32-requires
+be32-requires c κs = search needs
+
+whole32-requires : tie.Need-whole32-requires
+whole32-requires c κs = search needs
+
+returns : tie.Need-returns
+returns c =
+    let a = c .before .before .before .before .before .before .before .args in
+    c .whole32 .ensures ∙ ap (λ (n : ℕ). pairTaken (wholeValue (signedOf 32 n))) (c .before .be32 .ensures) ∙ whole32-copied (a .reel .now) (a .at)
+
+pub whole32-at-spec : {M : Type 1} → statement M
+whole32-at-spec =
+    tie.close
+    (tie.spec
+    shared-slice-read-be32
+    add-be32
+    shared-slice-read-be32-2
+    add-be32-2
+    shared-slice-read-be32-3
+    add-be32-3
+    shared-slice-read-be32-4
+    be32-requires
+    whole32-requires
+    returns)

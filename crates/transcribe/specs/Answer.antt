@@ -1,0 +1,17 @@
+-- What the calls on whole reels answer, in document 01's terms.
+use mathlib.Core.List.{List, [], _∷_}
+use Prim.Native.Nat.{ℕ}
+use Rattle.numbers.specs.Outcome.{Said, taken, refused, Outcome}
+use Rattle.numbers.specs.Places.{placeNo}
+use Rattle.transcribe.specs.declared.Answer.{Answer}
+use Rattle.transcribe.specs.declared.Answer.the-variants.{Taken, Refused}
+
+-- Document 01's number and values for each case of the answer: taken with T, N and the length; refused with the number and what stands
+-- beside it.
+abbrev pub saidBy : Answer → Said
+saidBy (Taken t n l) = taken (t ∷ n ∷ l ∷ [])
+saidBy (Refused number place) = refused number (placeNo place)
+
+-- What a call says and leaves in its output.
+abbrev pub outcome : Answer → List ℕ → Outcome
+outcome r out = record { said = saidBy r; bytes = out }

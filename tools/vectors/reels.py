@@ -1,0 +1,530 @@
+"""Reading of whole reels, worked out from document 01 alone.
+
+    python3 tools/vectors/reels.py            checks this file on the paper's statements
+    python3 tools/vectors/reels.py --line     answers as the program does: a reel in, its line out
+
+The rules are written here as literally as possible, so that they share
+nothing with the code they test. What is said of a reel is a tuple:
+    ("taken", T, N, length)            by reading
+    ("found", number)                  by look-up
+    ("refused", number, beside)        by either; beside is the place or length of the table
+"""
+
+import random
+import sys
+from functools import lru_cache
+from pathlib import Path
+
+sys.path.insert(0, str(Path(__file__).resolve().parent))
+sys.dont_write_bytecode = True
+
+from samples import pair_bytes, pair_of_v, signed, v_of_word  # noqa: E402
+
+# ------------------------------------------------------------- the layout
+
+CARDS = 3200
+HEADERS = 3600  # cards and binary header
+TRACE_HEADER = 240
+MOST_N = 8000
+MOST_T = 100000
+MOST_INTERVAL = 32767
+
+# Byte number of each assigned field, counted from 1: its width in bytes.
+BINARY_FIELDS = {3201: 4, 3205: 4, 3209: 4}
+BINARY_FIELDS.update({b: 2 for b in range(3213, 3260, 2)})
+
+TRACE_FIELDS = {b: 4 for b in range(1, 26, 4)}
+TRACE_FIELDS.update({b: 2 for b in (29, 31, 33, 35)})
+TRACE_FIELDS.update({b: 4 for b in range(37, 66, 4)})
+TRACE_FIELDS.update({b: 2 for b in (69, 71)})
+TRACE_FIELDS.update({b: 4 for b in (73, 77, 81, 85)})
+TRACE_FIELDS.update({b: 2 for b in range(89, 180, 2)})
+
+INTERVAL, COUNT, CODE = 3217, 3221, 3225
+TRACE_COUNT, TRACE_INTERVAL = 115, 117
+
+
+def sample_size(code):
+    return {1: 4, 2: 4, 3: 2, 4: 4}[code]
+
+
+def trace_size(code, n):
+    return TRACE_HEADER + n * sample_size(code)
+
+
+def record_length(t, n):
+    return 3273 + t * (186 + 6 * n)
+
+
+def binary_number(reel, byte_number):
+    """The number in a binary header field; its byte number counts from the start of the reel."""
+    place = byte_number - 1
+    return signed(reel[place : place + BINARY_FIELDS[byte_number]])
+
+
+def trace_number(reel, start, byte_number):
+    """The number in a field of the trace header that starts at that place."""
+    place = start + byte_number - 1
+    return signed(reel[place : place + TRACE_FIELDS[byte_number]])
+
+
+def trace_starts(reel):
+    """The place of each whole trace. The code and N are within their limits."""
+    size = trace_size(binary_number(reel, CODE), binary_number(reel, COUNT))
+    t = (len(reel) - HEADERS) // size
+    return [HEADERS + i * size for i in range(t)]
+
+
+def words(reel, start):
+    """The places of a trace's samples."""
+    size = sample_size(binary_number(reel, CODE))
+    first = start + TRACE_HEADER
+    return [first + i * size for i in range(binary_number(reel, COUNT))]
+
+
+# -------------------------------------------------------- causes 1 to 9
+
+
+def first_cause(reel):
+    """The refusal by the first of causes 1 to 9 that the reel has, or None."""
+    if len(reel) < HEADERS:
+        return "refused", 1, len(reel)
+    code = binary_number(reel, CODE)
+    n = binary_number(reel, COUNT)
+    interval = binary_number(reel, INTERVAL)
+    if code not in (1, 2, 3, 4):
+        return "refused", 2, 3224
+    if not 1 <= n <= MOST_N:
+        return "refused", 3, 3220
+    if not 1 <= interval <= MOST_INTERVAL:
+        return "refused", 4, 3216
+    starts = trace_starts(reel)
+    size = trace_size(code, n)
+    after = HEADERS + len(starts) * size
+    if after != len(reel):
+        return "refused", 5, after
+    if len(starts) > MOST_T:
+        return "refused", 6, starts[MOST_T]
+    for start in starts:
+        if trace_number(reel, start, TRACE_COUNT) not in (0, n):
+            return "refused", 7, start + TRACE_COUNT - 1
+        if trace_number(reel, start, TRACE_INTERVAL) not in (0, interval):
+            return "refused", 8, start + TRACE_INTERVAL - 1
+        if code == 4:
+            for place in words(reel, start):
+                if reel[place] != 0x00:
+                    return "refused", 9, place
+    return None
+
+
+# ------------------------------------------------------------- the record
+
+
+def card_text(reel):
+    return reel[:CARDS].replace(b"\x00", b"\x40")
+
+
+def filled(reel, start, byte_number):
+    """The number in a trace field, with the reel's N and interval for a 0 in 115 and 117."""
+    number = trace_number(reel, start, byte_number)
+    if number == 0 and byte_number == TRACE_COUNT:
+        return binary_number(reel, COUNT)
+    if number == 0 and byte_number == TRACE_INTERVAL:
+        return binary_number(reel, INTERVAL)
+    return number
+
+
+@lru_cache(maxsize=1 << 16)
+def pair_of_word(code, word):
+    """The six bytes of a sample: the power of two is counted out of V."""
+    v = v_of_word(code, word)
+    if v == 0:
+        return pair_bytes(0, 0)
+    twos = (v & -v).bit_length() - 1
+    return pair_bytes(twos - 280, v >> twos)
+
+
+def tagged(tag, content):
+    return bytes([tag]) + len(content).to_bytes(2, "big") + content
+
+
+def number_bytes(number, width):
+    return number.to_bytes(width, "big", signed=True)
+
+
+def record_of(reel):
+    """The record of a reel without a cause of 1 to 9."""
+    code = binary_number(reel, CODE)
+    size = sample_size(code)
+    starts = trace_starts(reel)
+    fields = [tagged(0x01, card_text(reel))]
+    fields.append(tagged(0x02, b"".join(
+        number_bytes(0 if b == CODE else binary_number(reel, b), width)
+        for b, width in BINARY_FIELDS.items()
+    )))
+    for start in starts:
+        fields.append(tagged(0x03, b"".join(
+            number_bytes(filled(reel, start, b), width)
+            for b, width in TRACE_FIELDS.items()
+        )))
+        fields.append(tagged(0x04, b"".join(
+            pair_of_word(code, reel[place : place + size])
+            for place in words(reel, start)
+        )))
+    fields.append(tagged(0x05, len(starts).to_bytes(4, "big")))
+    return b"".join(fields)
+
+
+# -------------------------------------------------------------- the calls
+
+
+def read_reel(reel, room):
+    """What is said of the reel when the output has that much room; its record, or None."""
+    cause = first_cause(reel)
+    if cause:
+        return cause, None
+    t = len(trace_starts(reel))
+    n = binary_number(reel, COUNT)
+    length = record_length(t, n)
+    if room < length:
+        return ("refused", 10, length), None
+    record = record_of(reel)
+    assert len(record) == length
+    return ("taken", t, n, length), record
+
+
+def read_into(reel, output):
+    """What is said of the reel, and the output's bytes after the call."""
+    said, record = read_reel(reel, len(output))
+    if record is None:
+        return said, output
+    return said, record + output[len(record) :]
+
+
+def look_up(reel, trace, byte_number):
+    """Trace 0 is the binary header, 1 the first trace."""
+    cause = first_cause(reel)
+    if cause:
+        return cause
+    starts = trace_starts(reel)
+    if trace > len(starts):
+        return "refused", 15, 0
+    if byte_number not in (BINARY_FIELDS if trace == 0 else TRACE_FIELDS):
+        return "refused", 16, 0
+    if trace == 0:
+        return "found", binary_number(reel, byte_number)
+    return "found", filled(reel, starts[trace - 1], byte_number)
+
+
+# ------------------------------------------------------------ the program
+
+MOST_INPUT = 65536
+BUFFER = 65536
+
+
+def program_line(data):
+    """The line that the program prints for its standard input."""
+    if len(data) > MOST_INPUT:
+        return b"too long\n"
+    said, _ = read_reel(data, BUFFER)
+    return " ".join(str(item) for item in said).encode("ascii") + b"\n"
+
+
+# ------------------------------------------------------- what a reel means
+
+
+def meaning(reel):
+    """Card text, header numbers, T and sample values of a reel without a cause of 1 to 9."""
+    code = binary_number(reel, CODE)
+    size = sample_size(code)
+    starts = trace_starts(reel)
+    return (
+        card_text(reel),
+        [binary_number(reel, b) for b in BINARY_FIELDS if b != CODE],
+        [[filled(reel, start, b) for b in TRACE_FIELDS] for start in starts],
+        len(starts),
+        [[v_of_word(code, reel[p : p + size]) for p in words(reel, start)] for start in starts],
+    )
+
+
+# ---------------------------------------------------------- making reels
+
+
+def put(header, place, width, number):
+    """Puts a number, signed or not, into a header that is a bytearray."""
+    header[place : place + width] = (number % 256 ** width).to_bytes(width, "big")
+
+
+def binary_header(fields, rest=None):
+    """400 bytes: numbers by byte number; other bytes from rest, or 00."""
+    header = bytearray(rest or bytes(400))
+    for byte_number, number in fields.items():
+        put(header, byte_number - 3201, BINARY_FIELDS[byte_number], number)
+    return bytes(header)
+
+
+def trace_header(fields, rest=None):
+    """240 bytes: numbers by byte number; other bytes from rest, or 00."""
+    header = bytearray(rest or bytes(TRACE_HEADER))
+    for byte_number, number in fields.items():
+        put(header, byte_number - 1, TRACE_FIELDS[byte_number], number)
+    return bytes(header)
+
+
+def make_trace(samples, fields=None, rest=None):
+    """A trace of samples that are already bytes."""
+    return trace_header(fields or {}, rest) + b"".join(samples)
+
+
+def make_reel(interval, n, code, traces=(), cards=b"\x40" * CARDS, fields=None, rest=None):
+    """A reel of traces that are already bytes; further binary fields by byte number."""
+    assert len(cards) == CARDS
+    numbers = {**(fields or {}), INTERVAL: interval, COUNT: n, CODE: code}
+    return cards + binary_header(numbers, rest) + b"".join(traces)
+
+
+def ibm(s, c, f):
+    return (s * 2 ** 31 + c * 2 ** 24 + f).to_bytes(4, "big")
+
+
+def whole32(number):
+    return number.to_bytes(4, "big", signed=True)
+
+
+def whole16(number):
+    return number.to_bytes(2, "big", signed=True)
+
+
+def gain(g, d, first=0x00):
+    return bytes([first, g]) + d.to_bytes(2, "big", signed=True)
+
+
+def some_bytes(rnd, count):
+    """Random bytes, the same under every Python."""
+    return rnd.getrandbits(8 * count).to_bytes(count, "big") if count else b""
+
+
+def some_sample(rnd, code):
+    """A random sample that its code takes."""
+    if code == 4:
+        return b"\x00" + some_bytes(rnd, 3)
+    return some_bytes(rnd, sample_size(code))
+
+
+def example():
+    """Document 01's own reel."""
+    return make_reel(2000, 2, 1, [make_trace([bytes.fromhex("41100000"), bytes.fromhex("C276A000")])])
+
+
+# ------------------------------------------------------------- self-check
+
+
+def random_reel(rnd, code, n, t, interval=2000):
+    """A good reel with all other bytes random, unassigned ones too; 115 and 117 now 0, now not."""
+    traces = [
+        make_trace(
+            [some_sample(rnd, code) for _ in range(n)],
+            {TRACE_COUNT: n * rnd.getrandbits(1), TRACE_INTERVAL: interval * rnd.getrandbits(1)},
+            some_bytes(rnd, TRACE_HEADER),
+        )
+        for _ in range(t)
+    ]
+    return make_reel(interval, n, code, traces, some_bytes(rnd, CARDS), rest=some_bytes(rnd, 400))
+
+
+def check_layout():
+    assert len(BINARY_FIELDS) == 27 and sum(BINARY_FIELDS.values()) == 60
+    assert len(TRACE_FIELDS) == 71 and sum(TRACE_FIELDS.values()) == 180
+    # the assigned fields stand side by side, from 3201 to 3260 and from 1 to 180
+    for fields, byte_number in ((BINARY_FIELDS, 3201), (TRACE_FIELDS, 1)):
+        for b, width in fields.items():
+            assert b == byte_number
+            byte_number += width
+    assert record_length(100000, 8000) == 4818603273
+
+
+def check_example():
+    reel = example()
+    assert len(reel) == 3848
+    assert program_line(reel) == b"taken 1 2 3471\n"
+    # the record by hand: 0C80 = 3200, 3C = 60, B4 = 180, 0C = 12, 07D0 = 2000
+    record = (
+        bytes.fromhex("010C80") + b"\x40" * 3200
+        + bytes.fromhex("02003C") + bytes(16)
+        + bytes.fromhex("07D0 0000 0002 0000 0000") + bytes(34)  # 3217 to 3226; the code is 0
+        + bytes.fromhex("0300B4") + bytes(114)
+        + bytes.fromhex("0002 07D0") + bytes(62)  # 115 and 117 filled in
+        + bytes.fromhex("04000C 0000 00000001 FFFD FFFFFC4B")
+        + bytes.fromhex("050004 00000001")
+    )
+    assert len(record) == 3471
+    assert read_reel(reel, 3471) == (("taken", 1, 2, 3471), record)
+    assert read_reel(reel, 70000) == (("taken", 1, 2, 3471), record)
+    assert read_reel(reel, 3470) == (("refused", 10, 3471), None)
+    assert read_reel(reel, 0) == (("refused", 10, 3471), None)
+    assert read_into(reel, b"\xA5" * 3480) == (("taken", 1, 2, 3471), record + b"\xA5" * 9)
+    assert read_into(reel, b"\xA5" * 3470) == (("refused", 10, 3471), b"\xA5" * 3470)
+
+
+def check_records(rnd):
+    for code in (1, 2, 3, 4):
+        for t in (0, 1, 2, 5):
+            for n in (1, 2, 7, 100):
+                reel = random_reel(rnd, code, n, t)
+                said, record = read_reel(reel, 1 << 20)
+                assert said == ("taken", t, n, 3273 + t * (186 + 6 * n))
+                assert record[:3203] == b"\x01\x0C\x80" + bytes(b or 0x40 for b in reel[:3200])
+                assert record[3206 + 24 : 3206 + 26] == b"\x00\x00"
+                assert record[-4:] == t.to_bytes(4, "big")
+                for i in range(t):  # filled in for every trace; all else as on the reel
+                    on_reel = HEADERS + i * trace_size(code, n)
+                    at = 3266 + i * (186 + 6 * n) + 3
+                    assert record[at - 3 : at] == bytes.fromhex("0300B4")
+                    assert record[at + 114 : at + 118] == number_bytes(n, 2) + b"\x07\xD0"
+                    assert record[at : at + 114] == reel[on_reel : on_reel + 114]
+                    assert record[at + 118 : at + 180] == reel[on_reel + 118 : on_reel + 180]
+                    assert record[at + 180] == 4 and signed(record[at + 181 : at + 183]) == 6 * n
+
+
+def check_pairs(rnd):
+    """The pair by counting against the pair by trying every exponent."""
+    def check(code, word):
+        assert pair_of_word(code, word) == pair_bytes(*pair_of_v(v_of_word(code, word)))
+
+    for code in (1, 2, 3, 4):
+        for _ in range(300):
+            check(code, some_sample(rnd, code))
+    for word in ("80000000", "7F000000", "00000001", "7F800000", "7FFFFFFF", "42010000"):
+        check(1, bytes.fromhex(word))
+    for number in (0, 1, -1, 2, -2, 2 ** 31 - 1, -(2 ** 31)):
+        check(2, whole32(number))
+    for number in (0, 1, -1, 2, -2, 2 ** 15 - 1, -(2 ** 15)):
+        check(3, whole16(number))
+        for g in (0, 1, 15, 16, 255):
+            check(4, gain(g, number))
+
+
+def check_meaning(rnd):
+    """Equal records are those of reels that mean the same, and no others."""
+    def same(a, b):
+        equal = read_reel(a, 1 << 20)[1] == read_reel(b, 1 << 20)[1]
+        assert equal == (meaning(a) == meaning(b))
+        return equal
+
+    # 1 and -3 under every code, with other unassigned bytes and other card blanks
+    by_code = {
+        1: [ibm(0, 65, 0x100000), ibm(1, 65, 0x300000)],
+        2: [whole32(1), whole32(-3)],
+        3: [whole16(1), whole16(-3)],
+        4: [gain(1, 2), gain(0, -3)],
+    }
+    reels = [
+        make_reel(2000, 2, code, [make_trace(samples, rest=bytes(180) + some_bytes(rnd, 60))] * 2,
+                  cards=(b"\x00" if code % 2 else b"\x40") * CARDS)
+        for code, samples in by_code.items()
+    ]
+    assert all(same(a, b) for a in reels for b in reels)
+    # one byte changed, wherever it stands
+    for _ in range(300):
+        before = reels[rnd.getrandbits(2)]
+        after = bytearray(before)
+        place = rnd.getrandbits(32) % len(after) if rnd.getrandbits(1) else (
+            HEADERS - 400 + rnd.getrandbits(32) % (len(after) - HEADERS + 400))
+        after[place] ^= 1 << rnd.getrandbits(3)
+        if first_cause(bytes(after)) is None and len(after) == len(before):
+            same(before, bytes(after))
+
+
+def check_causes():
+    def said(reel):
+        return read_reel(reel, BUFFER)[0]
+
+    good = example()
+    assert said(b"") == ("refused", 1, 0)
+    assert said(good[:3599]) == ("refused", 1, 3599)
+    assert said(bytes(3600)) == ("refused", 2, 3224)
+    assert said(make_reel(0, 0, 5)) == ("refused", 2, 3224)
+    assert said(make_reel(0, 0, 1)) == ("refused", 3, 3220)
+    assert said(make_reel(0, 1, 1)) == ("refused", 4, 3216)
+    assert said(make_reel(1, 1, 1)) == ("taken", 0, 1, 3273)
+    assert said(make_reel(32767, 8000, 4)) == ("taken", 0, 8000, 3273)
+    assert said(make_reel(2000, 8001, 1)) == ("refused", 3, 3220)
+    assert said(make_reel(32768, 8000, 1)) == ("refused", 4, 3216)
+    assert said(good + b"\x00") == ("refused", 5, 3848)
+    assert said(good[:-1]) == ("refused", 5, 3600)
+
+    def trace(fields, *samples):
+        return make_trace(samples, fields)
+
+    fine = trace({}, gain(0, 1), gain(1, 2))
+    assert said(make_reel(2000, 2, 4, [fine, trace({115: 3}, gain(0, 1), gain(1, 2))])) == (
+        "refused", 7, 3600 + 248 + 114)
+    assert said(make_reel(2000, 2, 4, [fine, trace({117: -1}, gain(0, 1), gain(1, 2))])) == (
+        "refused", 8, 3600 + 248 + 116)
+    assert said(make_reel(2000, 2, 4, [fine, trace({}, gain(0, 1), gain(1, 2, 0x80))])) == (
+        "refused", 9, 3600 + 248 + 244)
+    # trace by trace
+    assert said(make_reel(2000, 2, 4, [
+        trace({}, gain(0, 1), gain(0, 1, 0x01)), trace({115: 3}, gain(0, 1), gain(0, 1))])) == (
+        "refused", 9, 3600 + 244)
+    # traces beyond 100,000, and the length of a record that nobody has room for
+    many = make_reel(1, 1, 3, [make_trace([whole16(0)]) * 100000])
+    assert said(many) == ("refused", 10, 3273 + 100000 * 192)
+    assert said(many + bytes(242)) == ("refused", 6, 3600 + 100000 * 242)
+    assert said(many + bytes(243)) == ("refused", 5, 3600 + 100001 * 242)
+
+
+def check_look_up():
+    reel = make_reel(
+        2000, 2, 3,
+        [make_trace([whole16(1), whole16(2)], {1: -5, 115: 2, 117: 0, 179: -32768, 85: 2 ** 31 - 1}),
+         make_trace([whole16(1), whole16(2)], {25: 7, 115: 0, 117: 2000})],
+        fields={3201: -1, 3259: 65535, 3213: 12},
+    )
+    for trace, byte_number, number in (
+        (0, 3201, -1), (0, 3213, 12), (0, 3217, 2000), (0, 3221, 2), (0, 3225, 3), (0, 3259, -1),
+        (1, 1, -5), (1, 85, 2 ** 31 - 1), (1, 115, 2), (1, 117, 2000), (1, 179, -32768),
+        (2, 1, 0), (2, 25, 7), (2, 115, 2), (2, 117, 2000),
+    ):
+        assert look_up(reel, trace, byte_number) == ("found", number), (trace, byte_number)
+    assert look_up(reel, 3, 1) == ("refused", 15, 0)
+    assert look_up(reel, 3, 0) == ("refused", 15, 0)
+    for trace, byte_number in ((0, 1), (0, 3200), (0, 3202), (0, 3261), (1, 0), (1, 2), (1, 116),
+                               (1, 181), (1, 3201), (2, 3225)):
+        assert look_up(reel, trace, byte_number) == ("refused", 16, 0)
+    assert look_up(reel[:-1], 9, 0) == ("refused", 5, 3844)
+    assert look_up(b"", 0, 3201) == ("refused", 1, 0)
+    assert look_up(make_reel(1, 1, 1), 1, 1) == ("refused", 15, 0)
+    # a record of any length: look-up has no output
+    many = make_reel(1, 8000, 3, [make_trace([bytes(16000)])] * 3)
+    assert read_reel(many, BUFFER)[0] == ("refused", 10, 147831)
+    assert look_up(many, 3, 115) == ("found", 8000)
+
+
+def check_program_line():
+    assert program_line(b"") == b"refused 1 0\n"
+    assert program_line(make_reel(2000, 2, 1)) == b"taken 0 2 3273\n"
+    assert program_line(bytes(65536)) == b"refused 2 3224\n"
+    assert program_line(bytes(65537)) == b"too long\n"
+    assert program_line(example() + bytes(65536)) == b"too long\n"
+    assert program_line(make_reel(1, 3428, 3, [bytes(240 + 6856)] * 3)) == b"taken 3 3428 65535\n"
+    assert program_line(make_reel(1, 5158, 3, [bytes(240 + 10316)] * 2)) == b"refused 10 65541\n"
+
+
+def main():
+    if sys.argv[1:] == ["--line"]:
+        sys.stdout.buffer.write(program_line(sys.stdin.buffer.read()))
+        return
+    check_layout()
+    check_example()
+    check_records(random.Random(1975))
+    check_pairs(random.Random(1976))
+    check_meaning(random.Random(1977))
+    check_causes()
+    check_look_up()
+    check_program_line()
+    print("reels.py: the paper's statements hold")
+
+
+if __name__ == "__main__":
+    main()
