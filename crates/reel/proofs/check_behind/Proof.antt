@@ -1,4 +1,5 @@
 -- `reel::check_behind` meets its contract. Assumes nothing.
+use Prim.Native.Nat.{_-_}
 use Rattle.reel.specs.Causes.{behindCauses}
 use Rattle.reel.specs.Layout.{firstTrace}
 use Rattle.numbers.proofs.CauseLaws.{then-stop, then-next}

@@ -1,0 +1,458 @@
+"""Runs the program on many reels and compares its line with document 01's rules.
+
+    python3 tests/check_reel.py PATH_OF_PROGRAM [ITS ARGUMENTS]
+
+The rules are those of tools/vectors/reels.py, which were written from the
+paper alone. The inputs are the same at every run. Prints one line and exits
+0 if all agree; else prints each difference and exits 1.
+
+Number 6 can't be reached here: 100,001 traces take more than 24 million
+bytes, and the program takes 65,536. Numbers 11 to 16 belong to other calls.
+"""
+
+import random
+import subprocess
+import sys
+import time
+from concurrent.futures import ThreadPoolExecutor
+from pathlib import Path
+
+sys.dont_write_bytecode = True
+sys.path.insert(0, str(Path(__file__).resolve().parents[1] / "tools" / "vectors"))
+
+from reels import (  # noqa: E402
+    example, gain, make_reel, make_trace, program_line, random_reel, sample_size, some_bytes,
+    some_sample, trace_size,
+)
+
+CODES = (1, 2, 3, 4)
+SECONDS = 20  # how long the program may take for one input
+
+
+class Inputs:
+    def __init__(self):
+        self.all = []  # what it is in words, the bytes, the line, the pause between pieces or None
+        self.seen = set()
+
+    def put(self, what, data, line=None, pause=None):
+        """An input; the line where it was worked out by hand."""
+        data = bytes(data)
+        by_rules = program_line(data)
+        if line is not None:
+            assert by_rules == line.encode("ascii") + b"\n", (what, line, by_rules)
+        if (data, pause) not in self.seen:
+            self.seen.add((data, pause))
+            self.all.append((what, data, by_rules, pause))
+
+
+def trace(rnd, code, n, fields=None):
+    """A trace with valid random samples; fields not named are 0."""
+    return make_trace([some_sample(rnd, code) for _ in range(n)], fields)
+
+
+def traces(rnd, code, n, t, faults=None):
+    """t traces, with the fields that faults names for some of them (counted from 1)."""
+    return [trace(rnd, code, n, (faults or {}).get(i)) for i in range(1, t + 1)]
+
+
+def lengths(x, rnd):
+    x.put("the paper's example", example(), "taken 1 2 3471")
+    x.put("empty input", b"", "refused 1 0")
+    x.put("1 byte", b"\x40", "refused 1 1")
+    for count in (1, 2, 9, 10, 255, 256, 1000, 3199, 3200, 3201, 3224, 3226, 3598, 3599):
+        x.put(f"the example's first {count} bytes", example()[:count], f"refused 1 {count}")
+        x.put(f"{count} bytes 00", bytes(count), f"refused 1 {count}")
+    for count in (3600, 3601, 3839, 3840, 3844, 3847):
+        line = "taken 0 2 3273" if count == 3600 else "refused 5 3600"
+        x.put(f"the example's first {count} bytes", example()[:count], line)
+    for count in (3600, 3601, 65535, 65536):
+        x.put(f"{count} bytes 00", bytes(count), "refused 2 3224")
+        x.put(f"{count} bytes FF", b"\xFF" * count, "refused 2 3224")
+    for count in (65537, 65538, 69136, 131072, 131073, 200000, 1000000):
+        x.put(f"{count} bytes 00", bytes(count), "too long")
+        x.put(f"the example, then 00 up to {count} bytes", example() + bytes(count - 3848), "too long")
+    # 65,536 bytes that are whole reels: 196 traces of 316 bytes, 49 of 1,264, 4 of 15,484
+    for code in (1, 2, 4):
+        reel = random_reel(rnd, code, 19, 196)
+        assert len(reel) == 65536
+        x.put(f"a reel of just 65536 bytes, code {code}", reel, "taken 196 19 62073")
+        x.put(f"that reel without its last byte, code {code}", reel[:-1], "refused 5 65220")
+        x.put(f"that reel and one byte, code {code}", reel + b"\x00", "too long")
+        x.put(f"that reel and one more trace, code {code}", reel + reel[-316:], "too long")
+        x.put(f"that reel three times, code {code}", reel * 3, "too long")
+    for code, n, t, needed in ((1, 256, 49, 87651), (2, 3811, 4, 95481), (3, 7622, 4, 186945)):
+        reel = random_reel(rnd, code, n, t)
+        assert len(reel) == 65536
+        x.put(f"a reel of just 65536 bytes, code {code}, record too long", reel, f"refused 10 {needed}")
+    # as many traces as go in
+    x.put("255 traces of one 16-bit sample", random_reel(rnd, 3, 1, 255), "taken 255 1 52233")
+    x.put("253 traces of one 32-bit sample", random_reel(rnd, 2, 1, 253), "taken 253 1 51849")
+    x.put("255 traces and 226 bytes", random_reel(rnd, 3, 1, 255) + bytes(226), "refused 5 65310")
+    x.put("255 traces and 227 bytes", random_reel(rnd, 3, 1, 255) + bytes(227), "too long")
+
+
+def good_reels(x, rnd):
+    for code in CODES:
+        for n in (1, 2, 127, 256, 1000):
+            for t in (0, 1, 2, 10):
+                x.put(f"any good reel, code {code}, N {n}, T {t}", random_reel(rnd, code, n, t))
+        for interval in (1, 255, 256, 4000, 32767):
+            x.put(f"any good reel, code {code}, interval {interval}",
+                  random_reel(rnd, code, 5, 4, interval))
+        x.put(f"one trace of 8000 samples, code {code}", random_reel(rnd, code, 8000, 1),
+              "taken 1 8000 51459")
+        x.put(f"no trace, N 8000, code {code}", make_reel(1, 8000, code), "taken 0 8000 3273")
+        for cards, what in ((bytes(3200), "all card bytes 00"), (b"\xFF" * 3200, "all card bytes FF"),
+                            (b"\x00\x40" * 1600, "every other card byte 00"),
+                            (b"\x40" * 3199 + b"\x00", "the last card byte 00")):
+            reel = make_reel(2000, 2, code, traces(rnd, code, 2, 2), cards)
+            x.put(f"{what}, code {code}", reel, "taken 2 2 3669")
+        # unassigned bytes carry no meaning
+        rest = bytes(60) + b"\xFF" * 340
+        reel = make_reel(2000, 2, code, [
+            make_trace([some_sample(rnd, code), some_sample(rnd, code)], {}, bytes(180) + b"\xFF" * 60)
+        ], rest=rest)
+        x.put(f"unassigned bytes FF, code {code}", reel, "taken 1 2 3471")
+        # samples at the ends of what a code has
+        for byte in (0x00, 0x7F, 0x80, 0xFF):
+            word = (b"\x00" if code == 4 else b"") + bytes([byte]) * 3 + b"\x01"
+            word = word[: sample_size(code)]
+            reel = make_reel(2000, 3, code, [make_trace([word] * 3)])
+            x.put(f"samples {word.hex()}, code {code}", reel, "taken 1 3 3477")
+
+
+def codes(x, rnd):
+    bad = (0, 5, 6, 7, 8, 9, 127, 128, 255, 256, 257, 258, 259, 260, 512, 768, 1024, 1025, 1028,
+           32767, 32768, 32769, 32772, 65281, 65284, 65532, 65535)
+    for code in bad:
+        x.put(f"code {code}, no trace", make_reel(2000, 2, code), "refused 2 3224")
+        x.put(f"code {code}, one trace", make_reel(2000, 2, code, traces(rnd, 1, 2, 1)), "refused 2 3224")
+    for code in CODES:
+        x.put(f"code {code}, no trace", make_reel(2000, 2, code), "taken 0 2 3273")
+
+
+def counts(x, rnd):
+    for n in (0, 8001, 8002, 8192, 16384, 32767, 32768, 32769, 33000, 40768, 65534, 65535):
+        for code in CODES:
+            x.put(f"N {n}, code {code}, no trace", make_reel(2000, n, code), "refused 3 3220")
+        x.put(f"N {n}, 240 bytes after the headers", make_reel(2000, n, 1, [bytes(240)]), "refused 3 3220")
+        x.put(f"N {n}, 248 bytes after the headers", make_reel(2000, n, 3, [bytes(248)]), "refused 3 3220")
+    for code in CODES:
+        reel = make_reel(2000, 8001, code, [bytes(trace_size(code, 8001))])
+        x.put(f"N 8001 and a whole trace of it, code {code}", reel, "refused 3 3220")
+        for n in (1, 255, 256, 7999, 8000):
+            x.put(f"N {n}, code {code}, no trace", make_reel(2000, n, code), f"taken 0 {n} 3273")
+            x.put(f"N {n}, code {code}, one trace", make_reel(2000, n, code, traces(rnd, code, n, 1)),
+                  f"taken 1 {n} {3459 + 6 * n}")
+
+
+def intervals(x, rnd):
+    for interval in (0, 32768, 32769, 34768, 65280, 65534, 65535):
+        for code in CODES:
+            x.put(f"interval {interval}, code {code}, no trace", make_reel(interval, 2, code),
+                  "refused 4 3216")
+        for field in (0, interval, 2000):
+            reel = make_reel(interval, 2, 1, [trace(rnd, 1, 2, {117: field})])
+            x.put(f"interval {interval}, field 117 {field}", reel, "refused 4 3216")
+    for interval in (1, 2, 255, 256, 32766, 32767):
+        x.put(f"interval {interval}, no trace", make_reel(interval, 2, 1), "taken 0 2 3273")
+        for field in (0, interval):
+            reel = make_reel(interval, 2, 1, [trace(rnd, 1, 2, {117: field})])
+            x.put(f"interval {interval}, field 117 {field}", reel, "taken 1 2 3471")
+
+
+def leftovers(x, rnd):
+    for code in CODES:
+        for n in (1, 100):
+            size = trace_size(code, n)
+            for t in (0, 3):
+                reel = make_reel(2000, n, code, traces(rnd, code, n, t))
+                for more in (1, 2, 239, 240, size - 1):
+                    if 0 < more < size:
+                        x.put(f"{more} bytes after {t} traces of {size}", reel + some_bytes(rnd, more),
+                              f"refused 5 {3600 + t * size}")
+        # a reel laid out for another width of samples
+        for other in CODES:
+            if sample_size(other) != sample_size(code):
+                for n, t in ((2, 1), (120, 2), (1, 121)):
+                    reel = make_reel(2000, n, code, traces(rnd, other, n, t))
+                    x.put(f"code {code}, traces laid out for code {other}, N {n}, T {t}", reel)
+
+
+def trace_counts(x, rnd):
+    for code in CODES:
+        for n in (2, 258):
+            size = trace_size(code, n)
+            for t, which in ((1, (1,)), (3, (1, 2, 3))):
+                for i in which:
+                    for field in (0, n):
+                        reel = make_reel(2000, n, code, traces(rnd, code, n, t, {i: {115: field}}))
+                        x.put(f"field 115 {field} in trace {i} of {t}, N {n}, code {code}", reel,
+                              f"taken {t} {n} {3273 + t * (186 + 6 * n)}")
+                    for field in (n + 1, 65535):
+                        reel = make_reel(2000, n, code, traces(rnd, code, n, t, {i: {115: field}}))
+                        x.put(f"field 115 {field} in trace {i} of {t}, N {n}, code {code}", reel,
+                              f"refused 7 {3600 + (i - 1) * size + 114}")
+    # one byte of N right, N in another order, N with a sign, and the like; 258 is 0102
+    for field in (1, 2, 256, 257, 259, 513, 770, 516, 129, 32768 + 258, 65536 - 258, 32768, 8000, 8001, 2000):
+        for i in (1, 2, 3):
+            reel = make_reel(2000, 258, 3, traces(rnd, 3, 258, 3, {i: {115: field, 117: 2000}}))
+            x.put(f"field 115 {field} in trace {i} of 3, N 258", reel,
+                  f"refused 7 {3600 + (i - 1) * 756 + 114}")
+    # right in one trace, wrong in another; wrong twice
+    for faults, i in (({1: {115: 2}, 2: {115: 3}}, 2), ({1: {115: 3}, 2: {115: 2}}, 1),
+                      ({2: {115: 3}, 3: {115: 1}}, 2), ({1: {115: 2}, 2: {115: 2}, 3: {115: 1}}, 3)):
+        reel = make_reel(2000, 2, 1, traces(rnd, 1, 2, 3, faults))
+        x.put(f"fields {faults}, N 2", reel, f"refused 7 {3600 + (i - 1) * 248 + 114}")
+
+
+def trace_intervals(x, rnd):
+    for code in CODES:
+        size = trace_size(code, 2)
+        for t, which in ((1, (1,)), (3, (1, 2, 3))):
+            for i in which:
+                for field in (0, 2000):
+                    reel = make_reel(2000, 2, code, traces(rnd, code, 2, t, {i: {117: field}}))
+                    x.put(f"field 117 {field} in trace {i} of {t}, interval 2000, code {code}", reel,
+                          f"taken {t} 2 {3273 + t * 198}")
+                for field in (2001, 65535):
+                    reel = make_reel(2000, 2, code, traces(rnd, code, 2, t, {i: {117: field}}))
+                    x.put(f"field 117 {field} in trace {i} of {t}, interval 2000, code {code}", reel,
+                          f"refused 8 {3600 + (i - 1) * size + 116}")
+    # 2000 is 07D0
+    for field in (1, 1999, 208, 1792, 53255, 34768, 63536, 32768, 32767, 4000):
+        for i in (1, 2, 3):
+            reel = make_reel(2000, 2, 3, traces(rnd, 3, 2, 3, {i: {115: 2, 117: field}}))
+            x.put(f"field 117 {field} in trace {i} of 3, interval 2000", reel,
+                  f"refused 8 {3600 + (i - 1) * 244 + 116}")
+    # where N and the interval are one number, and where each stands in the other's field
+    x.put("N, interval, 115 and 117 all 7", make_reel(7, 7, 1, traces(rnd, 1, 7, 1, {1: {115: 7, 117: 7}})),
+          "taken 1 7 3501")
+    x.put("115 and 117 exchanged", make_reel(9, 7, 1, traces(rnd, 1, 7, 1, {1: {115: 9, 117: 7}})),
+          "refused 7 3714")
+    x.put("117 is N", make_reel(9, 7, 1, traces(rnd, 1, 7, 1, {1: {117: 7}})), "refused 8 3716")
+    # no other field has a say
+    for b in (111, 113, 119, 121):
+        x.put(f"field {b} is -1", make_reel(9, 7, 1, traces(rnd, 1, 7, 1, {1: {b: -1}})), "taken 1 7 3501")
+    for b in (3213, 3215, 3219, 3223, 3227, 3229):
+        x.put(f"field {b} is -1", make_reel(9, 7, 1, traces(rnd, 1, 7, 1), fields={b: -1}), "taken 1 7 3501")
+
+
+def gain_bytes(x, rnd):
+    def reel_with(code, t, n, bad):
+        """Byte `first` at the start of sample k of trace i, for each of bad (both from 1)."""
+        reel = bytearray(make_reel(2000, n, code, traces(rnd, code, n, t)))
+        places = []
+        for i, k, first in bad:
+            place = 3600 + (i - 1) * trace_size(code, n) + 240 + (k - 1) * sample_size(code)
+            reel[place] = first
+            places.append(place)
+        return reel, min(places)
+
+    for t, n in ((1, 1), (1, 5), (3, 5)):
+        for i in range(1, t + 1):
+            for k in sorted({1, (n + 1) // 2, n}):
+                for first in (0x01, 0x80, 0xFF):
+                    reel, place = reel_with(4, t, n, [(i, k, first)])
+                    x.put(f"first byte {first:02X} in gain word {k} of {n}, trace {i} of {t}", reel,
+                          f"refused 9 {place}")
+    for first in (0x02, 0x04, 0x08, 0x10, 0x20, 0x40, 0x7F, 0xFE):
+        reel, place = reel_with(4, 2, 3, [(2, 3, first)])
+        x.put(f"first byte {first:02X} in the last gain word", reel, f"refused 9 {place}")
+    # fine under the other codes
+    for code in (1, 2, 3):
+        for first in (0x01, 0x80, 0xFF):
+            for i, k in ((1, 1), (2, 3), (3, 5)):
+                reel, _ = reel_with(code, 3, 5, [(i, k, first)])
+                x.put(f"first byte {first:02X} in sample {k}, trace {i}, code {code}", reel,
+                      "taken 3 5 3921")
+    # two bad words: the first counts
+    for bad in ([(1, 2, 1), (1, 4, 1)], [(1, 5, 1), (2, 1, 1)], [(2, 5, 1), (3, 1, 255)],
+                [(1, 1, 255), (3, 5, 1)], [(2, 1, 1), (2, 2, 1)]):
+        reel, place = reel_with(4, 3, 5, bad)
+        x.put(f"bad gain words {bad}", reel, f"refused 9 {place}")
+    # the other bytes of a gain word may be anything
+    for g in (0, 1, 15, 16, 127, 128, 255):
+        for d in (0, 1, -1, 32767, -32768):
+            reel = make_reel(2000, 1, 4, [make_trace([gain(g, d)])])
+            x.put(f"gain {g}, d {d}", reel, "taken 1 1 3465")
+    reel, place = reel_with(4, 1, 8000, [(1, 8000, 1)])
+    x.put("bad gain word 8000 of 8000", reel, f"refused 9 {place}")
+    reel, place = reel_with(4, 196, 19, [(196, 19, 1)])
+    assert place == 65532
+    x.put("bad gain word at the end of 65536 bytes", reel, "refused 9 65532")
+
+
+def output_too_short(x, rnd):
+    # A record is 3273 + 6k bytes: 65,535 is the longest that fits and 65,541 the next.
+    for code in CODES:
+        for t, n, line in (
+            (3, 3428, "taken 3 3428 65535"), (9, 1122, "taken 9 1122 65535"),
+            (2, 5157, "taken 2 5157 65529"), (2, 5158, "refused 10 65541"),
+            (3, 3429, "refused 10 65553"), (9, 1123, "refused 10 65589"),
+        ):
+            x.put(f"T {t}, N {n}, code {code}", random_reel(rnd, code, n, t), line)
+    for t, n, line in (
+        (158, 34, "taken 158 34 64893"), (158, 35, "refused 10 65841"), (1, 8000, "taken 1 8000 51459"),
+        (2, 8000, "refused 10 99645"), (3, 8000, "refused 10 147831"), (4, 7000, "refused 10 172017"),
+    ):
+        x.put(f"T {t}, N {n}, code 3", random_reel(rnd, 3, n, t), line)
+
+
+def several_causes(x, rnd):
+    # every set of causes on one reel, and those from 5 on where the record is too long as well
+    for t, n in ((3, 4), (3, 3429)):
+        for number in range(128 if n == 4 else 16):
+            causes = {c for bit, c in enumerate((5, 7, 8, 9, 2, 3, 4)) if number >> bit & 1}
+            fields = {i: {} for i in range(1, t + 1)}
+            hit = {c: 1 + rnd.getrandbits(16) % t for c in (7, 8, 9)}
+            if 7 in causes:
+                fields[hit[7]][115] = n + 1
+            if 8 in causes:
+                fields[hit[8]][117] = 1999
+            reel = bytearray(make_reel(
+                65535 if 4 in causes else 2000, 8001 if 3 in causes else n, 5 if 2 in causes else 4,
+                traces(rnd, 4, n, t, fields)))
+            if 9 in causes:
+                word = 1 + rnd.getrandbits(16) % n
+                reel[3600 + (hit[9] - 1) * trace_size(4, n) + 240 + 4 * (word - 1)] = 1
+            if 5 in causes:
+                reel += b"\x00"
+            x.put(f"T {t}, N {n}, causes {sorted(causes)}, those of traces in {hit}", reel)
+
+    def reel_with(t, faults, bad=(), code=4, **header):
+        numbers = {"interval": 2000, "n": 2, "code": code, **header}
+        reel = bytearray(make_reel(numbers["interval"], numbers["n"], numbers["code"],
+                                   traces(rnd, 4, 2, t, faults)))
+        for i, k in bad:
+            reel[3600 + (i - 1) * 248 + 240 + 4 * (k - 1)] = 0x80
+        return reel
+
+    x.put("2, 3 and 4", reel_with(1, {}, code=0, n=0, interval=0), "refused 2 3224")
+    x.put("2 and 4", reel_with(1, {}, code=0, interval=0), "refused 2 3224")
+    x.put("3 and 4", reel_with(1, {}, n=0, interval=0), "refused 3 3220")
+    x.put("4 and 5", reel_with(1, {}, interval=0) + b"\x00", "refused 4 3216")
+    x.put("5 and 7", reel_with(1, {1: {115: 3}}) + b"\x00", "refused 5 3848")
+    x.put("5 and 8", reel_with(2, {1: {117: 3}}) + b"\x00", "refused 5 4096")
+    x.put("5 and 9", reel_with(2, {}, [(1, 1)]) + b"\x00", "refused 5 4096")
+    x.put("7 in trace 2, 9 in trace 1", reel_with(2, {2: {115: 3}}, [(1, 2)]), "refused 9 3844")
+    x.put("7 in trace 2, 8 in trace 1", reel_with(2, {1: {117: 1}, 2: {115: 3}}), "refused 8 3716")
+    x.put("8 in trace 2, 9 in trace 1", reel_with(2, {2: {117: 1}}, [(1, 1)]), "refused 9 3840")
+    x.put("8 in trace 2, 7 in trace 1", reel_with(2, {1: {115: 3}, 2: {117: 1}}), "refused 7 3714")
+    x.put("9 in trace 2, 7 in trace 1", reel_with(2, {1: {115: 3}}, [(2, 1)]), "refused 7 3714")
+    x.put("9 in trace 2, 8 in trace 1", reel_with(2, {1: {117: 3}}, [(2, 1)]), "refused 8 3716")
+    x.put("7 and 8 in one trace", reel_with(2, {2: {115: 3, 117: 1}}), "refused 7 3962")
+    x.put("7 and 9 in one trace", reel_with(2, {2: {115: 3}}, [(2, 1)]), "refused 7 3962")
+    x.put("8 and 9 in one trace", reel_with(2, {2: {117: 1}}, [(2, 1)]), "refused 8 3964")
+    x.put("7, 8 and 9 in one trace", reel_with(2, {2: {115: 3, 117: 1}}, [(2, 1)]), "refused 7 3962")
+    x.put("1, with a bad code", reel_with(0, {}, code=0)[:3599], "refused 1 3599")
+    # the cause stands at the very end of a reel whose record is too long
+    reel = bytearray(random_reel(rnd, 4, 3811, 4))
+    reel[65532] = 1
+    x.put("9 in the last word, and 10", reel, "refused 9 65532")
+
+
+def small_changes(x, rnd):
+    """Good reels with a byte changed where it counts, or cut, or with bytes added."""
+    for _ in range(150):
+        code, n, t = 1 + rnd.getrandbits(2), 1 + rnd.getrandbits(3), 1 + rnd.getrandbits(2)
+        size = trace_size(code, n)
+        reel = bytearray(random_reel(rnd, code, n, t))
+        start = 3600 + rnd.getrandbits(16) % t * size
+        kind = rnd.getrandbits(16) % 5
+        if kind == 0:
+            place = (3216, 3217, 3220, 3221, 3224, 3225)[rnd.getrandbits(16) % 6]
+        elif kind == 1:
+            place = start + 112 + rnd.getrandbits(3)
+        elif kind == 2:
+            place = start + 240 + rnd.getrandbits(16) % (size - 240)
+        elif kind == 3:
+            place = rnd.getrandbits(16) % len(reel)
+        else:
+            place = None
+        what = f"code {code}, N {n}, T {t}"
+        if place is not None:
+            reel[place] ^= 1 << rnd.getrandbits(3)
+            x.put(f"{what}, the byte at place {place} changed to {reel[place]:02X}", reel)
+        elif rnd.getrandbits(1):
+            cut = 1 + rnd.getrandbits(16) % (2 * size)
+            x.put(f"{what}, {cut} bytes cut off", reel[:-cut])
+        else:
+            more = 1 + rnd.getrandbits(16) % (2 * size)
+            x.put(f"{what}, {more} bytes added", reel + some_bytes(rnd, more))
+
+
+def pieces(x, rnd):
+    """Input that arrives bit by bit is the same input."""
+    for what, data in (
+        ("empty input", b""), ("the example", example()), ("the example and a byte", example() + b"\x00"),
+        ("65536 bytes, taken", random_reel(rnd, 1, 19, 196)),
+        ("65537 bytes", random_reel(rnd, 1, 19, 196) + b"\x00"), ("200000 bytes", bytes(200000)),
+    ):
+        x.put(f"{what}, in pieces", data, pause=0.02)
+
+
+def all_inputs():
+    x = Inputs()
+    for seed, part in enumerate((
+        lengths, good_reels, codes, counts, intervals, leftovers, trace_counts, trace_intervals,
+        gain_bytes, output_too_short, several_causes, small_changes, pieces,
+    )):
+        part(x, random.Random(1975 + seed))
+    return x.all
+
+
+def run(command, data, pause):
+    """What the program printed, and its exit status."""
+    if pause is None:
+        done = subprocess.run(command, input=data, stdout=subprocess.PIPE, timeout=SECONDS)
+        return done.stdout, done.returncode
+    program = subprocess.Popen(command, stdin=subprocess.PIPE, stdout=subprocess.PIPE)
+    try:
+        size = len(data) // 7 + 1
+        try:
+            for i in range(0, len(data), size):
+                time.sleep(pause)
+                program.stdin.write(data[i : i + size])
+                program.stdin.flush()
+            time.sleep(pause)
+        except BrokenPipeError:
+            pass  # it needn't read what is too long to the end
+        out, _ = program.communicate(timeout=SECONDS)
+        return out, program.returncode
+    finally:
+        if program.poll() is None:
+            program.kill()
+            program.wait()
+
+
+def main():
+    if len(sys.argv) < 2:
+        sys.exit("usage: python3 tests/check_reel.py PATH_OF_PROGRAM [ITS ARGUMENTS]")
+    path = Path(sys.argv[1])
+    command = [str(path.resolve()) if path.is_file() else sys.argv[1]] + sys.argv[2:]
+
+    def difference(one):
+        what, data, line, pause = one
+        try:
+            got, status = run(command, data, pause)
+        except subprocess.TimeoutExpired:
+            return f"check_reel: {what} ({len(data)} bytes): no answer in {SECONDS} seconds"
+        if got == line and status == 0:
+            return None
+        said = f"expected {line!r}, got {got!r}" + (f", exit status {status}" if status else "")
+        return f"check_reel: {what} ({len(data)} bytes): {said}"
+
+    inputs = all_inputs()
+    with ThreadPoolExecutor(4) as pool:
+        differences = [said for said in pool.map(difference, inputs) if said]
+    for said in differences:
+        print(said)
+    if differences:
+        print(f"check_reel: {len(differences)} of {len(inputs)} inputs differ")
+        sys.exit(1)
+    print(f"check_reel: {len(inputs)} inputs agree")
+
+
+if __name__ == "__main__":
+    main()
