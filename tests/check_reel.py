@@ -11,8 +11,10 @@ bytes, and the program takes 65,536. Numbers 11 to 16 belong to other calls.
 """
 
 import random
+import shutil
 import subprocess
 import sys
+import threading
 import time
 from concurrent.futures import ThreadPoolExecutor
 from pathlib import Path
@@ -407,23 +409,29 @@ def run(command, data, pause):
     if pause is None:
         done = subprocess.run(command, input=data, stdout=subprocess.PIPE, timeout=SECONDS)
         return done.stdout, done.returncode
-    program = subprocess.Popen(command, stdin=subprocess.PIPE, stdout=subprocess.PIPE)
-    try:
-        size = len(data) // 7 + 1
-        try:
-            for i in range(0, len(data), size):
-                time.sleep(pause)
-                program.stdin.write(data[i : i + size])
-                program.stdin.flush()
-            time.sleep(pause)
-        except BrokenPipeError:
-            pass  # it needn't read what is too long to the end
-        out, _ = program.communicate(timeout=SECONDS)
-        return out, program.returncode
-    finally:
-        if program.poll() is None:
-            program.kill()
-            program.wait()
+    with subprocess.Popen(command, stdin=subprocess.PIPE, stdout=subprocess.PIPE) as program:
+
+        def feed():
+            size = len(data) // 7 + 1
+            try:
+                with program.stdin:
+                    for i in range(0, len(data), size):
+                        time.sleep(pause)
+                        program.stdin.write(data[i : i + size])
+                        program.stdin.flush()
+                    time.sleep(pause)
+            except BrokenPipeError:
+                pass  # it needn't read what is too long to the end
+
+        feeder = threading.Thread(target=feed)
+        clock = threading.Timer(SECONDS, program.kill)
+        feeder.start()
+        clock.start()
+        out = program.stdout.read()
+        status = program.wait()
+        clock.cancel()
+        feeder.join()
+    return out, status
 
 
 def main():
@@ -431,6 +439,8 @@ def main():
         sys.exit("usage: python3 tests/check_reel.py PATH_OF_PROGRAM [ITS ARGUMENTS]")
     path = Path(sys.argv[1])
     command = [str(path.resolve()) if path.is_file() else sys.argv[1]] + sys.argv[2:]
+    if shutil.which(command[0]) is None:
+        sys.exit(f"check_reel: no program {sys.argv[1]}")
 
     def difference(one):
         what, data, line, pause = one

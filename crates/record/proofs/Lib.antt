@@ -1,1 +1,3 @@
+-- Laws of header numbers and their bytes.
 pub mod NumberLaws
+pub mod HeaderLaws

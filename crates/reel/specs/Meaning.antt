@@ -1,7 +1,7 @@
 -- What a reel means, from its bytes alone and never from a record.
 use Prim.Native.Nat.{ℕ, _+_, _-_}
 use mathlib.Core.Path.{_≡_}
-use mathlib.Core.List.{List, [], _∷_, map}
+use mathlib.Core.List.{List, [], _∷_, _++_, map}
 use mathlib.Core.Bool.{Bool, true, false}
 use lib.ListN.{length}
 use lib.Dec.{eqb}
@@ -21,7 +21,7 @@ cardText s = map blank (bytesAt s 0 cardBytes)
 -- The fields that begin at another byte number.
 abbrev pub otherThan : ℕ → List Field → List Field
 otherThan b [] = []
-otherThan b (f ∷ fs) = pick (eqb (f .byteNo) b) (otherThan b fs) (f ∷ otherThan b fs)
+otherThan b (f ∷ fs) = pick (eqb (f .byteNo) b) [] (f ∷ []) ++ otherThan b fs
 
 -- The numbers of the 26 binary fields other than 3225.
 unfoldable pub binaryNumbers : List ℕ → List ℤ

@@ -6,7 +6,7 @@ use lib.Dec.{T, leb}
 use mathlib.Core.List.{List, [], _∷_, _++_, map}
 use Prim.Native.Nat.{ℕ, _+_, _-_, _*_, _≤_, _<_}
 use native.Mathlib.Omega.{arith}
-use lib.ListN.{length, getD, length-append, length-map}
+use lib.ListN.{length, getD, length-append}
 use Rattle.numbers.specs.Walk.{walk, flat, bytesAt}
 use Rattle.numbers.specs.BigEndian.{number, bytesOf}
 use Rattle.numbers.specs.TwosComplement.{signedOf}
@@ -16,7 +16,8 @@ use Rattle.sample.specs.Reading.{isCode, pairTaken, readWord}
 use Rattle.sample.specs.declared.Sample.{Sample}
 use Rattle.sample.specs.declared.Sample.the-variants.{Taken, Refused}
 use Rattle.reel.specs.Layout.{firstTrace, sampleBytes}
-use Rattle.reel.specs.Meaning.{blank, cardText}
+use Rattle.reel.specs.Meaning.{cardText}
+use Rattle.record.proofs.HeaderLaws.{size-cards}
 use Rattle.transcribe.specs.Copied.{tagBytes, binaryCopied, headCopied, ownOr, headerCopied, sampleContent, sampleCopied, places, samplesCopied, traceCopied, recordCopied}
 
 -- ## Lengths
@@ -24,10 +25,6 @@ use Rattle.transcribe.specs.Copied.{tagBytes, binaryCopied, headCopied, 
 pub size-binary : (s : List ℕ) → length (binaryCopied s) ≡ 60
 unfolding binaryCopied
 size-binary s = simp (length-append, size-bytes)
-
-pub size-cards : (s : List ℕ) → length (cardText s) ≡ 3200
-unfolding cardText
-size-cards s = simp (length-map, size-bytes)
 
 pub size-head : (s : List ℕ) → length (headCopied s) ≡ 3266
 unfolding headCopied

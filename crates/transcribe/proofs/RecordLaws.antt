@@ -27,8 +27,9 @@ use Rattle.reel.specs.Meaning.{cardText, otherThan, binaryNumbers, filled, trac
 use Rattle.reel.proofs.CheckLaws.{Numbers, Sound, reel-fine}
 use Rattle.record.specs.Record.{field, numberBytes, withCode, binaryBytes, valueBytes, samplesField, traceBytes, recordOf, reelRecord}
 use Rattle.record.proofs.NumberLaws.{fields-again, numbers-append}
+use Rattle.record.proofs.HeaderLaws.{binary-front, binary-back, trace-front, trace-back, countField, intervalField, size-cards}
 use Rattle.transcribe.specs.Copied.{tagBytes, binaryCopied, headCopied, ownOr, headerCopied, sampleContent, sampleCopied, places, samplesCopied, traceCopied, recordCopied}
-use Rattle.transcribe.proofs.CopiedLaws.{size-cards, size-binary, size-header, size-samples}
+use Rattle.transcribe.proofs.CopiedLaws.{size-binary, size-header, size-samples}
 
 -- ## Fields
 
@@ -38,12 +39,6 @@ unfolding field
 field-is tag k l e = ap (λ (x : ℕ). tag ∷ (bytesOf 2 x ++ l)) e
 
 -- ## The binary header
-
-binary-front : List ℕ
-binary-front = replicate 3 4 ++ replicate 6 2
-
-binary-back : List ℕ
-binary-back = replicate 17 2
 
 binary-is : (s : List ℕ) → Bytes s → binaryBytes (binaryNumbers s) ≡ binaryCopied s
 unfolding binaryBytes binaryNumbers binaryWidths binaryFields binaryCopied binary-front binary-back
@@ -76,12 +71,6 @@ fill-bits own (suc k) h = go (eqb (natAbs (signedOf 16 (suc k))) 0) refl
     go true q = absurd (some (sym back ∙ ap (bitsOf 16) (abs-zero (signedOf 16 (suc k)) (eqb-true _ 0 q))))
     go false q = back ∙ rw (ne-eqb (suc k) 0 some)
 
-trace-front : List ℕ
-trace-front = replicate 7 4 ++ (replicate 4 2 ++ (replicate 8 4 ++ (replicate 2 2 ++ (replicate 4 4 ++ replicate 13 2))))
-
-trace-back : List ℕ
-trace-back = replicate 31 2
-
 header-is : (s : List ℕ) → Bytes s → (n i at : ℕ) → numberBytes traceWidths (map (traceNumber s n i at) traceFields) ≡ headerCopied s n i at
 unfolding traceWidths traceFields headerCopied trace-front trace-back
 header-is s h n i at =
@@ -91,7 +80,7 @@ header-is s h n i at =
     let b = ap (bytesOf 2) (fill-bits n (word s (at + 114)) (number-at s h (at + 114) 2)) in
     let c = ap (bytesOf 2) (fill-bits i (word s (at + 116)) (number-at s h (at + 116) 2)) in
     let d = fields-again s h at 119 trace-back (omega arith) in
-    numbers-append trace-front (2 ∷ 2 ∷ trace-back) (map f (fieldsFrom 1 trace-front)) (filled n (f (record { byteNo = 115; width = 2 })) ∷ filled i (f (record { byteNo = 117; width = 2 })) ∷ map f (fieldsFrom 119 trace-back)) refl
+    numbers-append trace-front (2 ∷ 2 ∷ trace-back) (map f (fieldsFrom 1 trace-front)) (filled n (f countField) ∷ filled i (f intervalField) ∷ map f (fieldsFrom 119 trace-back)) refl
     ∙ ap₂ (λ (x y : List ℕ). x ++ y) a (ap₂ (λ (x y : List ℕ). x ++ y) b (ap₂ (λ (x y : List ℕ). x ++ y) c d))
 
 -- ## Samples

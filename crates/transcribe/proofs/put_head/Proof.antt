@@ -1,5 +1,6 @@
 -- `transcribe::put_head` meets its contract. Assumes nothing.
-use Rattle.transcribe.proofs.CopiedLaws.{size-cards, size-binary, size-head}
+use Rattle.transcribe.proofs.CopiedLaws.{size-binary, size-head}
+use Rattle.record.proofs.HeaderLaws.{size-cards}
 use Rattle.transcribe.specs.Copied.{tagBytes, binaryCopied, headCopied}
 use Rattle.reel.specs.Meaning.{blank, cardText}
 use Rattle.numbers.proofs.Filling.{start, lend, close}

@@ -1,0 +1,59 @@
+-- `look_up::signed_four` meets its contract. Assumes nothing.
+use mir.Facts.{toZ-ofZ}
+use mir.Syntax.{w32}
+use borrow.Author.Needs.{sfits-of, needs}
+use Prim.Native.Nat.{ℕ}
+use mathlib.Core.Path.{ap}
+use mathlib.Core.List.{List}
+use Rattle.numbers.specs.BigEndian.{number}
+use Rattle.numbers.specs.TwosComplement.{signedOf}
+use Rattle.look_up.proofs.CallLaws.{four-bytes}
+use Rattle.look_up.proofs.signed_four.Statement.{statement}
+use Rattle.look_up.proofs.signed_four.Tie as tie
+
+shared-slice-read-be32 : tie.Need-shared-slice-read-be32
+shared-slice-read-be32 c = search needs
+
+add-be32 : tie.Need-add-be32
+add-be32 c = search needs
+
+shared-slice-read-be32-2 : tie.Need-shared-slice-read-be32-2
+shared-slice-read-be32-2 c = search needs
+
+add-be32-2 : tie.Need-add-be32-2
+add-be32-2 c = search needs
+
+shared-slice-read-be32-3 : tie.Need-shared-slice-read-be32-3
+shared-slice-read-be32-3 c = search needs
+
+add-be32-3 : tie.Need-add-be32-3
+add-be32-3 c = search needs
+
+shared-slice-read-be32-4 : tie.Need-shared-slice-read-be32-4
+shared-slice-read-be32-4 c = search needs
+
+be32-requires : tie.Need-be32-requires
+be32-requires c κs = search needs
+
+signed32-requires : tie.Need-signed32-requires
+signed32-requires c κs = search needs
+
+returns : tie.Need-returns
+returns c =
+    let a = c .before .before .before .before .before .before .before .args in
+    rw (toZ-ofZ {w = w32} (sfits-of (c .signed32 .ok)), c .signed32 .ensures, c .before .be32 .ensures) (ap (λ (l : List ℕ). signedOf 32 (number l)) (four-bytes (a .reel .now) (a .at)))
+
+pub signed-four-spec : {M : Type 1} → statement M
+signed-four-spec =
+    tie.close
+    (tie.spec
+    shared-slice-read-be32
+    add-be32
+    shared-slice-read-be32-2
+    add-be32-2
+    shared-slice-read-be32-3
+    add-be32-3
+    shared-slice-read-be32-4
+    be32-requires
+    signed32-requires
+    returns)

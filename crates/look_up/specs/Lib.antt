@@ -1,0 +1,3 @@
+-- Looking up one header field of a reel, and what the parts of the call are.
+pub mod LookUp
+pub mod Parts

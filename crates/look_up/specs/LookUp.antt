@@ -1,0 +1,85 @@
+-- Looking up one header field: it takes a reel, a trace number (0 means the binary header, 1 the first trace) and a byte number.
+use Prim.Native.Nat.{ℕ, _+_, _-_, _*_}
+use mathlib.Core.List.{List, [], _∷_}
+use mathlib.Core.Bool.{Bool, true, false}
+use lib.Dec.{eqb, ltb}
+use lib.IntN.{ℤ, pos}
+use Rattle.numbers.specs.Walk.{pick}
+use Rattle.numbers.specs.Places.{placeNo, byteNo}
+use Rattle.numbers.specs.Cause.{refuseIf, firstOf}
+use Rattle.numbers.specs.Outcome.{Said, taken, refused}
+use Rattle.numbers.specs.declared.ByteNo.{ByteNo}
+use Rattle.numbers.specs.declared.Check.{Check}
+use Rattle.numbers.specs.declared.Check.the-variants.{Fine, Refused}
+use Rattle.reel.specs.Layout.{Field, firstTrace, binaryFields, traceFields, fieldNumber, samplesOf, intervalOf, strideOf, tracesOf}
+use Rattle.reel.specs.Meaning.{traceNumber}
+use Rattle.reel.specs.Causes.{causesOf}
+use Rattle.look_up.specs.declared.Answer.{Answer}
+use Rattle.look_up.specs.declared.Answer.the-variants as answer
+use Rattle.look_up.specs.declared.LookedUp.{LookedUp}
+
+-- ## The field
+
+-- What begins at a byte number: an assigned field, or none.
+pub data Found : Type 0 where
+  found : Field → Found
+  none : Found
+
+abbrev pub isNone : Found → Bool
+isNone (found f) = false
+isNone none = true
+
+-- The field that begins at byte number b, among the fields of a header.
+unfoldable pub fieldIn : ℕ → List Field → Found
+fieldIn b [] = none
+fieldIn b (f ∷ fs) = pick (eqb (f .byteNo) b) (found f) (fieldIn b fs)
+
+-- The field that begins at byte number b of header k: of the binary header for 0, of a trace's from 1 on.
+abbrev pub fieldAt : ℕ → ByteNo → Found
+fieldAt k b = fieldIn (byteNo b) (pick (eqb k 0) binaryFields traceFields)
+
+-- ## Its number
+
+-- The signed number of a field of header k: of the binary header as on the reel, of a trace with 115 and 117 filled in. k - 1 traces
+-- stand before trace k.
+abbrev pub headerNumber : List ℕ → ℕ → Field → ℤ
+headerNumber s k f =
+    pick (eqb k 0) (fieldNumber s 0 f)
+    (traceNumber s (samplesOf s) (intervalOf s) (firstTrace + (k - 1) * strideOf s) f)
+
+abbrev pub foundNumber : List ℕ → ℕ → Found → ℤ
+foundNumber s k (found f) = headerNumber s k f
+foundNumber s k none = pos 0
+
+-- ## The call
+
+-- 1 to 9; then 15, no such trace; then 16, no assigned field of that header begins at that byte number.
+abbrev pub lookUpCauses : List ℕ → ℕ → ByteNo → Check
+lookUpCauses s k b =
+    firstOf
+    (causesOf s
+    ∷ refuseIf (ltb (tracesOf s) k) 15 0
+    ∷ refuseIf (isNone (fieldAt k b)) 16 0
+    ∷ [])
+
+-- The complete outcome: what the call says, and the number.
+pub record NumberOutcome : Type 0 where
+  pub said : Said
+  pub number : ℤ
+
+-- Beside a refusal the number is 0.
+abbrev pub numberSaid : Check → ℤ → NumberOutcome
+numberSaid Fine z = record { said = taken []; number = z }
+numberSaid (Refused number place) z = record { said = refused number (placeNo place); number = pos 0 }
+
+unfoldable pub lookUpOutcome : List ℕ → ℕ → ByteNo → NumberOutcome
+lookUpOutcome s k b = numberSaid (lookUpCauses s k b) (foundNumber s k (fieldAt k b))
+
+-- Document 01's number and place for each case of the answer.
+abbrev pub saidBy : Answer → Said
+saidBy answer.Taken = taken []
+saidBy (answer.Refused number place) = refused number (placeNo place)
+
+-- What the call hands out, in document 01's terms.
+abbrev pub lookedUp : LookedUp → NumberOutcome
+lookedUp r = record { said = saidBy (r .answer); number = r .number }

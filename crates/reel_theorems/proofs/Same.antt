@@ -1,0 +1,269 @@
+-- # Records are equal exactly when the reels mean the same
+--
+-- The first half of the user's third demand: for any two reels, each in any code, to which no cause of 1 to 9 applies, the records are
+-- equal byte for byte exactly when the reels mean the same. Each byte of a reel is below 256; nothing else is assumed.
+use mathlib.Core.Path.{_≡_, refl, sym, ap, ap₂, _∙_, subst}
+use mathlib.Core.List.{List, [], _∷_, _++_, map, append-nil}
+use mathlib.Core.Bool.{Bool, true, false, _&&_}
+use borrow.Author.Tests.{ltb-true}
+use Prim.Native.Nat.{ℕ, zero, suc, _+_, _-_, _*_, _^_, _≤_, _<_}
+use native.Mathlib.Nat.{eq-of-mul-eq-mul-right, mul-comm}
+use native.Mathlib.Omega.{arith}
+use lib.Dec.{eqb, ltb}
+use lib.ListN.{length, getD, drop, replicate, length-append, length-map}
+use lib.IntN.{ℤ, pos, negsuc, natAbs}
+use lib.Signed.{mag}
+use Rattle.numbers.specs.Walk.{pick, walk, flat, bytesAt}
+use Rattle.numbers.specs.BigEndian.{bytesOf}
+use Rattle.numbers.specs.TwosComplement.{signedOf, bitsOf}
+use Rattle.numbers.specs.declared.Check.the-variants.{Fine}
+use Rattle.numbers.proofs.WalkLaws.{All, all-at, split, cons-eq, flat-size, flat-inj, size-walk}
+use Rattle.numbers.proofs.ByteLaws.{Bytes, bytes-at, number-at}
+use Rattle.numbers.proofs.SignLaws.{bits-signed}
+use Rattle.sample.specs.Value.{exactValue}
+use Rattle.sample.specs.Pair.{pairOf, valueOf, isCanonical}
+use Rattle.sample.specs.Calls.{pairIn}
+use Rattle.sample.specs.declared.Pair.{Pair}
+use Rattle.sample_theorems.proofs.Held.{and-true}
+use Rattle.sample_theorems.proofs.Pairs.{Iff, pair-value, bytes-pair, value-canonical}
+use Rattle.reel.specs.Layout.{Field, fieldsFrom, binaryWidths, binaryFields, traceWidths, traceFields, fieldNumber, firstTrace, traceHeader, word, samplesOf, intervalOf, codeOf, sampleBytes, strideOf, tracesOf}
+use Rattle.reel.specs.Causes.{mostSamples, causesOf}
+use Rattle.reel.specs.Meaning.{cardText, binaryNumbers, filled, traceNumber, Trace, traceMeaning, Meaning, meaningOf, MeanTheSame}
+use Rattle.reel.proofs.CheckLaws.{Numbers, Sound, reel-fine}
+use Rattle.record.specs.Record.{field, numberBytes, withCode, binaryBytes, valueBytes, samplesField, traceBytes, recordOf, reelRecord, recordLength}
+use Rattle.record.proofs.NumberLaws.{total}
+use Rattle.record.proofs.HeaderLaws.{binary-front, binary-back, binary-widths, binary-numbers, with-code, trace-front, trace-back, trace-widths, trace-numbers, countField, intervalField, counts, size-cards}
+use Rattle.reel_theorems.proofs.Ranges.{Fit, Some, fit-append, size-numbers, numbers-inj, number-fits, fields-fit}
+
+-- ## Fields
+
+size-field : (tag : ℕ) (l : List ℕ) → length (field tag l) ≡ 3 + length l
+unfolding field
+size-field tag l = omega arith
+
+field-split : (tag : ℕ) (l₁ l₂ r₁ r₂ : List ℕ) → length l₁ ≡ length l₂ → field tag l₁ ++ r₁ ≡ field tag l₂ ++ r₂ → (l₁ ≡ l₂) × (r₁ ≡ r₂)
+unfolding field
+field-split tag l₁ l₂ r₁ r₂ n e =
+    let h = split (field tag l₁) (field tag l₂) r₁ r₂ (size-field tag l₁ ∙ ap (λ (k : ℕ). 3 + k) n ∙ sym (size-field tag l₂)) e in
+    (ap (drop 3) (h .0), h .1)
+
+-- ## Header numbers
+
+-- that every field has some bytes is computed
+allSome : List ℕ → Bool
+allSome [] = true
+allSome (w ∷ ws) = ltb 0 w && allSome ws
+
+some-of : (ws : List ℕ) → allSome ws ≡ true → Some ws
+unfolding allSome
+some-of [] e = tt
+some-of (w ∷ ws) e = let t = and-true (ltb 0 w) (allSome ws) e in (ltb-true 0 w (t .0), some-of ws (t .1))
+
+binary-front-some : Some binary-front
+unfolding allSome binary-front
+binary-front-some = some-of binary-front refl
+
+binary-back-some : Some binary-back
+unfolding allSome binary-back
+binary-back-some = some-of binary-back refl
+
+trace-front-some : Some trace-front
+unfolding allSome trace-front
+trace-front-some = some-of trace-front refl
+
+trace-back-some : Some trace-back
+unfolding allSome trace-back
+trace-back-some = some-of trace-back refl
+
+two : 0 < 2
+two = omega arith
+
+binary-fit : (s : List ℕ) → Bytes s → Fit binaryWidths (withCode (binaryNumbers s))
+binary-fit s h =
+    rw (binary-widths, with-code s)
+    (fit-append binary-front (2 ∷ binary-back) (map (fieldNumber s 0) (fieldsFrom 3201 binary-front)) (pos 0 ∷ map (fieldNumber s 0) (fieldsFrom 3227 binary-back)) (fields-fit s h 0 3201 binary-front binary-front-some) (two, omega arith, fields-fit s h 0 3227 binary-back binary-back-some))
+
+filled-fits : (own : ℕ) (z : ℤ) → own < 2 ^ 15 → mag z < 2 ^ 15 → mag (filled own z) < 2 ^ 15
+filled-fits own z h l = go (eqb (natAbs z) 0)
+  where
+    go : (b : Bool) → mag (pick b (pos own) z) < 2 ^ 15
+    go true = h
+    go false = l
+
+trace-fit : (s : List ℕ) → Bytes s → (n i at : ℕ) → n < 2 ^ 15 → i < 2 ^ 15 → Fit traceWidths (map (traceNumber s n i at) traceFields)
+trace-fit s h n i at p q =
+    rw (trace-widths, trace-numbers s n i at)
+    (fit-append trace-front (2 ∷ 2 ∷ trace-back) (map (fieldNumber s at) (fieldsFrom 1 trace-front)) _ (fields-fit s h at 1 trace-front trace-front-some)
+    (two, filled-fits n (fieldNumber s at countField) p (number-fits s h (at + 114) 2 two), (two, filled-fits i (fieldNumber s at intervalField) q (number-fits s h (at + 116) 2 two), fields-fit s h at 119 trace-back trace-back-some)))
+
+-- ## Traces
+
+-- what the traces of a reel are like
+record Like (n : ℕ) (t : Trace) : Type 0 where
+  numbers : Fit traceWidths (t .numbers)
+  count : length (t .values) ≡ n
+  canonical : All (λ v. isCanonical (pairOf v) ≡ true) (t .values)
+
+value-inj : (v w : ℤ) → isCanonical (pairOf v) ≡ true → isCanonical (pairOf w) ≡ true → valueBytes v ≡ valueBytes w → v ≡ w
+value-inj v w p q e =
+    let same : pairOf v ≡ pairOf w = sym (bytes-pair (pairOf v) p) ∙ ap pairIn e ∙ bytes-pair (pairOf w) q in
+    sym (pair-value v) ∙ ap valueOf same ∙ pair-value w
+
+samples-size : (n : ℕ) (t : Trace) → Like n t → length (flat (map valueBytes (t .values))) ≡ n * 6
+samples-size n t h = flat-size valueBytes (λ v. isCanonical (pairOf v) ≡ true) 6 (λ v p. refl) (t .values) (h .canonical) ∙ ap (λ (k : ℕ). k * 6) (h .count)
+
+trace-size : (n : ℕ) (t : Trace) → Like n t → length (traceBytes t) ≡ 186 + n * 6
+unfolding traceBytes samplesField
+trace-size n t h =
+    let a = size-numbers traceWidths (t .numbers) (h .numbers) ∙ counts .3 in
+    simp (length-append, size-field) (omega (arith, a, samples-size n t h))
+
+trace-eq : {a b : Trace} → a .numbers ≡ b .numbers → a .values ≡ b .values → a ≡ b
+trace-eq {a} {b} p q = ap₂ made p q
+  where
+    made : List ℤ → List ℤ → Trace
+    made x y = record { numbers = x; values = y }
+
+trace-inj : (n : ℕ) (t u : Trace) → Like n t → Like n u → traceBytes t ≡ traceBytes u → t ≡ u
+unfolding traceBytes samplesField
+trace-inj n t u p q e =
+    let a = flat (map valueBytes (t .values)) in
+    let b = flat (map valueBytes (u .values)) in
+    let h = field-split 3 (numberBytes traceWidths (t .numbers)) (numberBytes traceWidths (u .numbers)) (field 4 a) (field 4 b) (size-numbers traceWidths (t .numbers) (p .numbers) ∙ sym (size-numbers traceWidths (u .numbers) (q .numbers))) e in
+    let g = field-split 4 a b [] [] (samples-size n t p ∙ sym (samples-size n u q)) (append-nil (field 4 a) ∙ h .1 ∙ sym (append-nil (field 4 b))) in
+    trace-eq (numbers-inj traceWidths (t .numbers) (u .numbers) (p .numbers) (q .numbers) (h .0))
+    (flat-inj valueBytes (λ v. isCanonical (pairOf v) ≡ true) 6 (λ v c. refl) value-inj (t .values) (u .values) (p .count ∙ sym (q .count)) (p .canonical) (q .canonical) (g .0))
+
+trace-like : (s : List ℕ) → Bytes s → (code n i at : ℕ) → n < 2 ^ 15 → i < 2 ^ 15 → Like n (traceMeaning s code n i at)
+unfolding traceMeaning
+trace-like s h code n i at p q =
+    record {
+      numbers = trace-fit s h n i at p q;
+      count = size-walk (λ k. exactValue code (bytesAt s k 4)) (sampleBytes code) n (at + traceHeader);
+      canonical = all-at (λ v. isCanonical (pairOf v) ≡ true) (λ k. exactValue code (bytesAt s k 4)) (λ k. value-canonical code (bytesAt s k 4) (bytes-at s h k 4)) (sampleBytes code) n (at + traceHeader);
+    }
+
+-- ## Reels
+
+-- a reel's header numbers are within their limits
+record Limits (s : List ℕ) : Type 0 where
+  n-fits : samplesOf s < 2 ^ 15
+  i-fits : intervalOf s < 2 ^ 15
+
+limits : (s : List ℕ) → causesOf s ≡ Fine → Limits s
+limits s e =
+    let k = reel-fine s e .numbers in
+    record { n-fits = omega (arith, k .n-high); i-fits = omega (arith, k .i-high) }
+
+tracesIn : List ℕ → List Trace
+tracesIn s = walk (traceMeaning s (codeOf s) (samplesOf s) (intervalOf s)) (strideOf s) (tracesOf s) firstTrace
+
+traces-like : (s : List ℕ) → Bytes s → Limits s → All (Like (samplesOf s)) (tracesIn s)
+unfolding tracesIn
+traces-like s h l =
+    all-at (Like (samplesOf s)) (traceMeaning s (codeOf s) (samplesOf s) (intervalOf s)) (λ at. trace-like s h (codeOf s) (samplesOf s) (intervalOf s) at (l .n-fits) (l .i-fits)) (strideOf s) (tracesOf s) firstTrace
+
+traces-count : (s : List ℕ) → length (tracesIn s) ≡ tracesOf s
+unfolding tracesIn
+traces-count s = size-walk (traceMeaning s (codeOf s) (samplesOf s) (intervalOf s)) (strideOf s) (tracesOf s) firstTrace
+
+-- the record's four pieces
+record-parts : (s : List ℕ)
+    → reelRecord s ≡ field 1 (cardText s) ++ (field 2 (binaryBytes (binaryNumbers s)) ++ (flat (map traceBytes (tracesIn s)) ++ field 5 (bytesOf 4 (length (tracesIn s)))))
+unfolding recordOf meaningOf tracesIn
+record-parts s = refl
+
+size-binary : (s : List ℕ) → Bytes s → length (binaryBytes (binaryNumbers s)) ≡ 60
+unfolding binaryBytes
+size-binary s h = size-numbers binaryWidths (withCode (binaryNumbers s)) (binary-fit s h) ∙ counts .1
+
+size-traces : (n : ℕ) (l : List Trace) → All (Like n) l → length (flat (map traceBytes l)) ≡ length l * (186 + n * 6)
+size-traces n l h = flat-size traceBytes (Like n) (186 + n * 6) (trace-size n) l h
+
+size-count : (k : ℕ) → length (field 5 (bytesOf 4 k)) ≡ 7
+size-count k = size-field 5 (bytesOf 4 k)
+
+-- THEOREM. A record of T traces of N samples is 3273 + T × (186 + 6N) bytes.
+pub record-size : (s : List ℕ) → Bytes s → causesOf s ≡ Fine → length (reelRecord s) ≡ recordLength (tracesOf s) (samplesOf s)
+record-size s h e =
+    let n = samplesOf s in
+    let t = size-traces n (tracesIn s) (traces-like s h (limits s e)) ∙ ap (λ (k : ℕ). k * (186 + n * 6)) (traces-count s) in
+    ap length (record-parts s) ∙ simp (length-append, size-field, size-cards) (omega (arith, size-binary s h, t, size-count (length (tracesIn s)), ap (λ (x : ℕ). tracesOf s * (186 + x)) (mul-comm 6 n)))
+
+-- the 26 numbers, by the 27
+binary-same : (s₁ s₂ : List ℕ) → withCode (binaryNumbers s₁) ≡ withCode (binaryNumbers s₂) → binaryNumbers s₁ ≡ binaryNumbers s₂
+binary-same s₁ s₂ e =
+    let h = split (front s₁) (front s₂) (pos 0 ∷ back s₁) (pos 0 ∷ back s₂) (length-map (fieldsFrom 3201 binary-front) (fieldNumber s₁ 0) ∙ sym (length-map (fieldsFrom 3201 binary-front) (fieldNumber s₂ 0))) (sym (with-code s₁) ∙ e ∙ with-code s₂) in
+    binary-numbers s₁ ∙ ap₂ (λ (x y : List ℤ). x ++ y) (h .0) (ap (drop 1) (h .1)) ∙ sym (binary-numbers s₂)
+  where
+    front : List ℕ → List ℤ
+    front s = map (fieldNumber s 0) (fieldsFrom 3201 binary-front)
+
+    back : List ℕ → List ℤ
+    back s = map (fieldNumber s 0) (fieldsFrom 3227 binary-back)
+
+-- N, by the binary numbers: field 3221 is the eighth
+eighth : (s : List ℕ) → getD (binaryNumbers s) 7 (pos 0) ≡ signedOf 16 (samplesOf s)
+unfolding binaryNumbers binaryFields binaryWidths
+eighth s = refl
+
+samples-same : (s₁ s₂ : List ℕ) → Bytes s₁ → Bytes s₂ → binaryNumbers s₁ ≡ binaryNumbers s₂ → samplesOf s₁ ≡ samplesOf s₂
+samples-same s₁ s₂ h₁ h₂ e =
+    let same : signedOf 16 (samplesOf s₁) ≡ signedOf 16 (samplesOf s₂) = sym (eighth s₁) ∙ ap (λ (l : List ℤ). getD l 7 (pos 0)) e ∙ eighth s₂ in
+    sym (bits-signed 16 (samplesOf s₁) (omega arith) (number-at s₁ h₁ 3220 2)) ∙ ap (bitsOf 16) same ∙ bits-signed 16 (samplesOf s₂) (omega arith) (number-at s₂ h₂ 3220 2)
+
+-- the traces of two records, of n samples each, behind equal headers
+traces-same : (n : ℕ) (l₁ l₂ : List Trace) → All (Like n) l₁ → All (Like n) l₂
+    → flat (map traceBytes l₁) ++ field 5 (bytesOf 4 (length l₁)) ≡ flat (map traceBytes l₂) ++ field 5 (bytesOf 4 (length l₂)) → l₁ ≡ l₂
+traces-same n l₁ l₂ p q e =
+    let m = 186 + n * 6 in
+    let sum : length l₁ * m ≡ length l₂ * m =
+    omega (arith, simp length-append at (ap length e), size-traces n l₁ p, size-traces n l₂ q, size-count (length l₁), size-count (length l₂)) in
+    let t : length l₁ ≡ length l₂ = eq-of-mul-eq-mul-right m (omega arith) (length l₁) (length l₂) sum in
+    let h = split (flat (map traceBytes l₁)) (flat (map traceBytes l₂)) _ _ (size-traces n l₁ p ∙ sum ∙ sym (size-traces n l₂ q)) e in
+    flat-inj traceBytes (Like n) m (trace-size n) (trace-inj n) l₁ l₂ t p q (h .0)
+
+-- a list of traces, by its numbers and its values
+traces-eq : (l₁ l₂ : List Trace) → map (λ (t : Trace). t .numbers) l₁ ≡ map (λ (t : Trace). t .numbers) l₂ → map (λ (t : Trace). t .values) l₁ ≡ map (λ (t : Trace). t .values) l₂ → l₁ ≡ l₂
+traces-eq [] [] p q = refl
+traces-eq [] (u ∷ k) p q = absurd (let z : 0 ≡ suc (length k) = ap length p ∙ ap suc (length-map k (λ (x : Trace). x .numbers)) in omega arith)
+traces-eq (t ∷ l) [] p q = absurd (let z : suc (length l) ≡ 0 = sym (ap suc (length-map l (λ (x : Trace). x .numbers))) ∙ ap length p in omega arith)
+traces-eq (t ∷ l) (u ∷ k) p q =
+    let a : t .numbers ≡ u .numbers = cc in
+    let b : t .values ≡ u .values = cc in
+    cons-eq (trace-eq a b) (traces-eq l k (ap (drop 1) p) (ap (drop 1) q))
+
+-- what a meaning's traces are
+meaning-traces : (s : List ℕ) → meaningOf s .traces ≡ tracesIn s
+unfolding meaningOf tracesIn
+meaning-traces s = refl
+
+module _ (s₁ s₂ : List ℕ) (b₁ : Bytes s₁) (b₂ : Bytes s₂) (f₁ : causesOf s₁ ≡ Fine) (f₂ : causesOf s₂ ≡ Fine) where
+  same-means : reelRecord s₁ ≡ reelRecord s₂ → MeanTheSame s₁ s₂
+  unfolding binaryBytes
+  same-means e =
+      let a = field-split 1 (cardText s₁) (cardText s₂) _ _ (size-cards s₁ ∙ sym (size-cards s₂)) (sym (record-parts s₁) ∙ e ∙ record-parts s₂) in
+      let b = field-split 2 (binaryBytes (binaryNumbers s₁)) (binaryBytes (binaryNumbers s₂)) _ _ (size-binary s₁ b₁ ∙ sym (size-binary s₂ b₂)) (a .1) in
+      let z = binary-same s₁ s₂ (numbers-inj binaryWidths (withCode (binaryNumbers s₁)) (withCode (binaryNumbers s₂)) (binary-fit s₁ b₁) (binary-fit s₂ b₂) (b .0)) in
+      let n : samplesOf s₂ ≡ samplesOf s₁ = sym (samples-same s₁ s₂ b₁ b₂ z) in
+      let like₂ = subst (λ (k : ℕ). All (Like k) (tracesIn s₂)) n (traces-like s₂ b₂ (limits s₂ f₂)) in
+      let t : tracesIn s₁ ≡ tracesIn s₂ = traces-same (samplesOf s₁) (tracesIn s₁) (tracesIn s₂) (traces-like s₁ b₁ (limits s₁ f₁)) like₂ (b .1) in
+      let m : meaningOf s₁ .traces ≡ meaningOf s₂ .traces = meaning-traces s₁ ∙ t ∙ sym (meaning-traces s₂) in
+      record {
+        cards = a .0;
+        binary = z;
+        traces = sym (traces-count s₁) ∙ ap length t ∙ traces-count s₂;
+        numbers = ap (map (λ (x : Trace). x .numbers)) m;
+        values = ap (map (λ (x : Trace). x .values)) m;
+      }
+
+  means-same : MeanTheSame s₁ s₂ → reelRecord s₁ ≡ reelRecord s₂
+  means-same h =
+      let t : tracesIn s₁ ≡ tracesIn s₂ = sym (meaning-traces s₁) ∙ traces-eq (meaningOf s₁ .traces) (meaningOf s₂ .traces) (h .numbers) (h .values) ∙ meaning-traces s₂ in
+      record-parts s₁
+      ∙ ap₂ (λ (x y : List ℕ). x ++ y) (ap (field 1) (h .cards)) (ap₂ (λ (x y : List ℕ). x ++ y) (ap (λ (l : List ℤ). field 2 (binaryBytes l)) (h .binary)) (ap (λ (l : List Trace). flat (map traceBytes l) ++ field 5 (bytesOf 4 (length l))) t))
+      ∙ sym (record-parts s₂)
+
+  -- THEOREM. The records are equal byte for byte exactly when the reels mean the same.
+  pub same-records : Iff (reelRecord s₁ ≡ reelRecord s₂) (MeanTheSame s₁ s₂)
+  same-records = (same-means, means-same)

@@ -1,0 +1,1 @@
+// No code: theorems about reels and their records, over the definitions that the contracts of `reel` and `transcribe` cite.
