@@ -438,7 +438,7 @@ def main():
     if len(sys.argv) < 2:
         sys.exit("usage: python3 tests/check_reel.py PATH_OF_PROGRAM [ITS ARGUMENTS]")
     path = Path(sys.argv[1])
-    command = [str(path.resolve()) if path.is_file() else sys.argv[1]] + sys.argv[2:]
+    command = [str(path.absolute()) if path.is_file() else sys.argv[1]] + sys.argv[2:]
     if shutil.which(command[0]) is None:
         sys.exit(f"check_reel: no program {sys.argv[1]}")
 
@@ -450,7 +450,7 @@ def main():
             return f"check_reel: {what} ({len(data)} bytes): no answer in {SECONDS} seconds"
         if got == line and status == 0:
             return None
-        said = f"expected {line!r}, got {got!r}" + (f", exit status {status}" if status else "")
+        said = f"expected {line!r}, got {got[:80]!r}" + (f", exit status {status}" if status else "")
         return f"check_reel: {what} ({len(data)} bytes): {said}"
 
     inputs = all_inputs()
