@@ -39,10 +39,11 @@ tooLong = 116 ∷ 111 ∷ 111 ∷ 32 ∷ 108 ∷ 111 ∷ 110 ∷ 103 ∷ 10 ∷ 
 abbrev pub padded : List ℕ → Line
 padded line = record { bytes = line ++ replicate (96 - length line) 0; length = length line }
 
--- The program takes at most 65,536 bytes. The line of an input, with an output for the record.
+-- The program takes at most 65,536 bytes.
 abbrev pub mostInput : ℕ
 mostInput = 65536
 
+-- The line of an input, with an output for the record: the program lends one of 65,536 bytes.
 abbrev pub programLine : List ℕ → List ℕ → List ℕ
 programLine s out = pick (ltb mostInput (length s)) tooLong (lineOf (readOutcome s out .said))
 

@@ -22,11 +22,11 @@ use Rattle.numbers.proofs.CauseLaws.{then-fine, passed, at-most}
 use Rattle.numbers.proofs.WalkLaws.{times-more}
 use Rattle.reel.specs.Layout.{firstTrace, traceHeader, binaryFields, traceFields, strideOf, tracesOf}
 use Rattle.reel.specs.Causes.{causesOf, checked, checkedOf}
-use Rattle.reel.specs.declared.Checked.{Checked}
 use Rattle.reel.specs.declared.Checked.the-variants as reel
 use Rattle.reel.proofs.CheckLaws.{Sound, inside}
-use Rattle.look_up.specs.LookUp.{found, fieldIn, fieldAt, isNone, headerNumber, foundNumber, lookUpCauses, numberSaid, lookUpOutcome}
-use Rattle.look_up.specs.Parts.{widthOf, theField, fieldCauses, OnReel, Own, InHeader}
+use Rattle.look_up.specs.LookUp.{found, fieldIn, fieldAt, isNone, headerNumber, foundNumber, fieldCauses, lookUpCauses, numberSaid, lookUpOutcome, lookedUp}
+use Rattle.look_up.specs.Parts.{widthOf, theField, OnReel, Own, InHeader}
+use Rattle.look_up.specs.declared.Answer.the-variants as answer
 use Rattle.look_up.proofs.FieldLaws.{Lies, binary-told, trace-told}
 
 -- ## Signed numbers
@@ -108,11 +108,11 @@ is-found k b = go (eqb k 0)
 
 -- where none of 1 to 9 applies, 15 and 16 are the causes
 pub causes-are : (s : List ℕ) (t k : ℕ) (b : ByteNo) (w : ℕ) → causesOf s ≡ Fine → t ≡ tracesOf s → w ≡ widthOf (fieldAt k b)
-    → fieldCauses t k w ≡ lookUpCauses s k b
+    → fieldCauses t k (eqb w 0) ≡ lookUpCauses s k b
 causes-are s t k b w f p q = rw (f, nowhere k b, p, q)
 
 -- and where these don't apply either, the reel has the field
-pub in-header : (s : List ℕ) (t k : ℕ) (b : ByteNo) (w : ℕ) → t ≡ tracesOf s → w ≡ widthOf (fieldAt k b) → fieldCauses t k w ≡ Fine → InHeader s k b w
+pub in-header : (s : List ℕ) (t k : ℕ) (b : ByteNo) (w : ℕ) → t ≡ tracesOf s → w ≡ widthOf (fieldAt k b) → fieldCauses t k (eqb w 0) ≡ Fine → InHeader s k b w
 in-header s t k b w p q e =
     let x = then-fine (refuseIf (ltb t k) 15 0) _ e in
     let y = then-fine (refuseIf (eqb w 0) 16 0) Fine (x .1) in
@@ -121,18 +121,18 @@ in-header s t k b w p q e =
 
 -- a refusal
 pub refused-is : (s : List ℕ) (k : ℕ) (b : ByteNo) {number : ℕ} {place : Place} → lookUpCauses s k b ≡ Refused number place
-    → numberSaid (Refused number place) (pos 0) ≡ lookUpOutcome s k b
+    → lookedUp (answer.Refused number place) ≡ lookUpOutcome s k b
 unfolding lookUpOutcome
 refused-is s k b e = ap (λ (c : Check). numberSaid c (foundNumber s k (fieldAt k b))) (sym e)
 
 -- a refusal of the reel itself
 pub stopped-is : (s : List ℕ) (k : ℕ) (b : ByteNo) {number : ℕ} {place : Place} → causesOf s ≡ Refused number place
-    → numberSaid (Refused number place) (pos 0) ≡ lookUpOutcome s k b
+    → lookedUp (answer.Refused number place) ≡ lookUpOutcome s k b
 stopped-is s k b e = refused-is s k b (rw e)
 
 -- a number taken
 pub taken-is : (s : List ℕ) (k : ℕ) (b : ByteNo) (w : ℕ) → lookUpCauses s k b ≡ Fine → InHeader s k b w
-    → numberSaid Fine (headerNumber s k (theField (byteNo b) w)) ≡ lookUpOutcome s k b
+    → lookedUp (answer.Taken (headerNumber s k (theField (byteNo b) w))) ≡ lookUpOutcome s k b
 unfolding lookUpOutcome
 taken-is s k b w e h =
     let f : fieldAt k b ≡ found (theField (byteNo b) w) = rw (h .width) (is-found k b (rw (h .width) at (h .some))) in

@@ -6,7 +6,7 @@ use lib.Dec.{eqb, ltb}
 use lib.IntN.{ℤ, pos}
 use Rattle.numbers.specs.Walk.{pick}
 use Rattle.numbers.specs.Places.{placeNo, byteNo}
-use Rattle.numbers.specs.Cause.{refuseIf, firstOf}
+use Rattle.numbers.specs.Cause.{refuseIf, then, firstOf}
 use Rattle.numbers.specs.Outcome.{Said, taken, refused}
 use Rattle.numbers.specs.declared.ByteNo.{ByteNo}
 use Rattle.numbers.specs.declared.Check.{Check}
@@ -16,7 +16,6 @@ use Rattle.reel.specs.Meaning.{traceNumber}
 use Rattle.reel.specs.Causes.{causesOf}
 use Rattle.look_up.specs.declared.Answer.{Answer}
 use Rattle.look_up.specs.declared.Answer.the-variants as answer
-use Rattle.look_up.specs.declared.LookedUp.{LookedUp}
 
 -- ## The field
 
@@ -25,6 +24,7 @@ pub data Found : Type 0 where
   found : Field → Found
   none : Found
 
+-- Whether no field begins there.
 abbrev pub isNone : Found → Bool
 isNone (found f) = false
 isNone none = true
@@ -47,20 +47,20 @@ headerNumber s k f =
     pick (eqb k 0) (fieldNumber s 0 f)
     (traceNumber s (samplesOf s) (intervalOf s) (firstTrace + (k - 1) * strideOf s) f)
 
+-- The number of what was found: of the field; 0 where there is none.
 abbrev pub foundNumber : List ℕ → ℕ → Found → ℤ
 foundNumber s k (found f) = headerNumber s k f
 foundNumber s k none = pos 0
 
 -- ## The call
 
--- 1 to 9; then 15, no such trace; then 16, no assigned field of that header begins at that byte number.
+-- 15, a reel of t traces has no trace k; then 16, no assigned field of that header begins at the byte number.
+abbrev pub fieldCauses : ℕ → ℕ → Bool → Check
+fieldCauses t k missing = firstOf (refuseIf (ltb t k) 15 0 ∷ refuseIf missing 16 0 ∷ [])
+
+-- 1 to 9; then 15 and 16.
 abbrev pub lookUpCauses : List ℕ → ℕ → ByteNo → Check
-lookUpCauses s k b =
-    firstOf
-    (causesOf s
-    ∷ refuseIf (ltb (tracesOf s) k) 15 0
-    ∷ refuseIf (isNone (fieldAt k b)) 16 0
-    ∷ [])
+lookUpCauses s k b = then (causesOf s) (fieldCauses (tracesOf s) k (isNone (fieldAt k b)))
 
 -- The complete outcome: what the call says, and the number.
 pub record NumberOutcome : Type 0 where
@@ -72,14 +72,12 @@ abbrev pub numberSaid : Check → ℤ → NumberOutcome
 numberSaid Fine z = record { said = taken []; number = z }
 numberSaid (Refused number place) z = record { said = refused number (placeNo place); number = pos 0 }
 
+-- The outcome for a reel s, header k and byte number b.
 unfoldable pub lookUpOutcome : List ℕ → ℕ → ByteNo → NumberOutcome
 lookUpOutcome s k b = numberSaid (lookUpCauses s k b) (foundNumber s k (fieldAt k b))
 
--- Document 01's number and place for each case of the answer.
-abbrev pub saidBy : Answer → Said
-saidBy answer.Taken = taken []
-saidBy (answer.Refused number place) = refused number (placeNo place)
-
--- What the call hands out, in document 01's terms.
-abbrev pub lookedUp : LookedUp → NumberOutcome
-lookedUp r = record { said = saidBy (r .answer); number = r .number }
+-- Document 01's number and values for each case of the answer: taken with the signed number; or refused with the number and what stands
+-- beside it, and then the looked-up number is 0.
+abbrev pub lookedUp : Answer → NumberOutcome
+lookedUp (answer.Taken z) = record { said = taken []; number = z }
+lookedUp (answer.Refused number place) = record { said = refused number (placeNo place); number = pos 0 }

@@ -1,14 +1,12 @@
 -- What the parts of the call find, and what they need.
 use Prim.Native.Nat.{ℕ, _+_, _-_, _%_, _≤_, _<_}
 use mathlib.Core.Path.{_≡_}
-use mathlib.Core.List.{List, [], _∷_}
+use mathlib.Core.List.{List}
 use mathlib.Core.Bool.{_&&_}
-use lib.Dec.{leb, ltb, eqb}
+use lib.Dec.{leb, eqb}
 use lib.ListN.{length}
 use Rattle.numbers.specs.Walk.{pick}
-use Rattle.numbers.specs.Cause.{refuseIf, firstOf}
 use Rattle.numbers.specs.declared.ByteNo.{ByteNo}
-use Rattle.numbers.specs.declared.Check.{Check}
 use Rattle.numbers.specs.declared.Check.the-variants.{Fine}
 use Rattle.reel.specs.Layout.{Field, samplesOf, intervalOf, strideOf, tracesOf}
 use Rattle.reel.specs.Causes.{causesOf}
@@ -26,10 +24,6 @@ widthOf none = 0
 -- The field of w bytes at byte number b.
 abbrev pub theField : ℕ → ℕ → Field
 theField b w = record { byteNo = b; width = w }
-
--- 15 and 16, of a reel of t traces and a field of w bytes.
-abbrev pub fieldCauses : ℕ → ℕ → ℕ → Check
-fieldCauses t k w = firstOf (refuseIf (ltb t k) 15 0 ∷ refuseIf (eqb w 0) 16 0 ∷ [])
 
 -- A field of w bytes at byte number b of a header whose byte number 1 stands at the place `start`: it has two or four bytes, and they are
 -- bytes of the reel.

@@ -1,33 +1,26 @@
 // Looking up one header field of a reel.
 ghost use mathlib.Core.Path.{_≡_};
 ghost use Prim.Native.Nat.{_+_, _^_, _<_, _≤_};
+ghost use lib.Dec.{eqb};
 ghost use lib.ListN.{length};
-ghost use lib.IntN.{pos};
 ghost use Rattle.numbers.specs.Walk.{bytesAt};
 ghost use Rattle.numbers.specs.BigEndian.{number};
 ghost use Rattle.numbers.specs.TwosComplement.{signedOf};
 ghost use Rattle.numbers.specs.Places.{placeNo, byteNo};
-ghost use Rattle.numbers.specs.declared.Check.the-variants.{Refused};
 ghost use Rattle.reel.specs.Layout.{binaryFields, traceFields, fieldNumber, tracesOf};
 ghost use Rattle.reel.specs.Meaning.{filled, traceNumber};
-ghost use Rattle.look_up.specs.LookUp.{fieldIn, fieldAt, headerNumber, numberSaid, lookUpOutcome, lookedUp};
-ghost use Rattle.look_up.specs.Parts.{inRow, widthOf, theField, fieldCauses, OnReel, Own, InHeader};
+ghost use Rattle.look_up.specs.LookUp.{fieldIn, fieldAt, headerNumber, fieldCauses, lookUpOutcome, lookedUp};
+ghost use Rattle.look_up.specs.Parts.{inRow, widthOf, theField, OnReel, Own, InHeader};
 use numbers::ByteNo;
 use numbers::Check;
 use numbers::Located;
 use numbers::Place;
 use reel::Checked;
 
-// The answer of the call.
+// What looking up answers: the signed number, or refused with number and place.
 pub enum Answer {
-    Taken,
+    Taken { number: i32 },
     Refused { number: u8, place: Place },
-}
-
-// What looking up hands out: beside a refusal the number is 0.
-pub struct LookedUp {
-    pub answer: Answer,
-    pub number: i32,
 }
 
 // The numbers of the causes.
@@ -188,7 +181,7 @@ fn header_number(
 
 // 15 and 16: the trace number, then the bytes of the field.
 fn check_field(traces: usize, trace: usize, width: u32) -> Check
-    ensures { λ r. ⌜ r ≡ fieldCauses traces trace width ⌝ }
+    ensures { λ r. ⌜ r ≡ fieldCauses traces trace (eqb width 0) ⌝ }
 {
     if traces < trace {
         return Check::Refused {
@@ -205,16 +198,6 @@ fn check_field(traces: usize, trace: usize, width: u32) -> Check
     Check::Fine
 }
 
-// What a refused call hands out.
-fn refused(number: u8, place: Place) -> LookedUp
-    ensures { λ r. ⌜ lookedUp r ≡ numberSaid (Refused number place) (pos 0) ⌝ }
-{
-    LookedUp {
-        answer: Answer::Refused { number, place },
-        number: 0,
-    }
-}
-
 // One header field of a reel to which none of 1 to 9 applies.
 fn look(
     reel: &[u8],
@@ -224,28 +207,27 @@ fn look(
     traces: usize,
     trace: usize,
     b: ByteNo,
-) -> LookedUp
+) -> Answer
     requires { ⌜ Own (now reel) samples interval stride × (traces ≡ tracesOf (now reel)) ⌝ }
     ensures { λ r. ⌜ lookedUp r ≡ lookUpOutcome (now (reel .entry)) trace b ⌝ }
 {
     let width = width_at(trace, b);
     let c = check_field(traces, trace, width);
     match c {
-        Check::Refused { number, place } => refused(number, place),
-        Check::Fine => LookedUp {
-            answer: Answer::Taken,
+        Check::Refused { number, place } => Answer::Refused { number, place },
+        Check::Fine => Answer::Taken {
             number: header_number(reel, samples, interval, stride, trace, b, width),
         },
     }
 }
 
 // One header field of a reel.
-pub fn look_up(reel: &[u8], trace: usize, b: ByteNo) -> LookedUp
+pub fn look_up(reel: &[u8], trace: usize, b: ByteNo) -> Answer
     ensures { λ r. ⌜ lookedUp r ≡ lookUpOutcome (now (reel .entry)) trace b ⌝ }
 {
     let c = reel::check_reel(reel);
     match c {
-        Checked::Refused { number, place } => refused(number, place),
+        Checked::Refused { number, place } => Answer::Refused { number, place },
         Checked::Fine {
             code: _,
             samples,

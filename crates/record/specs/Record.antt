@@ -1,14 +1,14 @@
 -- The record of a meaning: tagged fields in the order that document 01 sets.
-use Prim.Native.Nat.{ℕ, _+_, _*_, _/_}
+use Prim.Native.Nat.{ℕ, _+_, _*_}
 use mathlib.Core.List.{List, [], _∷_, _++_, map}
 use lib.ListN.{length, take, drop}
 use lib.IntN.{ℤ, pos}
 use Rattle.numbers.specs.Walk.{flat}
 use Rattle.numbers.specs.BigEndian.{bytesOf}
 use Rattle.numbers.specs.TwosComplement.{bitsOf}
-use Rattle.sample.specs.Pair.{mantissaBits, pairOf}
-use Rattle.sample.specs.Calls.{pairBytes}
-use Rattle.reel.specs.Layout.{binaryWidths, traceWidths, samplesOf, tracesOf}
+use Rattle.sample.specs.Pair.{pairOf}
+use Rattle.sample.specs.Calls.{pairLength, pairBytes}
+use Rattle.reel.specs.Layout.{binaryWidths, traceWidths}
 use Rattle.reel.specs.Meaning.{Trace, Meaning, meaningOf}
 
 -- A tagged field: one byte of tag, two bytes of length, the content.
@@ -31,10 +31,6 @@ binaryBytes zs = numberBytes binaryWidths (withCode zs)
 -- A sample: the six bytes of the canonical pair of its value.
 abbrev pub valueBytes : ℤ → List ℕ
 valueBytes v = pairBytes (pairOf v .e) (pairOf v .m)
-
--- The bytes of a pair.
-abbrev pub pairLength : ℕ
-pairLength = 2 + mantissaBits / 8
 
 -- The samples of a trace as they stand in the record: one field with tag 04.
 unfoldable pub samplesField : List ℤ → List ℕ

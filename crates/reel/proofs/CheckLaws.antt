@@ -23,8 +23,9 @@ use Rattle.sample.specs.Reading.{isCode, badGain, readWord, pairTaken}
 use Rattle.sample.specs.Value.{exactValue}
 use Rattle.sample.specs.declared.Sample.{Sample}
 use Rattle.sample.specs.declared.Sample.the-variants as sample
-use Rattle.reel.specs.Layout.{firstTrace, word, samplesOf, codeOf, intervalOf, sampleBytes, stride, strideOf, tracesOf, leftOver}
-use Rattle.reel.specs.Causes.{mostSamples, mostTraces, within, neither, headerCauses, sizeCauses, wordCause, wordRefused, traceCauses, behindCauses, causesOf}
+use Rattle.reel.specs.Layout.{firstTrace, word, samplesOf, codeOf, intervalOf, sampleBytes, stride, strideOf, overIn, tracesOf}
+use Rattle.reel.specs.Parts.{wordRefused}
+use Rattle.reel.specs.Causes.{mostSamples, mostTraces, within, neither, headerCauses, sizeCauses, wordCause, traceCauses, behindCauses, causesOf}
 
 -- ## Places
 
@@ -105,7 +106,7 @@ stride-high code n h = let l = mul-le-mul h (width-high code) in omega arith
 pub record Sound (s : List ℕ) : Type 0 where
   pub long : firstTrace ≤ length s
   pub numbers : Numbers (codeOf s) (samplesOf s) (intervalOf s)
-  pub whole : leftOver s ≡ 0
+  pub whole : overIn (length s) (strideOf s) ≡ 0
   pub few : tracesOf s ≤ mostTraces
   pub traces : firstOf (walk (traceCauses s (codeOf s) (samplesOf s) (intervalOf s)) (strideOf s) (tracesOf s) firstTrace) ≡ Fine
 
@@ -114,13 +115,13 @@ unfolding causesOf behindCauses
 reel-fine s e =
     let a = then-fine (refuseIf (ltb (length s) firstTrace) 1 (length s)) _ e in
     let b = then-fine (headerCauses (codeOf s) (samplesOf s) (intervalOf s)) _ (a .1) in
-    let c = then-fine (sizeCauses (length s) (strideOf s) (tracesOf s) (leftOver s)) _ (b .1) in
-    let d = then-fine (refuseIf (ltb 0 (leftOver s)) 5 (length s - leftOver s)) _ (c .0) in
+    let c = then-fine (sizeCauses (length s) (strideOf s) (tracesOf s) (overIn (length s) (strideOf s))) _ (b .1) in
+    let d = then-fine (refuseIf (ltb 0 (overIn (length s) (strideOf s))) 5 (length s - overIn (length s) (strideOf s))) _ (c .0) in
     let f = then-fine (refuseIf (ltb mostTraces (tracesOf s)) 6 (firstTrace + mostTraces * strideOf s)) _ (d .1) in
     record {
       long = ltb-false (length s) firstTrace (passed _ _ _ (a .0));
       numbers = header-fine (codeOf s) (samplesOf s) (intervalOf s) (b .0);
-      whole = none (ltb-false 0 (leftOver s) (passed _ _ _ (d .0)));
+      whole = none (ltb-false 0 (overIn (length s) (strideOf s)) (passed _ _ _ (d .0)));
       few = ltb-false mostTraces (tracesOf s) (passed _ _ _ (f .0));
       traces = c .1;
     }

@@ -1,19 +1,17 @@
 -- The causes 1 to 9 against a reel, in the order of document 01's table, each with what stands beside it.
-use Prim.Native.Nat.{ℕ, _+_, _-_, _*_, _/_, _%_}
+use Prim.Native.Nat.{ℕ, _+_, _-_, _*_}
 use mathlib.Core.List.{List, [], _∷_}
 use mathlib.Core.Bool.{Bool, not, _&&_}
-use lib.ListN.{length, getD}
+use lib.ListN.{length}
 use lib.Dec.{leb, ltb, eqb}
 use Rattle.numbers.specs.Walk.{walk, bytesAt}
 use Rattle.numbers.specs.Cause.{refuseIf, then, firstOf}
 use Rattle.numbers.specs.declared.Check.{Check}
 use Rattle.numbers.specs.declared.Check.the-variants.{Fine, Refused}
 use Rattle.reel.specs.declared.Checked.{Checked}
-use Rattle.reel.specs.declared.Checked.the-variants as fine
+use Rattle.reel.specs.declared.Checked.the-variants as variant
 use Rattle.sample.specs.Reading.{isCode, badGain}
-use Rattle.sample.specs.declared.Sample.{Sample}
-use Rattle.sample.specs.declared.Sample.the-variants as sample
-use Rattle.reel.specs.Layout.{firstTrace, traceHeader, word, intervalOf, samplesOf, codeOf, sampleBytes, strideOf, tracesOf, leftOver}
+use Rattle.reel.specs.Layout.{firstTrace, traceHeader, word, intervalOf, samplesOf, codeOf, sampleBytes, strideOf, wholeIn, overIn, tracesOf}
 
 -- The most samples of a trace, and the most traces of a reel.
 abbrev pub mostSamples : ℕ
@@ -21,6 +19,10 @@ mostSamples = 8000
 
 abbrev pub mostTraces : ℕ
 mostTraces = 100000
+
+-- The longest sample interval, in microseconds.
+abbrev pub mostInterval : ℕ
+mostInterval = 32767
 
 -- n is from a to b.
 abbrev pub within : ℕ → ℕ → ℕ → Bool
@@ -36,7 +38,7 @@ headerCauses code n i =
     firstOf
     (refuseIf (not (isCode code)) 2 3224
     ∷ refuseIf (not (within 1 mostSamples n)) 3 3220
-    ∷ refuseIf (not (within 1 32767 i)) 4 3216
+    ∷ refuseIf (not (within 1 mostInterval i)) 4 3216
     ∷ [])
 
 -- 5, 6, of a reel of `size` bytes with t whole traces of w bytes and `over` bytes behind them: bytes after the last whole trace, at the
@@ -52,11 +54,6 @@ sizeCauses size w t over =
 abbrev pub wordCause : List ℕ → ℕ → ℕ → Check
 wordCause s code at = refuseIf (badGain code (bytesAt s at 4)) 9 at
 
--- The same, from what reading a word gives.
-abbrev pub wordRefused : Sample → ℕ → Check
-wordRefused (sample.Taken e m) at = Fine
-wordRefused (sample.Refused number) at = Refused number (record { 0 = at })
-
 -- 7, 8, then 9 at the first such word, of the trace at the place `at`, in a reel of n samples a trace, interval i and code `code`. Fields
 -- 115 and 117 stand 114 and 116 places behind the trace's start.
 unfoldable pub traceCauses : List ℕ → ℕ → ℕ → ℕ → ℕ → Check
@@ -68,8 +65,8 @@ traceCauses s code n i at =
 -- 5 and 6, then trace by trace 7, 8, 9, of traces of w bytes.
 unfoldable pub behindCauses : List ℕ → ℕ → ℕ → ℕ → ℕ → Check
 behindCauses s code n i w =
-    then (sizeCauses (length s) w ((length s - firstTrace) / w) ((length s - firstTrace) % w))
-    (firstOf (walk (traceCauses s code n i) w ((length s - firstTrace) / w) firstTrace))
+    then (sizeCauses (length s) w (wholeIn (length s) w) (overIn (length s) w))
+    (firstOf (walk (traceCauses s code n i) w (wholeIn (length s) w) firstTrace))
 
 -- 1 to 6 in that order; then trace by trace 7, 8, 9.
 unfoldable pub causesOf : List ℕ → Check
@@ -80,8 +77,8 @@ causesOf s =
 
 -- A reel to which no cause applies, with its own numbers; or the first cause.
 abbrev pub checked : List ℕ → Check → Checked
-checked s Fine = fine.Fine (codeOf s) (samplesOf s) (intervalOf s) (sampleBytes (codeOf s)) (strideOf s) (tracesOf s)
-checked s (Refused number place) = fine.Refused number place
+checked s Fine = variant.Fine (codeOf s) (samplesOf s) (intervalOf s) (sampleBytes (codeOf s)) (strideOf s) (tracesOf s)
+checked s (Refused number place) = variant.Refused number place
 
 abbrev pub checkedOf : List ℕ → Checked
 checkedOf s = checked s (causesOf s)

@@ -75,17 +75,20 @@ codeOf s = word s 3224
 abbrev pub sampleBytes : ℕ → ℕ
 sampleBytes code = pick (eqb code 3) 2 4
 
--- From one trace to the next: n samples of w bytes behind the header.
+-- From one trace to the next: n samples of v bytes behind the header.
 abbrev pub stride : ℕ → ℕ → ℕ
-stride n w = traceHeader + n * w
+stride n v = traceHeader + n * v
 
 abbrev pub strideOf : List ℕ → ℕ
 strideOf s = stride (samplesOf s) (sampleBytes (codeOf s))
 
--- T, the whole traces behind the headers.
-abbrev pub tracesOf : List ℕ → ℕ
-tracesOf s = (length s - firstTrace) / strideOf s
+-- In a reel of `size` bytes: the whole traces of w bytes behind the headers, and the bytes behind the last whole trace.
+abbrev pub wholeIn : ℕ → ℕ → ℕ
+wholeIn size w = (size - firstTrace) / w
 
--- The bytes behind the last whole trace.
-abbrev pub leftOver : List ℕ → ℕ
-leftOver s = (length s - firstTrace) % strideOf s
+abbrev pub overIn : ℕ → ℕ → ℕ
+overIn size w = (size - firstTrace) % w
+
+-- T.
+abbrev pub tracesOf : List ℕ → ℕ
+tracesOf s = wholeIn (length s) (strideOf s)

@@ -2,3 +2,4 @@
 pub mod Layout
 pub mod Causes
 pub mod Meaning
+pub mod Parts

@@ -1,9 +1,7 @@
 -- What a reel means, from its bytes alone and never from a record.
-use Prim.Native.Nat.{ℕ, _+_, _-_}
+use Prim.Native.Nat.{ℕ, _+_}
 use mathlib.Core.Path.{_≡_}
 use mathlib.Core.List.{List, [], _∷_, _++_, map}
-use mathlib.Core.Bool.{Bool, true, false}
-use lib.ListN.{length}
 use lib.Dec.{eqb}
 use lib.IntN.{ℤ, pos, natAbs}
 use Rattle.numbers.specs.Walk.{pick, walk, bytesAt}
@@ -63,7 +61,7 @@ meaningOf s =
       traces = walk (traceMeaning s (codeOf s) (samplesOf s) (intervalOf s)) (strideOf s) (tracesOf s) firstTrace;
     }
 
--- Two reels mean the same when card text, header numbers, T and sample values all agree.
+-- Two reels to which no cause of 1 to 9 applies mean the same when card text, header numbers, T and sample values all agree.
 pub record MeanTheSame (s₁ s₂ : List ℕ) : Type 0 where
   pub cards : cardText s₁ ≡ cardText s₂
   pub binary : binaryNumbers s₁ ≡ binaryNumbers s₂

@@ -8,7 +8,8 @@ ghost use Rattle.numbers.specs.Cause.{refuseIf, then, firstOf};
 ghost use Rattle.numbers.specs.declared.Check.the-variants.{Fine};
 ghost use Rattle.numbers.specs.Places.{placeNo, byteNo};
 ghost use Rattle.reel.specs.Layout.{firstTrace, word, sampleBytes, stride};
-ghost use Rattle.reel.specs.Causes.{within, neither, headerCauses, sizeCauses, wordRefused, wordCause, traceCauses, behindCauses, causesOf, checkedOf};
+ghost use Rattle.reel.specs.Causes.{within, neither, headerCauses, sizeCauses, wordCause, traceCauses, behindCauses, causesOf, checkedOf};
+ghost use Rattle.reel.specs.Parts.{wordRefused};
 use numbers::ByteNo;
 use numbers::Check;
 use numbers::Located;
@@ -32,11 +33,12 @@ pub enum Checked {
     },
 }
 
-// The number in two bytes.
-fn word_at(reel: &[u8], at: usize) -> usize
-    requires { ⌜ at + 1 < length (now reel) ⌝ }
-    ensures { λ r. ⌜ (r ≡ word (now (reel .entry)) at) × (r < 2 ^ 16) ⌝ }
+// The number in the two bytes at a place.
+fn word_at(reel: &[u8], p: Place) -> usize
+    requires { ⌜ placeNo p + 1 < length (now reel) ⌝ }
+    ensures { λ r. ⌜ (r ≡ word (now (reel .entry)) (placeNo p)) × (r < 2 ^ 16) ⌝ }
 {
+    let at = p.0;
     numbers::be16(reel[at], reel[at + 1]) as usize
 }
 
@@ -52,6 +54,14 @@ fn field_at(start: Place, b: ByteNo) -> Place
     p
 }
 
+// The number in a field of the binary header.
+fn binary_word(reel: &[u8], b: ByteNo) -> usize
+    requires { ⌜ (1 ≤ byteNo b) × (byteNo b < length (now reel)) ⌝ }
+    ensures { λ r. ⌜ (r ≡ word (now (reel .entry)) (byteNo b - 1)) × (r < 2 ^ 16) ⌝ }
+{
+    word_at(reel, field_at(Place(0), b))
+}
+
 // A cause that applies where a number is outside its limits.
 fn check_limits(n: usize, least: usize, most: usize, number: u8, place: Place) -> Check
     ensures { λ r. ⌜ r ≡ refuseIf (not (within least most n)) number (placeNo place) ⌝ }
@@ -65,10 +75,12 @@ fn check_limits(n: usize, least: usize, most: usize, number: u8, place: Place) -
     Check::Fine
 }
 
-// A cause that applies where a trace's own number is neither 0 nor the reel's.
-fn check_own(n: usize, own: usize, number: u8, place: Place) -> Check
-    ensures { λ r. ⌜ r ≡ refuseIf (neither n own) number (placeNo place) ⌝ }
+// A cause that applies where a trace's own number, which stands at a place, is neither 0 nor the reel's.
+fn check_own(reel: &[u8], place: Place, own: usize, number: u8) -> Check
+    requires { ⌜ placeNo place + 1 < length (now reel) ⌝ }
+    ensures { λ r. ⌜ r ≡ refuseIf (neither (word (now (reel .entry)) (placeNo place)) own) number (placeNo place) ⌝ }
 {
+    let n = word_at(reel, place);
     if n == 0 {
         return Check::Fine;
     }
@@ -149,21 +161,11 @@ fn check_trace(reel: &[u8], code: usize, n: usize, i: usize, v: usize, at: usize
     requires { ⌜ (v ≡ sampleBytes code) × (at + (240 + n * v) ≤ length (now reel)) ⌝ }
     ensures { λ r. ⌜ r ≡ traceCauses (now (reel .entry)) code n i at ⌝ }
 {
-    let a = check_own(
-        word_at(reel, at + 114),
-        n,
-        7,
-        field_at(Place(at), ByteNo(115)),
-    );
+    let a = check_own(reel, field_at(Place(at), ByteNo(115)), n, 7);
     let Check::Fine = a else {
         return a;
     };
-    let b = check_own(
-        word_at(reel, at + 116),
-        i,
-        8,
-        field_at(Place(at), ByteNo(117)),
-    );
+    let b = check_own(reel, field_at(Place(at), ByteNo(117)), i, 8);
     let Check::Fine = b else {
         return b;
     };
@@ -241,9 +243,9 @@ fn check_causes(reel: &[u8]) -> Check
     }
     check_numbers(
         reel,
-        word_at(reel, 3224),
-        word_at(reel, 3220),
-        word_at(reel, 3216),
+        binary_word(reel, ByteNo(3225)),
+        binary_word(reel, ByteNo(3221)),
+        binary_word(reel, ByteNo(3217)),
     )
 }
 
@@ -252,9 +254,9 @@ fn own_numbers(reel: &[u8]) -> Checked
     requires { ⌜ causesOf (now reel) ≡ Fine ⌝ }
     ensures { λ r. ⌜ r ≡ checkedOf (now (reel .entry)) ⌝ }
 {
-    let code = word_at(reel, 3224);
-    let samples = word_at(reel, 3220);
-    let interval = word_at(reel, 3216);
+    let code = binary_word(reel, ByteNo(3225));
+    let samples = binary_word(reel, ByteNo(3221));
+    let interval = binary_word(reel, ByteNo(3217));
     let width = width_of(code);
     let stride = 240 + samples * width;
     Checked::Fine {

@@ -1,3 +1,4 @@
 pub mod Ranges
 pub mod Same
 pub mod Refusals
+pub mod Output

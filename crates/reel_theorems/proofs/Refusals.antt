@@ -1,11 +1,11 @@
 -- # Refusals are exact
 --
 -- The causes 1 to 9 as a table: each row says in which case it applies, and what stands beside it. A reel is refused by a number with a
--- place exactly when that row of the table applies to it.
-use mathlib.Core.Path.{_≡_, refl, sym, ap, ap₂, _∙_, subst}
-use mathlib.Core.List.{List, [], _∷_}
+-- place exactly when that row of the table applies to it, and it has no cause exactly when no row does.
+use mathlib.Core.Path.{_≡_, refl, sym, ap, _∙_, subst}
+use mathlib.Core.List.{List}
 use mathlib.Core.Logic.{_⊎_, inl, inr, ⊎-elim}
-use mathlib.Core.Bool.{Bool, true, false, not, _&&_}
+use mathlib.Core.Bool.{Bool, true, false, not}
 use Prim.Native.Nat.{ℕ, zero, suc, _+_, _-_, _*_, _≤_, _<_}
 use native.Mathlib.Nat.{add-zero, zero-mul, suc-mul, not-suc-le-zero}
 use native.Mathlib.Omega.{arith}
@@ -18,11 +18,11 @@ use Rattle.numbers.specs.Places.{placeNo}
 use Rattle.numbers.specs.declared.Place.{Place}
 use Rattle.numbers.specs.declared.Check.{Check}
 use Rattle.numbers.specs.declared.Check.the-variants.{Fine, Refused}
-use Rattle.numbers.proofs.CauseLaws.{not-fine, passed}
+use Rattle.numbers.proofs.CauseLaws.{not-fine, passed, then-fine}
 use Rattle.sample.specs.Reading.{isCode, badGain}
 use Rattle.sample_theorems.proofs.Pairs.{Iff}
-use Rattle.reel.specs.Layout.{firstTrace, traceHeader, word, samplesOf, intervalOf, codeOf, sampleBytes, strideOf, tracesOf, leftOver}
-use Rattle.reel.specs.Causes.{mostSamples, mostTraces, within, neither, headerCauses, sizeCauses, wordCause, traceCauses, behindCauses, causesOf}
+use Rattle.reel.specs.Layout.{firstTrace, traceHeader, word, samplesOf, intervalOf, codeOf, sampleBytes, strideOf, overIn, tracesOf}
+use Rattle.reel.specs.Causes.{mostSamples, mostTraces, mostInterval, within, neither, headerCauses, sizeCauses, wordCause, traceCauses, behindCauses, causesOf}
 
 -- ## The first of a walk
 
@@ -70,6 +70,19 @@ first-of f w k at number place r = go k at (r .j) (r .below) (r .before) (r .her
         ap (λ c. then c (firstOf (walk f w k (at + w)))) (sym (ap f (at-zero at w)) ∙ b 0 (omega arith))
         ∙ go k (at + w) j (omega arith) (λ i m. sym (ap f (at-suc at w i)) ∙ b (suc i) (omega arith)) (sym (ap f (at-suc at w j)) ∙ h)
 
+-- where the first of k checks along a walk refuses nothing, none of them does
+none-is : (f : ℕ → Check) (w k at : ℕ) → firstOf (walk f w k at) ≡ Fine → (j : ℕ) → j < k → f (at + j * w) ≡ Fine
+none-is f w zero at e j l = absurd (not-suc-le-zero l)
+none-is f w (suc k) at e zero l = ap f (at-zero at w) ∙ then-fine (f at) _ e .0
+none-is f w (suc k) at e (suc j) l = ap f (at-suc at w j) ∙ none-is f w k (at + w) (then-fine (f at) _ e .1) j (omega arith)
+
+-- and where none of them does, the first refuses nothing
+none-of : (f : ℕ → Check) (w k at : ℕ) → ((j : ℕ) → j < k → f (at + j * w) ≡ Fine) → firstOf (walk f w k at) ≡ Fine
+none-of f w zero at h = refl
+none-of f w (suc k) at h =
+    ap (λ c. then c (firstOf (walk f w k (at + w)))) (sym (ap f (at-zero at w)) ∙ h 0 (omega arith))
+    ∙ none-of f w k (at + w) (λ j l. sym (ap f (at-suc at w j)) ∙ h (suc j) (omega arith))
+
 -- ## The table
 
 -- the place of trace k, counted from 0, and of its sample j
@@ -79,16 +92,27 @@ traceAt s k = firstTrace + k * strideOf s
 abbrev pub sampleAt : List ℕ → ℕ → ℕ → ℕ
 sampleAt s k j = traceAt s k + traceHeader + j * sampleBytes (codeOf s)
 
--- the causes of the trace at a place
-abbrev pub causesAt : List ℕ → ℕ → Check
-causesAt s at = traceCauses s (codeOf s) (samplesOf s) (intervalOf s) at
+-- field 115, and field 117, of trace k is neither 0 nor the reel's own number
+abbrev pub badCount : List ℕ → ℕ → Bool
+badCount s k = neither (word s (traceAt s k + 114)) (samplesOf s)
+
+abbrev pub badInterval : List ℕ → ℕ → Bool
+badInterval s k = neither (word s (traceAt s k + 116)) (intervalOf s)
+
+-- under code 4, the first byte of sample j of trace k is not 00
+abbrev pub badWord : List ℕ → ℕ → ℕ → Bool
+badWord s k j = badGain (codeOf s) (bytesAt s (sampleAt s k j) 4)
+
+-- the bytes behind the last whole trace
+abbrev pub leftOver : List ℕ → ℕ
+leftOver s = overIn (length s) (strideOf s)
 
 -- no cause of 1 to 4 applies
 pub record Headed (s : List ℕ) : Type 0 where
   pub long : firstTrace ≤ length s
   pub code : isCode (codeOf s) ≡ true
   pub samples : within 1 mostSamples (samplesOf s) ≡ true
-  pub interval : within 1 32767 (intervalOf s) ≡ true
+  pub interval : within 1 mostInterval (intervalOf s) ≡ true
 
 -- no cause of 1 to 6 applies
 pub record Whole (s : List ℕ) : Type 0 where
@@ -96,35 +120,56 @@ pub record Whole (s : List ℕ) : Type 0 where
   pub whole : leftOver s ≡ 0
   pub few : tracesOf s ≤ mostTraces
 
+-- no cause of 7 to 9 applies to trace k
+pub record Passed (s : List ℕ) (k : ℕ) : Type 0 where
+  pub count : badCount s k ≡ false
+  pub interval : badInterval s k ≡ false
+  pub words : (j : ℕ) → j < samplesOf s → badWord s k j ≡ false
+
 -- no cause of 1 to 6 applies, nor one of 7 to 9 to the traces before trace k
 pub record Until (s : List ℕ) (k : ℕ) : Type 0 where
   pub reel : Whole s
   pub trace : k < tracesOf s
-  pub before : (i : ℕ) → i < k → causesAt s (traceAt s i) ≡ Fine
-
--- field 115, and field 117, of trace k
-abbrev pub badCount : List ℕ → ℕ → Bool
-badCount s k = neither (word s (traceAt s k + 114)) (samplesOf s)
-
-abbrev pub badInterval : List ℕ → ℕ → Bool
-badInterval s k = neither (word s (traceAt s k + 116)) (intervalOf s)
-
--- the first byte of sample j of trace k, under code 4
-abbrev pub badWord : List ℕ → ℕ → ℕ → Bool
-badWord s k j = badGain (codeOf s) (bytesAt s (sampleAt s k j) 4)
+  pub before : (i : ℕ) → i < k → Passed s i
 
 -- The rows: number, and what stands beside it.
 pub data Row (s : List ℕ) : ℕ → ℕ → Type 0 where
   short : length s < firstTrace → Row s 1 (length s)
   bad-code : firstTrace ≤ length s → isCode (codeOf s) ≡ false → Row s 2 3224
   bad-samples : firstTrace ≤ length s → isCode (codeOf s) ≡ true → within 1 mostSamples (samplesOf s) ≡ false → Row s 3 3220
-  bad-interval : firstTrace ≤ length s → isCode (codeOf s) ≡ true → within 1 mostSamples (samplesOf s) ≡ true → within 1 32767 (intervalOf s) ≡ false → Row s 4 3216
+  bad-interval : firstTrace ≤ length s → isCode (codeOf s) ≡ true → within 1 mostSamples (samplesOf s) ≡ true → within 1 mostInterval (intervalOf s) ≡ false → Row s 4 3216
   left-over : Headed s → 0 < leftOver s → Row s 5 (length s - leftOver s)
   many : Headed s → leftOver s ≡ 0 → mostTraces < tracesOf s → Row s 6 (firstTrace + mostTraces * strideOf s)
   count : (k : ℕ) → Until s k → badCount s k ≡ true → Row s 7 (traceAt s k + 114)
   interval : (k : ℕ) → Until s k → badCount s k ≡ false → badInterval s k ≡ true → Row s 8 (traceAt s k + 116)
   gain : (k j : ℕ) → Until s k → badCount s k ≡ false → badInterval s k ≡ false → j < samplesOf s → ((i : ℕ) → i < j → badWord s k i ≡ false) → badWord s k j ≡ true
       → Row s 9 (sampleAt s k j)
+
+-- ## The causes of a trace
+
+-- the first cause of 7 to 9 of the trace at a place
+abbrev causesAt : List ℕ → ℕ → Check
+causesAt s at = traceCauses s (codeOf s) (samplesOf s) (intervalOf s) at
+
+module _ (s : List ℕ) (k : ℕ) where
+  -- where the trace has no cause, none of 7 to 9 applies to it
+  to-passed : causesAt s (traceAt s k) ≡ Fine → Passed s k
+  unfolding traceCauses
+  to-passed e =
+      let a = then-fine (refuseIf (badCount s k) 7 (traceAt s k + 114)) _ e in
+      let b = then-fine (refuseIf (badInterval s k) 8 (traceAt s k + 116)) _ (a .1) in
+      record {
+        count = passed (badCount s k) 7 (traceAt s k + 114) (a .0);
+        interval = passed (badInterval s k) 8 (traceAt s k + 116) (b .0);
+        words = λ j l. passed (badWord s k j) 9 (sampleAt s k j) (none-is (wordCause s (codeOf s)) (sampleBytes (codeOf s)) (samplesOf s) (traceAt s k + traceHeader) (b .1) j l);
+      }
+
+  -- and where none of 7 to 9 applies to it, the trace has no cause
+  from-passed : Passed s k → causesAt s (traceAt s k) ≡ Fine
+  unfolding traceCauses
+  from-passed h =
+      rw (h .count, h .interval)
+      (none-of (wordCause s (codeOf s)) (sampleBytes (codeOf s)) (samplesOf s) (traceAt s k + traceHeader) (λ j l. ap (λ (x : Bool). refuseIf x 9 (sampleAt s k j)) (h .words j l)))
 
 -- ## From the rows to the causes
 
@@ -141,7 +186,7 @@ module _ (s : List ℕ) where
   -- a trace's cause is that of the reel, where none applies before it
   from-trace : (k number : ℕ) (place : Place) → Until s k → causesAt s (traceAt s k) ≡ Refused number place → causesOf s ≡ Refused number place
   from-trace k number place h e =
-      behind (h .reel) ∙ first-of (causesAt s) (strideOf s) (tracesOf s) firstTrace number place (record { j = k; below = h .trace; before = h .before; here = e })
+      behind (h .reel) ∙ first-of (causesAt s) (strideOf s) (tracesOf s) firstTrace number place (record { j = k; below = h .trace; before = λ i l. from-passed s i (h .before i l); here = e })
 
   from-row : (number place : ℕ) → Row s number place → causesOf s ≡ Refused number (record { 0 = place })
   unfolding causesOf behindCauses traceCauses
@@ -208,7 +253,7 @@ module _ (s : List ℕ) where
   header-rows : (rest : Check)
       → then (headerCauses (codeOf s) (samplesOf s) (intervalOf s)) rest
       ≡ then (refuseIf (not (isCode (codeOf s))) 2 3224)
-      (then (refuseIf (not (within 1 mostSamples (samplesOf s))) 3 3220) (then (refuseIf (not (within 1 32767 (intervalOf s))) 4 3216) rest))
+      (then (refuseIf (not (within 1 mostSamples (samplesOf s))) 3 3220) (then (refuseIf (not (within 1 mostInterval (intervalOf s))) 4 3216) rest))
   header-rows rest = simp then-assoc
 
   size-rows : (rest : Check)
@@ -219,7 +264,7 @@ module _ (s : List ℕ) where
   traces-row : (n p : ℕ) → Whole s → firstOf (walk (causesAt s) (strideOf s) (tracesOf s) firstTrace) ≡ Refused n (record { 0 = p }) → Row s n p
   traces-row n p h e =
       let f = first-is (causesAt s) (strideOf s) (tracesOf s) firstTrace n (record { 0 = p }) e in
-      trace-row (f .j) n p (record { reel = h; trace = f .below; before = f .before }) (f .here)
+      trace-row (f .j) n p (record { reel = h; trace = f .below; before = λ i l. to-passed s i (f .before i l) }) (f .here)
 
   behind-row : (n p : ℕ) → Headed s → behindCauses s (codeOf s) (samplesOf s) (intervalOf s) (strideOf s) ≡ Refused n (record { 0 = p }) → Row s n p
   unfolding behindCauses
@@ -244,8 +289,8 @@ module _ (s : List ℕ) where
       ⊎-elim (λ b. row-as (b .1) (b .2) (bad-samples long code (not-true _ (b .0))))
       (λ b. let samples = not-false (within 1 mostSamples (samplesOf s)) (b .0) in
       ⊎-elim (λ c. row-as (c .1) (c .2) (bad-interval long code samples (not-true _ (c .0))))
-      (λ c. behind-row n p (record { long = long; code = code; samples = samples; interval = not-false (within 1 32767 (intervalOf s)) (c .0) }) (c .1))
-      (row-or (not (within 1 32767 (intervalOf s))) 4 3216 _ n p (b .1)))
+      (λ c. behind-row n p (record { long = long; code = code; samples = samples; interval = not-false (within 1 mostInterval (intervalOf s)) (c .0) }) (c .1))
+      (row-or (not (within 1 mostInterval (intervalOf s))) 4 3216 _ n p (b .1)))
       (row-or (not (within 1 mostSamples (samplesOf s))) 3 3220 _ n p (a .1)))
       (row-or (not (isCode (codeOf s))) 2 3224 _ n p (sym (header-rows _) ∙ r .1)))
       (row-or (ltb (length s) firstTrace) 1 (length s) _ n p e)
@@ -253,3 +298,14 @@ module _ (s : List ℕ) where
   -- THEOREM. A reel has a cause of 1 to 9, with what stands beside it, exactly when that row of the table applies.
   pub exact-causes : (number place : ℕ) → Iff (causesOf s ≡ Refused number (record { 0 = place })) (Row s number place)
   exact-causes number place = (to-row number place, from-row s number place)
+
+  -- THEOREM. No cause of 1 to 9 applies to a reel exactly when no row of the table does.
+  pub no-cause : Iff (causesOf s ≡ Fine) ((number place : ℕ) → ¬ (Row s number place))
+  no-cause = (none, fine (causesOf s) refl)
+    where
+      none : causesOf s ≡ Fine → (number place : ℕ) → ¬ (Row s number place)
+      none e number place r = not-fine (sym (from-row s number place r) ∙ e)
+
+      fine : (c : Check) → causesOf s ≡ c → ((number place : ℕ) → ¬ (Row s number place)) → causesOf s ≡ Fine
+      fine Fine e h = e
+      fine (Refused number place) e h = absurd (h number (placeNo place) (to-row number (placeNo place) e))

@@ -21,7 +21,11 @@ use Rattle.sample.specs.declared.Answer.the-variants as answer
 use Rattle.sample.specs.declared.WordRead.{WordRead}
 use Rattle.sample.specs.declared.PairWritten.{PairWritten}
 
--- A pair is six bytes: e in two, m in four, both two's complement.
+-- The bytes of a pair: e in two, m in four.
+abbrev pub pairLength : ℕ
+pairLength = 2 + mantissaBits / 8
+
+-- A pair in its bytes, both numbers in two's complement.
 abbrev pub pairBytes : ℤ → ℤ → List ℕ
 pairBytes e m = bytesOf 2 (bitsOf 16 e) ++ bytesOf (mantissaBits / 8) (bitsOf mantissaBits m)
 
@@ -48,7 +52,7 @@ pairWritten r = record { said = saidBy (r .answer); bytes = r .word }
 -- The outcome of reading a single word. Beside a refusal the place is 0 and the bytes handed out are all 00.
 abbrev pub readSaid : Sample → Outcome
 readSaid (sample.Taken e m) = record { said = taken []; bytes = pairBytes e m }
-readSaid (sample.Refused number) = record { said = refused number 0; bytes = replicate (2 + mantissaBits / 8) 0 }
+readSaid (sample.Refused number) = record { said = refused number 0; bytes = replicate pairLength 0 }
 
 abbrev pub readOutcome : ℕ → List ℕ → Outcome
 readOutcome code w = readSaid (readWord code w)

@@ -1,6 +1,6 @@
 -- A reel's record as the code writes it, by copying what can be copied: for the functions inside this crate.
 use Prim.Native.Nat.{ℕ, _+_, _*_}
-use mathlib.Core.List.{List, [], _∷_, _++_, map}
+use mathlib.Core.List.{List, _∷_, _++_, map}
 use lib.ListN.{replicate}
 use lib.Dec.{eqb}
 use Rattle.numbers.specs.Walk.{pick, walk, flat, bytesAt}

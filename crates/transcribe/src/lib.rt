@@ -131,7 +131,8 @@ fn put_pair(e: i16, m: i32, out: &mut [u8])
     out[5] = b[3];
 }
 
-// What reading a word gives, in six bytes.
+// What reading a word gives, in six bytes. The words of a reel that came through the causes 1 to 9 are all taken; a refused one, which only
+// the types allow here, is given as zero, so that the loops need no condition on each word.
 fn put_sample(word: Sample, out: &mut [u8])
     requires { ⌜ length (now out) ≡ 6 ⌝ }
     ensures { λ _. ⌜ now (out .exit) ≡ sampleContent word ⌝ }

@@ -33,9 +33,6 @@ check-field-requires c κs = search needs
 enum-known-c : tie.Need-enum-known-c
 enum-known-c c = search needs
 
-refused-requires : tie.Need-refused-requires
-refused-requires c κs = search needs
-
 enum-told : tie.Need-enum-told
 enum-told c = search needs
 
@@ -44,9 +41,9 @@ header-number-requires c κs = (c .before .before .before .before .before .pre .
 
 returns : tie.Need-returns
 returns c =
-    let f = c .before .before .before .before in
+    let f = c .before .before .before in
     let a = f .before .before .before .args in
-    c .refused .ensures ∙ refused-is (a .reel .now) (a .trace) (a .b) (sym (causes f) ∙ c .before .before .c .given .1)
+    refused-is (a .reel .now) (a .trace) (a .b) (sym (causes f) ∙ c .before .c .given .1)
 
 returns-2 : tie.Need-returns-2
 returns-2 c =
@@ -62,7 +59,6 @@ look-spec =
     width-at-requires
     check-field-requires
     enum-known-c
-    refused-requires
     enum-told
     header-number-requires
     returns

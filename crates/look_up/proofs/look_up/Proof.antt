@@ -11,9 +11,6 @@ check-reel-requires c κs = search needs
 enum-known-c : tie.Need-enum-known-c
 enum-known-c c = search needs
 
-refused-requires : tie.Need-refused-requires
-refused-requires c κs = search needs
-
 enum-known-c-2 : tie.Need-enum-known-c-2
 enum-known-c-2 c = search needs
 
@@ -24,10 +21,9 @@ look-requires c κs =
 
 returns : tie.Need-returns
 returns c =
-    let r = c .before .before .before .before in
+    let r = c .before .before .before in
     let a = r .before .before .args in
-    let e = own-refusal (a .reel .now) (sym (r .check-reel .ensures) ∙ c .before .before .c .given .1) in
-    c .refused .ensures ∙ stopped-is (a .reel .now) (a .trace) (a .b) e
+    stopped-is (a .reel .now) (a .trace) (a .b) (own-refusal (a .reel .now) (sym (r .check-reel .ensures) ∙ c .before .c .given .1))
 
 returns-2 : tie.Need-returns-2
 returns-2 c = search needs
@@ -38,7 +34,6 @@ look-up-spec =
     (tie.spec
     check-reel-requires
     enum-known-c
-    refused-requires
     enum-known-c-2
     look-requires
     returns

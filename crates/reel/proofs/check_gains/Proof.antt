@@ -1,6 +1,6 @@
 -- `reel::check_gains` meets its contract. Assumes nothing.
 use Rattle.reel.proofs.CheckLaws.{gain-refused}
-use Rattle.reel.specs.Causes.{wordRefused}
+use Rattle.reel.specs.Parts.{wordRefused}
 use Rattle.numbers.specs.Walk.{bytesAt}
 use Rattle.reel.specs.Causes.{wordCause}
 use Rattle.numbers.proofs.CauseLaws.{first-none, first-more, first-stop}

@@ -1,16 +1,44 @@
 -- `reel::check_own` meets its contract. Assumes nothing.
+use Rattle.reel.specs.Causes.{neither}
+use Rattle.numbers.specs.declared.Check.{Check}
+use Rattle.numbers.specs.declared.Check.the-variants.{Fine, Refused}
+use Rattle.numbers.specs.Cause.{refuseIf}
+use Rattle.numbers.specs.Places.{placeNo}
 use borrow.Author.Tests.{eq-eqb, ne-eqb}
+use borrow.Author.Needs.{needs}
+use Prim.Native.Nat.{ℕ}
+use mathlib.Core.Path.{_≡_, ap, _∙_}
 use Rattle.reel.proofs.check_own.Statement.{statement}
 use Rattle.reel.proofs.check_own.Tie as tie
 
+-- the cause by the number that was read
+abbrev cause : (c : tie.After-word-at) → ℕ → Check
+cause c x = let a = c .before .before .args in refuseIf (neither x (a .own)) (a .number) (placeNo (a .place))
+
+word-at-requires : tie.Need-word-at-requires
+word-at-requires c κs = search needs
+
 returns : tie.Need-returns
-returns c = rw (eq-eqb (c .before .args .n) 0 (c .if1 .taken))
+returns c =
+    let w = c .before in
+    let n = w .word-at .result in
+    let k : Fine ≡ cause w n = rw (eq-eqb n 0 (c .if1 .taken)) in
+    k ∙ ap (cause w) (w .word-at .ensures .0)
 
 returns-2 : tie.Need-returns-2
-returns-2 c = let a = c .before .before .args in rw (ne-eqb (a .n) 0 (c .before .if1 .left), eq-eqb (a .n) (a .own) (c .if2 .taken))
+returns-2 c =
+    let w = c .before .before in
+    let n = w .word-at .result in
+    let k : Fine ≡ cause w n = rw (ne-eqb n 0 (c .before .if1 .left), eq-eqb n (w .before .before .args .own) (c .if2 .taken)) in
+    k ∙ ap (cause w) (w .word-at .ensures .0)
 
 returns-3 : tie.Need-returns-3
-returns-3 c = let a = c .before .before .args in rw (ne-eqb (a .n) 0 (c .before .if1 .left), ne-eqb (a .n) (a .own) (c .if2 .left))
+returns-3 c =
+    let w = c .before .before in
+    let n = w .word-at .result in
+    let a = w .before .before .args in
+    let k : Refused (a .number) (a .place) ≡ cause w n = rw (ne-eqb n 0 (c .before .if1 .left), ne-eqb n (a .own) (c .if2 .left)) in
+    k ∙ ap (cause w) (w .word-at .ensures .0)
 
 pub check-own-spec : {M : Type 1} → statement M
-check-own-spec = tie.close (tie.spec returns returns-2 returns-3)
+check-own-spec = tie.close (tie.spec word-at-requires returns returns-2 returns-3)

@@ -7,7 +7,7 @@ use Rattle.numbers.specs.declared.Check.the-variants.{Fine}
 use Rattle.numbers.specs.Cause.{refuseIf, firstOf}
 use Rattle.numbers.specs.Walk.{walk}
 use Prim.Native.Nat.{ℕ, _+_}
-use mathlib.Core.Path.{_≡_, sym, ap, ap₂, _∙_}
+use mathlib.Core.Path.{_≡_, sym, ap, _∙_}
 use native.Mathlib.Omega.{arith}
 use borrow.Author.Needs.{needs}
 use Rattle.reel.proofs.check_trace.Statement.{statement}
@@ -15,34 +15,28 @@ use Rattle.reel.proofs.check_trace.Tie as tie
 
 -- the rows of 7 and 8
 row7 : (c : tie.After-check-own)
-    → let a = c .before .before .before .before .args in
+    → let a = c .before .before .before .args in
     c .check-own .result ≡ refuseIf (neither (word (a .reel .now) (a .at + 114)) (a .n)) 7 (a .at + 114)
 row7 c =
-    let a = c .before .before .before .before .args in
-    c .check-own .ensures ∙ ap₂ (λ (x y : ℕ). refuseIf (neither x (a .n)) 7 y) (c .before .before .word-at .ensures .0) (c .before .field-at .ensures)
+    let a = c .before .before .before .args in
+    c .check-own .ensures ∙ ap (λ (x : ℕ). refuseIf (neither (word (a .reel .now) x) (a .n)) 7 x) (c .before .field-at .ensures)
 
 row8 : (c : tie.After-check-own2)
-    → let a = c .before .before .before .before .before .before .before .before .before .args in
+    → let a = c .before .before .before .before .before .before .before .args in
     c .check-own2 .result ≡ refuseIf (neither (word (a .reel .now) (a .at + 116)) (a .i)) 8 (a .at + 116)
 row8 c =
-    let a = c .before .before .before .before .before .before .before .before .before .args in
-    c .check-own2 .ensures ∙ ap₂ (λ (x y : ℕ). refuseIf (neither x (a .i)) 8 y) (c .before .before .word-at2 .ensures .0) (c .before .field-at2 .ensures)
+    let a = c .before .before .before .before .before .before .before .args in
+    c .check-own2 .ensures ∙ ap (λ (x : ℕ). refuseIf (neither (word (a .reel .now) x) (a .i)) 8 x) (c .before .field-at2 .ensures)
 
 fine7 : (c : tie.After-enum-told)
-    → let a = c .before .before .before .before .before .before .args in
+    → let a = c .before .before .before .before .before .args in
     refuseIf (neither (word (a .reel .now) (a .at + 114)) (a .n)) 7 (a .at + 114) ≡ Fine
 fine7 c = sym (row7 (c .before .before)) ∙ c .enum-told .given .1
 
 fine8 : (c : tie.After-enum-told3)
-    → let a = c .before .before .before .before .before .before .before .before .before .before .before .args in
+    → let a = c .before .before .before .before .before .before .before .before .before .args in
     refuseIf (neither (word (a .reel .now) (a .at + 116)) (a .i)) 8 (a .at + 116) ≡ Fine
 fine8 c = sym (row8 (c .before .before)) ∙ c .enum-told3 .given .1
-
-add-word-at : tie.Need-add-word-at
-add-word-at c = search needs
-
-word-at-requires : tie.Need-word-at-requires
-word-at-requires c κs = search needs
 
 field-at-requires : tie.Need-field-at-requires
 field-at-requires c κs = search needs
@@ -59,12 +53,6 @@ enum-told-2 c = search needs
 returns : tie.Need-returns
 unfolding traceCauses
 returns c = let e = row7 (c .before .before) in e ∙ then-stop _ _ (sym e ∙ c .enum-told2 .given .1)
-
-add-word-at-2 : tie.Need-add-word-at-2
-add-word-at-2 c = search needs
-
-word-at-requires-2 : tie.Need-word-at-requires-2
-word-at-requires-2 c κs = search needs
 
 field-at-requires-2 : tie.Need-field-at-requires-2
 field-at-requires-2 c κs = search needs
@@ -83,14 +71,14 @@ unfolding traceCauses
 returns-2 c =
     let b = c .before .before in
     let e = row8 b in
-    e ∙ then-stop _ _ (sym e ∙ c .enum-told4 .given .1) ∙ then-next _ _ (fine7 (b .before .before .before))
+    e ∙ then-stop _ _ (sym e ∙ c .enum-told4 .given .1) ∙ then-next _ _ (fine7 (b .before .before))
 
 add-check-gains : tie.Need-add-check-gains
 add-check-gains c = search needs
 
 check-gains-requires : tie.Need-check-gains-requires
 check-gains-requires c κs =
-    let s = c .before .before .before .before .before .before .before .before .before .before .before .before in
+    let s = c .before .before .before .before .before .before .before .before .before .before in
     let four : s .args .v ≡ 4 = s .pre .0 ∙ ap sampleBytes (c .if1 .taken) in
     let room = rw four at (s .pre .1) in
     omega arith
@@ -99,8 +87,8 @@ returns-3 : tie.Need-returns-3
 unfolding traceCauses
 returns-3 c =
     let b = c .before .before in
-    let a = b .before .before .before .before .before in
-    let s = a .before .before .before .before .before .before in
+    let a = b .before .before .before .before in
+    let s = a .before .before .before .before .before in
     let t = s .args in
     c .check-gains .ensures ∙ ap (λ (k : ℕ). firstOf (walk (wordCause (t .reel .now) k) (sampleBytes k) (t .n) (t .at + traceHeader))) (sym (c .before .if1 .taken))
     ∙ then-next _ _ (fine8 b) ∙ then-next _ _ (fine7 a)
@@ -109,8 +97,8 @@ returns-4 : tie.Need-returns-4
 unfolding traceCauses
 returns-4 c =
     let b = c .before in
-    let a = b .before .before .before .before .before in
-    let s = a .before .before .before .before .before .before in
+    let a = b .before .before .before .before in
+    let s = a .before .before .before .before .before in
     let t = s .args in
     sym (no-gain (t .reel .now) (t .code) (c .if1 .left) (sampleBytes (t .code)) (t .n) (t .at + traceHeader)) ∙ then-next _ _ (fine8 b) ∙ then-next _ _ (fine7 a)
 
@@ -118,15 +106,11 @@ pub check-trace-spec : {M : Type 1} → statement M
 check-trace-spec =
     tie.close
     (tie.spec
-    add-word-at
-    word-at-requires
     field-at-requires
     check-own-requires
     enum-told
     enum-told-2
     returns
-    add-word-at-2
-    word-at-requires-2
     field-at-requires-2
     check-own-requires-2
     enum-told-3

@@ -10,17 +10,17 @@ use Rattle.reel.proofs.own_numbers.Tie as tie
 fine : (c : tie.Start) → Sound (c .args .reel .now)
 fine c = reel-fine (c .args .reel .now) (c .pre)
 
-small : (c : tie.After-width-of) → c .before .before .word-at2 .result * c .width-of .result ≤ 65536 * 4
-small c = mul-le-mul (le-of-lt (c .before .before .word-at2 .ensures .1)) (c .width-of .ensures .2)
+small : (c : tie.After-width-of) → c .before .before .binary-word2 .result * c .width-of .result ≤ 65536 * 4
+small c = mul-le-mul (le-of-lt (c .before .before .binary-word2 .ensures .1)) (c .width-of .ensures .2)
 
-word-at-requires : tie.Need-word-at-requires
-word-at-requires c κs = omega (arith, fine (c .before) .long)
+binary-word-requires : tie.Need-binary-word-requires
+binary-word-requires c κs = omega (arith, fine (c .before) .long)
 
-word-at-requires-2 : tie.Need-word-at-requires-2
-word-at-requires-2 c κs = omega (arith, fine (c .before .before) .long)
+binary-word-requires-2 : tie.Need-binary-word-requires-2
+binary-word-requires-2 c κs = omega (arith, fine (c .before .before) .long)
 
-word-at-requires-3 : tie.Need-word-at-requires-3
-word-at-requires-3 c κs = omega (arith, fine (c .before .before .before) .long)
+binary-word-requires-3 : tie.Need-binary-word-requires-3
+binary-word-requires-3 c κs = omega (arith, fine (c .before .before .before) .long)
 
 width-of-requires : tie.Need-width-of-requires
 width-of-requires c κs = search needs
@@ -31,27 +31,27 @@ mul-stride c = omega (arith, small c)
 add-stride : tie.Need-add-stride
 add-stride c = omega (arith, small c)
 
-sub-t8 : tie.Need-sub-t8
-sub-t8 c = fine (c .before .before .before .before .before) .long
+sub-t9 : tie.Need-sub-t9
+sub-t9 c = fine (c .before .before .before .before .before) .long
 
-div-t9 : tie.Need-div-t9
-div-t9 c = search needs
+div-t10 : tie.Need-div-t10
+div-t10 c = search needs
 
 returns : tie.Need-returns
 returns c =
     let s = c .before .before .before .before .before in
-    rw (s .pre, c .before .before .before .word-at .ensures .0, c .before .before .word-at2 .ensures .0, c .before .word-at3 .ensures .0, c .width-of .ensures .0, c .before .before .before .word-at .ensures .0)
+    rw (s .pre, c .before .before .before .binary-word .ensures .0, c .before .before .binary-word2 .ensures .0, c .before .binary-word3 .ensures .0, c .width-of .ensures .0, c .before .before .before .binary-word .ensures .0)
 
 pub own-numbers-spec : {M : Type 1} → statement M
 own-numbers-spec =
     tie.close
     (tie.spec
-    word-at-requires
-    word-at-requires-2
-    word-at-requires-3
+    binary-word-requires
+    binary-word-requires-2
+    binary-word-requires-3
     width-of-requires
     mul-stride
     add-stride
-    sub-t8
-    div-t9
+    sub-t9
+    div-t10
     returns)

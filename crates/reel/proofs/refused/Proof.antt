@@ -1,5 +1,5 @@
 -- `reel::refused` meets its contract. Assumes nothing.
-use Rattle.reel.specs.Causes.{wordRefused}
+use Rattle.reel.specs.Parts.{wordRefused}
 use mathlib.Core.Path.{ap, sym}
 use borrow.Author.Needs.{needs}
 use Rattle.reel.proofs.refused.Statement.{statement}

@@ -1,0 +1,76 @@
+-- # The record in the output
+--
+-- Document 01 calls the record the output's first bytes, as many as the length returned. What a reading answers, and what it leaves in its
+-- output, say so: where the reading of a reel into an output is taken, the numbers returned are the reel's T and N and the length of its
+-- record; the first bytes of the output, as many as that length, are the record; and those of two readings are equal exactly when the
+-- reels mean the same. Each byte of a reel is below 256; nothing else is assumed.
+use mathlib.Core.Path.{_≡_, refl, sym, ap, _∙_}
+use mathlib.Core.List.{List, [], _∷_}
+use Prim.Native.Nat.{ℕ, _+_, _*_}
+use native.Mathlib.Omega.{arith}
+use lib.ListN.{length, take, drop}
+use lib.Seq.{take-at}
+use Rattle.numbers.specs.Outcome.{taken, refused, Outcome}
+use Rattle.numbers.specs.declared.Check.{Check}
+use Rattle.numbers.specs.declared.Check.the-variants.{Fine, Refused}
+use Rattle.numbers.proofs.CauseLaws.{then-fine}
+use Rattle.numbers.proofs.ByteLaws.{Bytes}
+use Rattle.sample_theorems.proofs.Pairs.{Iff}
+use Rattle.reel.specs.Layout.{samplesOf, tracesOf}
+use Rattle.reel.specs.Causes.{causesOf}
+use Rattle.reel.specs.Meaning.{MeanTheSame}
+use Rattle.record.specs.Record.{reelRecord}
+use Rattle.transcribe.specs.Reading.{lengthOf, readCauses, readEnd, readOutcome}
+use Rattle.reel_theorems.proofs.Same.{record-size, same-records}
+
+-- a call that says it refused does not say it took
+not-taken : {number place : ℕ} {numbers : List ℕ} → ¬ (refused number place ≡ taken numbers)
+not-taken p =
+    let z : _≡_ {A = ℕ} 0 1 = cc in
+    omega arith
+
+-- a reading that is taken has no cause of 1 to 10
+taken-fine : (s out numbers : List ℕ) → readOutcome s out .said ≡ taken numbers → readCauses s (length out) ≡ Fine
+taken-fine s out numbers e = go (readCauses s (length out)) refl e
+  where
+    go : (c : Check) → readCauses s (length out) ≡ c → readEnd s out c .said ≡ taken numbers → readCauses s (length out) ≡ Fine
+    go Fine q e = q
+    go (Refused number place) q e = absurd (not-taken e)
+
+-- the reel of a reading that is taken has no cause of 1 to 9
+taken-reel : (s out numbers : List ℕ) → readOutcome s out .said ≡ taken numbers → causesOf s ≡ Fine
+taken-reel s out numbers e = then-fine (causesOf s) _ (taken-fine s out numbers e) .0
+
+-- what a reading that is taken says and leaves in its output
+taken-outcome : (s out numbers : List ℕ) → readOutcome s out .said ≡ taken numbers → readOutcome s out ≡ readEnd s out Fine
+taken-outcome s out numbers e = ap (readEnd s out) (taken-fine s out numbers e)
+
+-- THEOREM. Where the reading of a reel is taken, the numbers returned are T, N and 3273 + T × (186 + 6N).
+pub taken-numbers : (s out numbers : List ℕ) → readOutcome s out .said ≡ taken numbers
+    → readOutcome s out .said ≡ taken (tracesOf s ∷ samplesOf s ∷ (3273 + tracesOf s * (186 + 6 * samplesOf s)) ∷ [])
+taken-numbers s out numbers e = ap (λ (o : Outcome). o .said) (taken-outcome s out numbers e)
+
+-- the length returned is that of the reel's record
+taken-length : (s out : List ℕ) (t n l : ℕ) → readOutcome s out .said ≡ taken (t ∷ n ∷ l ∷ []) → lengthOf s ≡ l
+taken-length s out t n l e =
+    let same : taken (tracesOf s ∷ samplesOf s ∷ lengthOf s ∷ []) ≡ taken (t ∷ n ∷ l ∷ []) = sym (taken-numbers s out (t ∷ n ∷ l ∷ []) e) ∙ e in
+    cc
+
+-- THEOREM. Where the reading of a reel is taken, with T, N and a length returned, the output's first bytes, as many as that length, are
+-- the reel's record.
+pub output-record : (s out : List ℕ) (t n l : ℕ) → Bytes s → readOutcome s out .said ≡ taken (t ∷ n ∷ l ∷ [])
+    → take l (readOutcome s out .bytes) ≡ reelRecord s
+output-record s out t n l b e =
+    let size : length (reelRecord s) ≡ l = record-size s b (taken-reel s out (t ∷ n ∷ l ∷ []) e) ∙ taken-length s out t n l e in
+    ap (λ (o : Outcome). take l (o .bytes)) (taken-outcome s out (t ∷ n ∷ l ∷ []) e) ∙ take-at (reelRecord s) (drop (lengthOf s) out) l size
+
+-- THEOREM. Where the readings of two reels, each in any code and each into any output, are both taken, the first bytes of the two outputs,
+-- as many as the length returned each time, are equal exactly when the reels mean the same.
+pub same-outputs : (s₁ s₂ out₁ out₂ : List ℕ) (t₁ n₁ l₁ t₂ n₂ l₂ : ℕ) → Bytes s₁ → Bytes s₂
+    → readOutcome s₁ out₁ .said ≡ taken (t₁ ∷ n₁ ∷ l₁ ∷ []) → readOutcome s₂ out₂ .said ≡ taken (t₂ ∷ n₂ ∷ l₂ ∷ [])
+    → Iff (take l₁ (readOutcome s₁ out₁ .bytes) ≡ take l₂ (readOutcome s₂ out₂ .bytes)) (MeanTheSame s₁ s₂)
+same-outputs s₁ s₂ out₁ out₂ t₁ n₁ l₁ t₂ n₂ l₂ b₁ b₂ e₁ e₂ =
+    let p₁ = output-record s₁ out₁ t₁ n₁ l₁ b₁ e₁ in
+    let p₂ = output-record s₂ out₂ t₂ n₂ l₂ b₂ e₂ in
+    let same = same-records s₁ s₂ b₁ b₂ (taken-reel s₁ out₁ (t₁ ∷ n₁ ∷ l₁ ∷ []) e₁) (taken-reel s₂ out₂ (t₂ ∷ n₂ ∷ l₂ ∷ []) e₂) in
+    (λ e. same .0 (sym p₁ ∙ e ∙ p₂), λ m. p₁ ∙ same .1 m ∙ sym p₂)
