@@ -5,8 +5,8 @@ use mathlib.Core.List.{List, [], _∷_, _++_, append-assoc, append-nil}
 use Prim.Native.Nat.{ℕ, suc, _+_, _-_, _≤_, _<_}
 use native.Mathlib.Numerals.{add-one}
 use native.Mathlib.Omega.{arith}
-use lib.ListN.{length, set, take, drop, length-append, length-take, length-drop, length-set}
-use lib.Seq.{take-at, take-suc-set, take-all}
+use lib.ListN.{length, set, take, drop, length-append, length-take, length-drop, length-set, drop-of-length-le}
+use lib.Seq.{take-at, drop-at, take-suc-set, take-all}
 use borrow.Rule.Slice.PartMut.{putMid}
 
 -- `out` is to become `all`: its first o elements are right already, and `rest` is left to write.
@@ -61,6 +61,15 @@ module _ {A : Type 0} {all out : List A} {o : ℕ} where
         within = omega arith;
         size = q ∙ w .size;
       }
+
+-- Two parts lent, the one behind first: as they come back, they make up the slice.
+pub behind-first : {A : Type 0} (k j : ℕ) (out : List A) {ys zs behind front : List A} → length out ≡ k + j → ys ≡ behind → zs ≡ front
+    → putMid 0 k (putMid k j out ys) zs ≡ front ++ behind
+behind-first {A} k j out {ys} {zs} {behind} {front} n is was =
+    let few : length (drop k out) ≤ j = rw length-drop (omega arith) in
+    let rest : drop j (drop k out) ≡ [] = drop-of-length-le (drop k out) few in
+    let size : length (take k out) ≡ k = rw length-take (omega arith) in
+    rw (was, is) (ap (λ (l : List A). front ++ l) (drop-at (take k out) (behind ++ drop j (drop k out)) k size ∙ ap (λ (l : List A). behind ++ l) rest ∙ append-nil behind))
 
 -- The last part lent: as it comes back, the slice is what it was to become.
 pub close : {A : Type 0} {all out : List A} {o : ℕ} (new : List A) (e : ℕ) {ys : List A} → Filling all out o new → o ≤ e → length new ≡ e - o → ys ≡ new

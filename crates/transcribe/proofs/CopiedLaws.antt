@@ -18,7 +18,7 @@ use Rattle.sample.specs.declared.Sample.the-variants.{Taken, Refused}
 use Rattle.reel.specs.Layout.{firstTrace, sampleBytes}
 use Rattle.reel.specs.Meaning.{cardText}
 use Rattle.record.proofs.HeaderLaws.{size-cards}
-use Rattle.transcribe.specs.Copied.{tagBytes, binaryCopied, headCopied, ownOr, headerCopied, sampleContent, sampleCopied, places, samplesCopied, traceCopied, recordCopied}
+use Rattle.transcribe.specs.Copied.{tagBytes, binaryCopied, headCopied, ownOr, headerCopied, exponentContent, mantissaContent, sampleContent, sampleCopied, places, samplesCopied, traceCopied, recordCopied}
 
 -- ## Lengths
 
@@ -37,6 +37,11 @@ size-header s n i at = simp (length-append, size-bytes)
 pub size-content : (q : Sample) → length (sampleContent q) ≡ 6
 size-content (Taken e m) = refl
 size-content (Refused number) = refl
+
+-- a sample's bytes are those of its exponent and those of its mantissa
+pub content-parts : (q : Sample) → exponentContent q ++ mantissaContent q ≡ sampleContent q
+content-parts (Taken e m) = refl
+content-parts (Refused number) = refl
 
 pub size-samples : (s : List ℕ) (code n at : ℕ) → length (samplesCopied s code n at) ≡ n * 6
 unfolding samplesCopied
@@ -57,7 +62,7 @@ module _ (s : List ℕ) (code n i : ℕ) where
 -- ## Samples
 
 -- the four bytes of a word, by their offsets
-four-bytes : (s : List ℕ) (at : ℕ) → bytesAt s at 4 ≡ getD s at 0 ∷ getD s (at + 1) 0 ∷ getD s (at + 2) 0 ∷ getD s (at + 3) 0 ∷ []
+pub four-bytes : (s : List ℕ) (at : ℕ) → bytesAt s at 4 ≡ getD s at 0 ∷ getD s (at + 1) 0 ∷ getD s (at + 2) 0 ∷ getD s (at + 3) 0 ∷ []
 unfolding bytesAt
 four-bytes s at =
     let b : at + 1 + 1 + 1 ≡ at + 3 = omega arith in
@@ -66,9 +71,9 @@ four-bytes s at =
 
 module _ (s : List ℕ) (at : ℕ) where
   -- what the code reads under each code
-  pub ibm-copied : pairTaken (ibmValue (number (getD s at 0 ∷ getD s (at + 1) 0 ∷ getD s (at + 2) 0 ∷ getD s (at + 3) 0 ∷ []))) ≡ readWord 1 (bytesAt s at 4)
+  pub ibm-copied : pairTaken (ibmValue (number (bytesAt s at 4))) ≡ readWord 1 (bytesAt s at 4)
   unfolding bytesAt
-  ibm-copied = sym (ap (readWord 1) (four-bytes s at))
+  ibm-copied = ap (λ (l : List ℕ). pairTaken (ibmValue (number l))) (four-bytes s at) ∙ sym (ap (readWord 1) (four-bytes s at))
 
   pub whole32-copied : pairTaken (wholeValue (signedOf 32 (number (getD s at 0 ∷ getD s (at + 1) 0 ∷ getD s (at + 2) 0 ∷ getD s (at + 3) 0 ∷ [])))) ≡ readWord 2 (bytesAt s at 4)
   unfolding bytesAt

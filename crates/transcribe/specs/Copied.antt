@@ -1,12 +1,14 @@
 -- A reel's record as the code writes it, by copying what can be copied: for the functions inside this crate.
-use Prim.Native.Nat.{ℕ, _+_, _*_}
+use Prim.Native.Nat.{ℕ, _+_, _*_, _/_}
 use mathlib.Core.List.{List, _∷_, _++_, map}
 use lib.ListN.{replicate}
 use lib.Dec.{eqb}
 use Rattle.numbers.specs.Walk.{pick, walk, flat, bytesAt}
 use Rattle.numbers.specs.BigEndian.{bytesOf}
+use Rattle.numbers.specs.TwosComplement.{bitsOf}
 use Rattle.sample.specs.Reading.{readWord}
-use Rattle.sample.specs.Calls.{pairBytes}
+use Rattle.sample.specs.Pair.{mantissaBits}
+use Rattle.sample.specs.Calls.{pairLength, pairBytes}
 use Rattle.sample.specs.declared.Sample.{Sample}
 use Rattle.sample.specs.declared.Sample.the-variants.{Taken, Refused}
 use Rattle.reel.specs.Layout.{firstTrace, traceHeader, word, sampleBytes}
@@ -37,7 +39,16 @@ headerCopied s n i at =
 -- What reading a word gives, as six bytes.
 abbrev pub sampleContent : Sample → List ℕ
 sampleContent (Taken e m) = pairBytes e m
-sampleContent (Refused number) = replicate 6 0
+sampleContent (Refused number) = replicate pairLength 0
+
+-- The same in two parts.
+abbrev pub exponentContent : Sample → List ℕ
+exponentContent (Taken e m) = bytesOf 2 (bitsOf 16 e)
+exponentContent (Refused number) = replicate 2 0
+
+abbrev pub mantissaContent : Sample → List ℕ
+mantissaContent (Taken e m) = bytesOf (mantissaBits / 8) (bitsOf mantissaBits m)
+mantissaContent (Refused number) = replicate (mantissaBits / 8) 0
 
 -- The sample at a place.
 abbrev pub sampleCopied : List ℕ → ℕ → ℕ → List ℕ

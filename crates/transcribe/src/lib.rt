@@ -6,15 +6,16 @@ ghost use mathlib.Core.List.{_++_, map};
 ghost use Prim.Native.Nat.{_+_, _-_, _*_, _<_, _≤_};
 ghost use lib.ListN.{length};
 ghost use Rattle.numbers.specs.Walk.{flat, bytesAt};
-ghost use Rattle.numbers.specs.BigEndian.{bytesOf};
-ghost use Rattle.sample.specs.Reading.{isCode, readWord};
+ghost use Rattle.numbers.specs.BigEndian.{number, bytesOf};
+ghost use Rattle.sample.specs.Value.{ibmValue};
+ghost use Rattle.sample.specs.Reading.{isCode, pairTaken, readWord};
 ghost use Rattle.sample.specs.Calls.{pairBytes};
 ghost use Rattle.reel.specs.Layout.{firstTrace, word, sampleBytes, stride};
 ghost use Rattle.reel.specs.Causes.{checkedOf};
 ghost use Rattle.reel.specs.Meaning.{blank};
 ghost use Rattle.transcribe.specs.Answer.{outcome};
 ghost use Rattle.transcribe.specs.Reading.{readOutcome};
-ghost use Rattle.transcribe.specs.Copied.{tagBytes, binaryCopied, headCopied, ownOr, headerCopied, sampleContent, sampleCopied, places, samplesCopied, traceCopied, recordCopied};
+ghost use Rattle.transcribe.specs.Copied.{tagBytes, binaryCopied, headCopied, ownOr, headerCopied, exponentContent, mantissaContent, sampleContent, sampleCopied, places, samplesCopied, traceCopied, recordCopied};
 use numbers::Place;
 use reel::Checked;
 use sample::Sample;
@@ -40,6 +41,18 @@ fn put16(v: u16, out: &mut [u8])
     let b = numbers::bytes16(v);
     out[0] = b[0];
     out[1] = b[1];
+}
+
+// A number in four bytes.
+fn put32(v: u32, out: &mut [u8])
+    requires { ⌜ length (now out) ≡ 4 ⌝ }
+    ensures { λ _. ⌜ now (out .exit) ≡ bytesOf 4 v ⌝ }
+{
+    let b = numbers::bytes32(v);
+    out[0] = b[0];
+    out[1] = b[1];
+    out[2] = b[2];
+    out[3] = b[3];
 }
 
 // A field's tag, and the length of its content.
@@ -144,14 +157,51 @@ fn put_sample(word: Sample, out: &mut [u8])
     put_pair(e, m, out);
 }
 
-// What reading the word at a place gives, under each code.
-fn ibm_at(reel: &[u8], at: usize) -> Sample
-    requires { ⌜ at + 4 ≤ length (now reel) ⌝ }
-    ensures { λ r. ⌜ r ≡ readWord 1 (bytesAt (now (reel .entry)) at 4) ⌝ }
+// The same in two stores, of the mantissa and of the exponent.
+fn put_mantissa(word: Sample, out: &mut [u8])
+    requires { ⌜ length (now out) ≡ 4 ⌝ }
+    ensures { λ _. ⌜ now (out .exit) ≡ mantissaContent word ⌝ }
 {
-    sample::ibm(numbers::be32(reel[at], reel[at + 1], reel[at + 2], reel[at + 3]))
+    let Sample::Taken { e: _, m } = word else {
+        put32(0, out);
+        return;
+    };
+    put32(numbers::bits32(m), out);
 }
 
+fn put_exponent(word: Sample, out: &mut [u8])
+    requires { ⌜ length (now out) ≡ 2 ⌝ }
+    ensures { λ _. ⌜ now (out .exit) ≡ exponentContent word ⌝ }
+{
+    let Sample::Taken { e, m: _ } = word else {
+        put16(0, out);
+        return;
+    };
+    put16(numbers::bits16(e), out);
+}
+
+// The number in the four bytes at a place.
+fn word32_at(reel: &[u8], at: usize) -> u32
+    requires { ⌜ at + 4 ≤ length (now reel) ⌝ }
+    ensures { λ r. ⌜ r ≡ number (bytesAt (now (reel .entry)) at 4) ⌝ }
+{
+    numbers::be32(reel[at], reel[at + 1], reel[at + 2], reel[at + 3])
+}
+
+// Writes what an IBM word gives, and fetches the next word between the two stores: the compiler then makes one store of each, and one
+// fetch of the word.
+fn put_ibm_word(reel: &[u8], word: u32, next: usize, out: &mut [u8]) -> u32
+    requires { ⌜ (next + 4 ≤ length (now reel)) × (length (now out) ≡ 6) ⌝ }
+    ensures { λ r. ⌜ (r ≡ number (bytesAt (now (reel .entry)) next 4)) × (now (out .exit) ≡ sampleContent (pairTaken (ibmValue word))) ⌝ }
+{
+    let pair = sample::ibm(word);
+    put_mantissa(pair, &mut out[2..6]);
+    let w = word32_at(reel, next);
+    put_exponent(pair, &mut out[0..2]);
+    w
+}
+
+// What reading the word at a place gives, under the other codes.
 fn whole32_at(reel: &[u8], at: usize) -> Sample
     requires { ⌜ at + 4 ≤ length (now reel) ⌝ }
     ensures { λ r. ⌜ r ≡ readWord 2 (bytesAt (now (reel .entry)) at 4) ⌝ }
@@ -178,16 +228,21 @@ fn put_ibm(reel: &[u8], n: usize, start: usize, out: &mut [u8])
     requires { ⌜ (start + n * 4 ≤ length (now reel)) × (length (now out) ≡ n * 6) ⌝ }
     ensures { λ _. ⌜ now (out .exit) ≡ samplesCopied (now (reel .entry)) 1 n start ⌝ }
 {
+    if n < 1 {
+        return;
+    }
     let mut at = start;
     let mut o = 0;
-    let mut left = n;
+    let mut left = n - 1;
+    let mut w = word32_at(reel, start);
     while 0 < left {
         let e = o + 6;
-        put_sample(ibm_at(reel, at), &mut out[o..e]);
         at += 4;
+        w = put_ibm_word(reel, w, at, &mut out[o..e]);
         o = e;
         left -= 1;
     }
+    put_sample(sample::ibm(w), &mut out[o..o + 6]);
 }
 
 fn put_whole32(reel: &[u8], n: usize, start: usize, out: &mut [u8])
@@ -289,18 +344,6 @@ fn put_traces(
         o = e;
         left -= 1;
     }
-}
-
-// A number in four bytes.
-fn put32(v: u32, out: &mut [u8])
-    requires { ⌜ length (now out) ≡ 4 ⌝ }
-    ensures { λ _. ⌜ now (out .exit) ≡ bytesOf 4 v ⌝ }
-{
-    let b = numbers::bytes32(v);
-    out[0] = b[0];
-    out[1] = b[1];
-    out[2] = b[2];
-    out[3] = b[3];
 }
 
 // The count of traces behind its tag.

@@ -1,12 +1,10 @@
--- `transcribe::ibm_at` meets its contract. Assumes nothing.
-use Rattle.sample.specs.Value.{ibmValue}
-use Rattle.transcribe.proofs.CopiedLaws.{ibm-copied}
-use Rattle.sample.specs.Reading.{pairTaken}
-use Prim.Native.Nat.{ℕ}
-use mathlib.Core.Path.{_≡_, ap, _∙_}
+-- `transcribe::word32_at` meets its contract. Assumes nothing.
+use Rattle.transcribe.proofs.CopiedLaws.{four-bytes}
+use Rattle.numbers.specs.BigEndian.{number}
+use mathlib.Core.Path.{sym, ap, _∙_}
 use borrow.Author.Needs.{needs}
-use Rattle.transcribe.proofs.ibm_at.Statement.{statement}
-use Rattle.transcribe.proofs.ibm_at.Tie as tie
+use Rattle.transcribe.proofs.word32_at.Statement.{statement}
+use Rattle.transcribe.proofs.word32_at.Tie as tie
 
 shared-slice-read-be32 : tie.Need-shared-slice-read-be32
 shared-slice-read-be32 c = search needs
@@ -32,16 +30,13 @@ shared-slice-read-be32-4 c = search needs
 be32-requires : tie.Need-be32-requires
 be32-requires c κs = search needs
 
-ibm-requires : tie.Need-ibm-requires
-ibm-requires c κs = search needs
-
 returns : tie.Need-returns
 returns c =
-    let a = c .before .before .before .before .before .before .before .args in
-    c .ibm .ensures ∙ ap (λ (n : ℕ). pairTaken (ibmValue n)) (c .before .be32 .ensures) ∙ ibm-copied (a .reel .now) (a .at)
+    let a = c .before .before .before .before .before .before .args in
+    c .be32 .ensures ∙ ap number (sym (four-bytes (a .reel .now) (a .at)))
 
-pub ibm-at-spec : {M : Type 1} → statement M
-ibm-at-spec =
+pub word32-at-spec : {M : Type 1} → statement M
+word32-at-spec =
     tie.close
     (tie.spec
     shared-slice-read-be32
@@ -52,5 +47,4 @@ ibm-at-spec =
     add-be32-3
     shared-slice-read-be32-4
     be32-requires
-    ibm-requires
     returns)
