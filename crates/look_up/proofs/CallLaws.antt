@@ -49,14 +49,6 @@ some-bits (negsuc n) f = ne-eqb (suc n) 0 (λ e. omega arith)
 
 -- ## Fields on the reel
 
--- the bytes of a field of four
-pub four-bytes : (s : List ℕ) (at : ℕ) → getD s at 0 ∷ getD s (at + 1) 0 ∷ getD s (at + 2) 0 ∷ getD s (at + 3) 0 ∷ [] ≡ bytesAt s at 4
-unfolding bytesAt
-four-bytes s at =
-    let two : at + 2 ≡ at + 1 + 1 = omega arith in
-    let three : at + 3 ≡ at + 1 + 1 + 1 = omega arith in
-    rw (two, three)
-
 -- the header of trace k is on the reel
 pub trace-start : (s : List ℕ) → Sound s → (k : ℕ) → (k ≡ 0 → ⊥) → k ≤ tracesOf s → firstTrace + (k - 1) * strideOf s + traceHeader ≤ length s
 trace-start s h k p l =

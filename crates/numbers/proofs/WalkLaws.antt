@@ -142,3 +142,11 @@ pub stored : {A : Type 0} (vs out : List A) → length out ≡ length vs → set
 stored vs out h =
     let e : length out ≤ length vs = omega arith in
     sets-eq vs out 0 (omega arith) ∙ rw (zero-add, drop-of-length-le out e) (append-nil vs)
+
+-- the four bytes from an offset on, one by one
+pub four-bytes : (s : List ℕ) (at : ℕ) → bytesAt s at 4 ≡ getD s at 0 ∷ getD s (at + 1) 0 ∷ getD s (at + 2) 0 ∷ getD s (at + 3) 0 ∷ []
+unfolding bytesAt
+four-bytes s at =
+    let b : at + 1 + 1 + 1 ≡ at + 3 = omega arith in
+    let a : at + 1 + 1 ≡ at + 2 = omega arith in
+    rw (b, a)

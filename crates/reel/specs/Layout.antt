@@ -89,6 +89,6 @@ wholeIn size w = (size - firstTrace) / w
 abbrev pub overIn : ℕ → ℕ → ℕ
 overIn size w = (size - firstTrace) % w
 
--- T.
+-- T, the whole traces of a reel by its own numbers.
 abbrev pub tracesOf : List ℕ → ℕ
 tracesOf s = wholeIn (length s) (strideOf s)

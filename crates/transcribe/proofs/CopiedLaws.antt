@@ -10,7 +10,9 @@ use lib.ListN.{length, getD, length-append}
 use Rattle.numbers.specs.Walk.{walk, flat, bytesAt}
 use Rattle.numbers.specs.BigEndian.{number, bytesOf}
 use Rattle.numbers.specs.TwosComplement.{signedOf}
-use Rattle.numbers.proofs.WalkLaws.{flat-length, flat-more, flat-none, size-bytes}
+use Rattle.numbers.proofs.WalkLaws.{flat-length, flat-more, flat-none, size-bytes, four-bytes}
+use Rattle.numbers.proofs.Filling.{Filling, again, lend}
+use borrow.Rule.Slice.PartMut.{putMid}
 use Rattle.sample.specs.Value.{ibmValue, wholeValue}
 use Rattle.sample.specs.Reading.{isCode, pairTaken, readWord}
 use Rattle.sample.specs.declared.Sample.{Sample}
@@ -61,14 +63,6 @@ module _ (s : List ℕ) (code n i : ℕ) where
 
 -- ## Samples
 
--- the four bytes of a word, by their offsets
-pub four-bytes : (s : List ℕ) (at : ℕ) → bytesAt s at 4 ≡ getD s at 0 ∷ getD s (at + 1) 0 ∷ getD s (at + 2) 0 ∷ getD s (at + 3) 0 ∷ []
-unfolding bytesAt
-four-bytes s at =
-    let b : at + 1 + 1 + 1 ≡ at + 3 = omega arith in
-    let a : at + 1 + 1 ≡ at + 2 = omega arith in
-    rw (b, a)
-
 module _ (s : List ℕ) (at : ℕ) where
   -- what the code reads under each code
   pub ibm-copied : pairTaken (ibmValue (number (bytesAt s at 4))) ≡ readWord 1 (bytesAt s at 4)
@@ -94,6 +88,12 @@ samples-more s code k at h = flat-more (sampleCopied s code) (λ p. p) (sampleBy
 pub samples-none : (s : List ℕ) (code k at : ℕ) → k ≤ 0 → samplesCopied s code k at ≡ []
 unfolding samplesCopied
 samples-none s code k at h = flat-none (sampleCopied s code) (λ p. p) (sampleBytes code) k at h
+
+-- the next of k samples put behind those that stand: what is left is one fewer
+pub sample-put : (s : List ℕ) (code k at o : ℕ) {all out ys : List ℕ} → 0 < k → Filling all out o (samplesCopied s code k at) → ys ≡ sampleCopied s code at
+    → Filling all (putMid o (o + 6 - o) out ys) (o + 6) (samplesCopied s code (k - 1) (at + sampleBytes code))
+sample-put s code k at o h w is =
+    lend (sampleCopied s code at) (samplesCopied s code (k - 1) (at + sampleBytes code)) (o + 6) (again w (samples-more s code k at h)) (omega arith) (size-content (readWord code (bytesAt s at 4)) ∙ omega arith) is
 
 -- traces, one more and none
 module _ (s : List ℕ) (code n i w : ℕ) where

@@ -1,10 +1,8 @@
 -- `transcribe::put_whole16` meets its contract. Assumes nothing.
-use Rattle.transcribe.proofs.CopiedLaws.{size-content, size-samples, samples-more, samples-none}
-use Rattle.transcribe.specs.Copied.{sampleContent, sampleCopied, samplesCopied}
-use Rattle.sample.specs.Reading.{readWord}
-use Rattle.numbers.proofs.Filling.{Filling, start as begin, finish, again, lend}
+use Rattle.transcribe.proofs.CopiedLaws.{size-samples, samples-none, sample-put}
+use Rattle.transcribe.specs.Copied.{sampleContent, samplesCopied}
+use Rattle.numbers.proofs.Filling.{Filling, start as begin, finish}
 use Rattle.numbers.proofs.WalkLaws.{times-more}
-use Rattle.numbers.specs.Walk.{bytesAt}
 use lib.ListN.{length}
 use Prim.Native.Nat.{_+_, _-_, _*_, _≤_}
 use mathlib.Core.Path.{_≡_, sym, ap, _∙_}
@@ -59,7 +57,7 @@ loop-again c =
     let s = h .before .before .before .args .reel .now in
     let l = h .loop in
     let new = c .before .before .put-sample .ensures ∙ ap sampleContent (c .before .before .before .before .whole16-at .ensures) in
-    let f = lend (sampleCopied s 3 (l .at)) (samplesCopied s 3 (l .left - 1) (l .at + 2)) (l .o + 6) (again (l .inv .3) (samples-more s 3 (l .left) (l .at) (t .loop-test .taken))) (omega arith) (size-content (readWord 3 (bytesAt s (l .at) 4)) ∙ omega arith) new in
+    let f = sample-put s 3 (l .left) (l .at) (l .o) (t .loop-test .taken) (l .inv .3) new in
     (omega (arith, times-more (l .left) 2 (t .loop-test .taken)), f .size ∙ sym (l .inv .3 .size) ∙ l .inv .1, omega arith, f)
 
 same-length : tie.Need-same-length Inv-loop μ-loop

@@ -1,5 +1,5 @@
 -- `transcribe::word32_at` meets its contract. Assumes nothing.
-use Rattle.transcribe.proofs.CopiedLaws.{four-bytes}
+use Rattle.numbers.proofs.WalkLaws.{four-bytes}
 use Rattle.numbers.specs.BigEndian.{number}
 use mathlib.Core.Path.{sym, ap, _∙_}
 use borrow.Author.Needs.{needs}
