@@ -3,10 +3,10 @@ ghost use mathlib.Core.Path.{_≡_};
 ghost use Prim.Native.Nat.{_+_, _≤_};
 ghost use lib.ListN.{length};
 ghost use lib.Seq.{sets};
-ghost use Rattle.transcribe.specs.Answer.{saidBy};
+ghost use Rattle.record.specs.Answer.{saidBy};
 ghost use Rattle.line.specs.Decimal.{decimalOf};
 ghost use Rattle.line.specs.Line.{itemOf, lineOf, tooLong, padded, programLine, programOut};
-use transcribe::Answer;
+use record::Answer;
 
 // A line of at most 96 bytes, at the front of an array whose rest is 00.
 pub struct Line {

@@ -26,10 +26,10 @@ pub binary-numbers : (s : List ℕ) → binaryNumbers s ≡ map (fieldNumber s 0
 unfolding binaryNumbers binaryFields binaryWidths binary-front binary-back
 binary-numbers s = refl
 
-pub with-code : (s : List ℕ)
-    → withCode (binaryNumbers s) ≡ map (fieldNumber s 0) (fieldsFrom 3201 binary-front) ++ (pos 0 ∷ map (fieldNumber s 0) (fieldsFrom 3227 binary-back))
+pub with-code : (code : ℕ) (s : List ℕ)
+    → withCode code (binaryNumbers s) ≡ map (fieldNumber s 0) (fieldsFrom 3201 binary-front) ++ (pos code ∷ map (fieldNumber s 0) (fieldsFrom 3227 binary-back))
 unfolding binaryNumbers binaryFields binaryWidths binary-front binary-back
-with-code s = refl
+with-code code s = refl
 
 -- the widths before field 115 and behind field 117
 unfoldable pub trace-front : List ℕ

@@ -21,12 +21,13 @@ numberBytes [] zs = []
 numberBytes (w ∷ ws) [] = []
 numberBytes (w ∷ ws) (z ∷ zs) = bytesOf w (bitsOf (8 * w) z) ++ numberBytes ws zs
 
--- The binary fields, the format code replaced by 0: it is the tenth of the 27, and its number is not among the 26 of a meaning.
-abbrev pub withCode : List ℤ → List ℤ
-withCode zs = take 9 zs ++ (pos 0 ∷ drop 9 zs)
+-- The 27 binary numbers, with a format code: it is the tenth of them, and its number is not among the 26 of a meaning.
+abbrev pub withCode : ℕ → List ℤ → List ℤ
+withCode code zs = take 9 zs ++ (pos code ∷ drop 9 zs)
 
-unfoldable pub binaryBytes : List ℤ → List ℕ
-binaryBytes zs = numberBytes binaryWidths (withCode zs)
+-- The binary fields, with a format code. In a record it is replaced by 0.
+unfoldable pub binaryBytes : ℕ → List ℤ → List ℕ
+binaryBytes code zs = numberBytes binaryWidths (withCode code zs)
 
 -- A sample: the six bytes of the canonical pair of its value.
 abbrev pub valueBytes : ℤ → List ℕ
@@ -44,7 +45,7 @@ traceBytes t = field 3 (numberBytes traceWidths (t .numbers)) ++ samplesField (t
 unfoldable pub recordOf : Meaning → List ℕ
 recordOf m =
     field 1 (m .cards)
-    ++ (field 2 (binaryBytes (m .binary)) ++ (flat (map traceBytes (m .traces)) ++ field 5 (bytesOf 4 (length (m .traces)))))
+    ++ (field 2 (binaryBytes 0 (m .binary)) ++ (flat (map traceBytes (m .traces)) ++ field 5 (bytesOf 4 (length (m .traces)))))
 
 -- The record of a reel is that of what it means.
 abbrev pub reelRecord : List ℕ → List ℕ

@@ -78,9 +78,9 @@ trace-back-some = some-of trace-back refl
 two : 0 < 2
 two = omega arith
 
-binary-fit : (s : List ℕ) → Bytes s → Fit binaryWidths (withCode (binaryNumbers s))
+binary-fit : (s : List ℕ) → Bytes s → Fit binaryWidths (withCode 0 (binaryNumbers s))
 binary-fit s h =
-    rw (binary-widths, with-code s)
+    rw (binary-widths, with-code 0 s)
     (fit-append binary-front (2 ∷ binary-back) (map (fieldNumber s 0) (fieldsFrom 3201 binary-front)) (pos 0 ∷ map (fieldNumber s 0) (fieldsFrom 3227 binary-back)) (fields-fit s h 0 3201 binary-front binary-front-some) (two, omega arith, fields-fit s h 0 3227 binary-back binary-back-some))
 
 filled-fits : (own : ℕ) (z : ℤ) → own < 2 ^ 15 → mag z < 2 ^ 15 → mag (filled own z) < 2 ^ 15
@@ -169,13 +169,13 @@ traces-count s = size-walk (traceMeaning s (codeOf s) (samplesOf s) (intervalOf 
 
 -- the record's four pieces
 record-parts : (s : List ℕ)
-    → reelRecord s ≡ field 1 (cardText s) ++ (field 2 (binaryBytes (binaryNumbers s)) ++ (flat (map traceBytes (tracesIn s)) ++ field 5 (bytesOf 4 (length (tracesIn s)))))
+    → reelRecord s ≡ field 1 (cardText s) ++ (field 2 (binaryBytes 0 (binaryNumbers s)) ++ (flat (map traceBytes (tracesIn s)) ++ field 5 (bytesOf 4 (length (tracesIn s)))))
 unfolding recordOf meaningOf tracesIn
 record-parts s = refl
 
-size-binary : (s : List ℕ) → Bytes s → length (binaryBytes (binaryNumbers s)) ≡ 60
+size-binary : (s : List ℕ) → Bytes s → length (binaryBytes 0 (binaryNumbers s)) ≡ 60
 unfolding binaryBytes
-size-binary s h = size-numbers binaryWidths (withCode (binaryNumbers s)) (binary-fit s h) ∙ counts .1
+size-binary s h = size-numbers binaryWidths (withCode 0 (binaryNumbers s)) (binary-fit s h) ∙ counts .1
 
 size-traces : (n : ℕ) (l : List Trace) → All (Like n) l → length (flat (map traceBytes l)) ≡ length l * (186 + n * 6)
 size-traces n l h = flat-size traceBytes (Like n) (186 + n * 6) (trace-size n) l h
@@ -191,9 +191,9 @@ record-size s h e =
     ap length (record-parts s) ∙ simp (length-append, size-field, size-cards) (omega (arith, size-binary s h, t, size-count (length (tracesIn s)), ap (λ (x : ℕ). tracesOf s * (186 + x)) (mul-comm 6 n)))
 
 -- the 26 numbers, by the 27
-binary-same : (s₁ s₂ : List ℕ) → withCode (binaryNumbers s₁) ≡ withCode (binaryNumbers s₂) → binaryNumbers s₁ ≡ binaryNumbers s₂
+binary-same : (s₁ s₂ : List ℕ) → withCode 0 (binaryNumbers s₁) ≡ withCode 0 (binaryNumbers s₂) → binaryNumbers s₁ ≡ binaryNumbers s₂
 binary-same s₁ s₂ e =
-    let h = split (front s₁) (front s₂) (pos 0 ∷ back s₁) (pos 0 ∷ back s₂) (length-map (fieldsFrom 3201 binary-front) (fieldNumber s₁ 0) ∙ sym (length-map (fieldsFrom 3201 binary-front) (fieldNumber s₂ 0))) (sym (with-code s₁) ∙ e ∙ with-code s₂) in
+    let h = split (front s₁) (front s₂) (pos 0 ∷ back s₁) (pos 0 ∷ back s₂) (length-map (fieldsFrom 3201 binary-front) (fieldNumber s₁ 0) ∙ sym (length-map (fieldsFrom 3201 binary-front) (fieldNumber s₂ 0))) (sym (with-code 0 s₁) ∙ e ∙ with-code 0 s₂) in
     binary-numbers s₁ ∙ ap₂ (λ (x y : List ℤ). x ++ y) (h .0) (ap (drop 1) (h .1)) ∙ sym (binary-numbers s₂)
   where
     front : List ℕ → List ℤ
@@ -243,8 +243,8 @@ module _ (s₁ s₂ : List ℕ) (b₁ : Bytes s₁) (b₂ : Bytes s₂) (f₁ : 
   unfolding binaryBytes
   same-means e =
       let a = field-split 1 (cardText s₁) (cardText s₂) _ _ (size-cards s₁ ∙ sym (size-cards s₂)) (sym (record-parts s₁) ∙ e ∙ record-parts s₂) in
-      let b = field-split 2 (binaryBytes (binaryNumbers s₁)) (binaryBytes (binaryNumbers s₂)) _ _ (size-binary s₁ b₁ ∙ sym (size-binary s₂ b₂)) (a .1) in
-      let z = binary-same s₁ s₂ (numbers-inj binaryWidths (withCode (binaryNumbers s₁)) (withCode (binaryNumbers s₂)) (binary-fit s₁ b₁) (binary-fit s₂ b₂) (b .0)) in
+      let b = field-split 2 (binaryBytes 0 (binaryNumbers s₁)) (binaryBytes 0 (binaryNumbers s₂)) _ _ (size-binary s₁ b₁ ∙ sym (size-binary s₂ b₂)) (a .1) in
+      let z = binary-same s₁ s₂ (numbers-inj binaryWidths (withCode 0 (binaryNumbers s₁)) (withCode 0 (binaryNumbers s₂)) (binary-fit s₁ b₁) (binary-fit s₂ b₂) (b .0)) in
       let n : samplesOf s₂ ≡ samplesOf s₁ = sym (samples-same s₁ s₂ b₁ b₂ z) in
       let like₂ = subst (λ (k : ℕ). All (Like k) (tracesIn s₂)) n (traces-like s₂ b₂ (limits s₂ f₂)) in
       let t : tracesIn s₁ ≡ tracesIn s₂ = traces-same (samplesOf s₁) (tracesIn s₁) (tracesIn s₂) (traces-like s₁ b₁ (limits s₁ f₁)) like₂ (b .1) in
@@ -261,7 +261,7 @@ module _ (s₁ s₂ : List ℕ) (b₁ : Bytes s₁) (b₂ : Bytes s₂) (f₁ : 
   means-same h =
       let t : tracesIn s₁ ≡ tracesIn s₂ = sym (meaning-traces s₁) ∙ traces-eq (meaningOf s₁ .traces) (meaningOf s₂ .traces) (h .numbers) (h .values) ∙ meaning-traces s₂ in
       record-parts s₁
-      ∙ ap₂ (λ (x y : List ℕ). x ++ y) (ap (field 1) (h .cards)) (ap₂ (λ (x y : List ℕ). x ++ y) (ap (λ (l : List ℤ). field 2 (binaryBytes l)) (h .binary)) (ap (λ (l : List Trace). flat (map traceBytes l) ++ field 5 (bytesOf 4 (length l))) t))
+      ∙ ap₂ (λ (x y : List ℕ). x ++ y) (ap (field 1) (h .cards)) (ap₂ (λ (x y : List ℕ). x ++ y) (ap (λ (l : List ℤ). field 2 (binaryBytes 0 l)) (h .binary)) (ap (λ (l : List Trace). flat (map traceBytes l) ++ field 5 (bytesOf 4 (length l))) t))
       ∙ sym (record-parts s₂)
 
   -- THEOREM. The records are equal byte for byte exactly when the reels mean the same.

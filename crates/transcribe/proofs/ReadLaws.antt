@@ -21,11 +21,11 @@ use Rattle.reel.specs.declared.Checked.the-variants as checked
 use Rattle.reel.proofs.CheckLaws.{Numbers, Sound, reel-fine, inside}
 use Rattle.sample.specs.Reading.{isCode}
 use Rattle.record.specs.Record.{reelRecord, recordLength}
-use Rattle.transcribe.specs.Answer.{outcome}
+use Rattle.record.specs.Answer.{outcome}
 use Rattle.transcribe.specs.Reading.{lengthOf, readCauses, readEnd, readOutcome}
 use Rattle.transcribe.specs.Copied.{recordCopied}
-use Rattle.transcribe.specs.declared.Answer.{Answer}
-use Rattle.transcribe.specs.declared.Answer.the-variants.{Taken, Refused}
+use Rattle.record.specs.declared.Answer.{Answer}
+use Rattle.record.specs.declared.Answer.the-variants.{Taken, Refused}
 use Rattle.transcribe.proofs.RecordLaws.{record-is, code-sound}
 
 -- a slice's bytes

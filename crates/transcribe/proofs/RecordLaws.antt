@@ -40,7 +40,7 @@ field-is tag k l e = ap (λ (x : ℕ). tag ∷ (bytesOf 2 x ++ l)) e
 
 -- ## The binary header
 
-binary-is : (s : List ℕ) → Bytes s → binaryBytes (binaryNumbers s) ≡ binaryCopied s
+binary-is : (s : List ℕ) → Bytes s → binaryBytes 0 (binaryNumbers s) ≡ binaryCopied s
 unfolding binaryBytes binaryNumbers binaryWidths binaryFields binaryCopied binary-front binary-back
 binary-is s h =
     let f = fieldNumber s 0 in
@@ -145,8 +145,8 @@ record-is s b e =
     let t = tracesOf s in
     let bi = binary-is s b in
     let x : field 1 (cardText s) ≡ tagBytes 1 3200 ++ cardText s = field-is 1 3200 (cardText s) (size-cards s) in
-    let y : field 2 (binaryBytes (binaryNumbers s)) ≡ tagBytes 2 60 ++ binaryCopied s =
-    field-is 2 60 (binaryBytes (binaryNumbers s)) (ap length bi ∙ size-binary s) ∙ ap (λ (l : List ℕ). tagBytes 2 60 ++ l) bi in
+    let y : field 2 (binaryBytes 0 (binaryNumbers s)) ≡ tagBytes 2 60 ++ binaryCopied s =
+    field-is 2 60 (binaryBytes 0 (binaryNumbers s)) (ap length bi ∙ size-binary s) ∙ ap (λ (l : List ℕ). tagBytes 2 60 ++ l) bi in
     let z = traces-walk s b code n i (code-sound code n i (h .numbers)) w t firstTrace (h .traces) in
     let v : field 5 (bytesOf 4 (length (walk (traceMeaning s code n i) w t firstTrace))) ≡ tagBytes 5 4 ++ bytesOf 4 t =
     ap (λ (k : ℕ). field 5 (bytesOf 4 k)) (size-walk (traceMeaning s code n i) w t firstTrace) ∙ field-is 5 4 (bytesOf 4 t) refl in

@@ -1,4 +1,3 @@
--- What reading a reel answers and leaves in its output; and the record as the code writes it.
-pub mod Answer
+-- What reading a reel says and leaves in its output; and the record as the code writes it.
 pub mod Reading
 pub mod Copied

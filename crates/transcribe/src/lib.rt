@@ -13,25 +13,13 @@ ghost use Rattle.sample.specs.Calls.{pairBytes};
 ghost use Rattle.reel.specs.Layout.{firstTrace, word, sampleBytes, stride};
 ghost use Rattle.reel.specs.Causes.{checkedOf};
 ghost use Rattle.reel.specs.Meaning.{blank};
-ghost use Rattle.transcribe.specs.Answer.{outcome};
+ghost use Rattle.record.specs.Answer.{outcome};
 ghost use Rattle.transcribe.specs.Reading.{readOutcome};
 ghost use Rattle.transcribe.specs.Copied.{tagBytes, binaryCopied, headCopied, ownOr, headerCopied, exponentContent, mantissaContent, sampleContent, sampleCopied, places, samplesCopied, traceCopied, recordCopied};
 use numbers::Place;
+use record::Answer;
 use reel::Checked;
 use sample::Sample;
-
-// What reading a reel answers: taken with T, N and the record's length, or refused with number and place.
-pub enum Answer {
-    Taken {
-        traces: usize,
-        samples: usize,
-        length: usize,
-    },
-    Refused {
-        number: u8,
-        place: Place,
-    },
-}
 
 // A number in two bytes.
 fn put16(v: u16, out: &mut [u8])

@@ -3,7 +3,7 @@ use mathlib.Core.Path.{refl}
 use mathlib.Core.List.{[], _∷_, append-assoc}
 use native.Mathlib.Omega.{arith}
 use borrow.Author.Needs.{needs}
-use Rattle.transcribe.specs.Answer.{saidBy}
+use Rattle.record.specs.Answer.{saidBy}
 use Rattle.line.specs.Line.{takenWord, refusedWord, lineOf}
 use Rattle.line.proofs.StoreLaws.{begin, next, item, finish}
 use Rattle.line.proofs.line_of.Statement.{statement}

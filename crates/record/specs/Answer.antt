@@ -3,8 +3,8 @@ use mathlib.Core.List.{List, [], _∷_}
 use Prim.Native.Nat.{ℕ}
 use Rattle.numbers.specs.Outcome.{Said, taken, refused, Outcome}
 use Rattle.numbers.specs.Places.{placeNo}
-use Rattle.transcribe.specs.declared.Answer.{Answer}
-use Rattle.transcribe.specs.declared.Answer.the-variants.{Taken, Refused}
+use Rattle.record.specs.declared.Answer.{Answer}
+use Rattle.record.specs.declared.Answer.the-variants.{Taken, Refused}
 
 -- Document 01's number and values for each case of the answer: taken with T, N and the length; refused with the number and what stands
 -- beside it.

@@ -1,0 +1,32 @@
+-- What a record holds: its meaning, from the record's bytes.
+use Prim.Native.Nat.{ℕ, _+_}
+use mathlib.Core.List.{List, map}
+use lib.IntN.{ℤ}
+use Rattle.numbers.specs.Walk.{walk, bytesAt}
+use Rattle.sample.specs.Pair.{valueOf}
+use Rattle.sample.specs.Calls.{pairLength, pairIn}
+use Rattle.reel.specs.Layout.{cardBytes, binaryFields, traceFields, fieldNumber}
+use Rattle.reel.specs.Meaning.{otherThan, Trace, Meaning}
+use Rattle.record.specs.Form.{heldSamples, heldStride, heldTraces, firstField}
+
+-- The value of the pair at a place.
+abbrev pub heldValue : List ℕ → ℕ → ℤ
+heldValue s at = valueOf (pairIn (bytesAt s at pairLength))
+
+-- The trace of n samples whose tag 03 stands at the place `at`: its numbers stand behind that tag, its pairs behind tag 04.
+unfoldable pub heldTrace : List ℕ → ℕ → ℕ → Trace
+heldTrace s n at =
+    record {
+      numbers = map (fieldNumber s (at + 3)) traceFields;
+      values = walk (heldValue s) pairLength n (at + 186);
+    }
+
+-- What a record holds: the card bytes behind tag 01, the 26 binary numbers behind tag 02, where byte number 1 would stand at the place 6,
+-- and its traces.
+unfoldable pub heldBy : List ℕ → Meaning
+heldBy s =
+    record {
+      cards = bytesAt s 3 cardBytes;
+      binary = map (fieldNumber s 6) (otherThan 3225 binaryFields);
+      traces = walk (heldTrace s (heldSamples s)) (heldStride (heldSamples s)) (heldTraces s (heldSamples s)) firstField;
+    }

@@ -1,0 +1,49 @@
+-- The causes against writing a record under a target code, but for the output's length: 11, then 12 and 13, then 14.
+use Prim.Native.Nat.{ℕ, _+_}
+use mathlib.Core.List.{List}
+use mathlib.Core.Bool.{Bool, true, false, not}
+use Rattle.numbers.specs.Walk.{walk}
+use Rattle.numbers.specs.Cause.{refuseIf, then, firstOf}
+use Rattle.numbers.specs.declared.Check.{Check}
+use Rattle.numbers.specs.declared.Check.the-variants.{Fine, Refused}
+use Rattle.sample.specs.Reading.{isCode}
+use Rattle.sample.specs.Writing.{wordOf}
+use Rattle.sample.specs.Calls.{pairLength}
+use Rattle.sample.specs.declared.Written.{Written}
+use Rattle.sample.specs.declared.Written.the-variants as written
+use Rattle.record.specs.Form.{heldSamples, heldStride, heldTraces, firstField, formCauses}
+use Rattle.record.specs.Held.{heldValue}
+use Rattle.record.specs.declared.Checked.{Checked}
+use Rattle.record.specs.declared.Checked.the-variants as variant
+
+-- There is no word.
+abbrev pub isUnfit : Written → Bool
+isUnfit (written.Word n) = false
+isUnfit (written.Refused number) = true
+
+-- 14: a sample doesn't fit the target, at the place of its pair.
+abbrev pub fitCause : List ℕ → ℕ → ℕ → Check
+fitCause s code at = refuseIf (isUnfit (wordOf code (heldValue s at))) 14 at
+
+-- The n samples of the trace at a place, first sample first.
+unfoldable pub traceFit : List ℕ → ℕ → ℕ → ℕ → Check
+traceFit s code n at = firstOf (walk (fitCause s code) pairLength n (at + 186))
+
+-- The samples of t traces.
+unfoldable pub fitCauses : List ℕ → ℕ → ℕ → ℕ → Check
+fitCauses s code n t = firstOf (walk (traceFit s code n) (heldStride n) t firstField)
+
+-- 11; then the record front to back by 12 and 13; then 14.
+unfoldable pub targetCauses : List ℕ → ℕ → Check
+targetCauses s code =
+    then (refuseIf (not (isCode code)) 11 0)
+    (then (formCauses s)
+    (fitCauses s code (heldSamples s) (heldTraces s (heldSamples s))))
+
+-- A record that can be written under a code, with its N and T; or the first cause.
+abbrev pub checked : List ℕ → Check → Checked
+checked s Fine = variant.Fine (heldSamples s) (heldTraces s (heldSamples s))
+checked s (Refused number place) = variant.Refused number place
+
+abbrev pub checkedOf : List ℕ → ℕ → Checked
+checkedOf s code = checked s (targetCauses s code)

@@ -1,0 +1,38 @@
+-- The reel of a meaning under a code.
+use Prim.Native.Nat.{ℕ, _+_, _*_}
+use mathlib.Core.List.{List, _++_, map}
+use lib.ListN.{replicate, take}
+use lib.IntN.{ℤ}
+use Rattle.numbers.specs.Walk.{flat}
+use Rattle.numbers.specs.BigEndian.{bytesOf}
+use Rattle.sample.specs.Writing.{wordOf}
+use Rattle.sample.specs.declared.Written.{Written}
+use Rattle.sample.specs.declared.Written.the-variants.{Word, Refused}
+use Rattle.reel.specs.Layout.{firstTrace, stride, sampleBytes, traceWidths}
+use Rattle.reel.specs.Meaning.{Trace, Meaning}
+use Rattle.record.specs.Record.{numberBytes, binaryBytes}
+
+-- The four bytes of a word. Where there is none, 14 refuses the call; the bytes are then given as 00.
+abbrev pub wordContent : Written → List ℕ
+wordContent (Word n) = bytesOf 4 n
+wordContent (Refused number) = replicate 4 0
+
+-- A sample under a code: the bytes of its value's word, of which code 3 has the first two.
+abbrev pub sampleWritten : ℕ → ℤ → List ℕ
+sampleWritten code v = take (sampleBytes code) (wordContent (wordOf code v))
+
+-- A trace: its 71 fields, the unassigned bytes of its header, which are 0, and its samples.
+unfoldable pub traceWritten : ℕ → Trace → List ℕ
+traceWritten code t =
+    numberBytes traceWidths (t .numbers) ++ (replicate 60 0 ++ flat (map (sampleWritten code) (t .values)))
+
+-- The reel of a meaning: the card bytes, the binary fields with the target's format code, the unassigned bytes of that header, which are
+-- 0, and the traces.
+unfoldable pub reelOf : ℕ → Meaning → List ℕ
+reelOf code m =
+    m .cards
+    ++ (binaryBytes code (m .binary) ++ (replicate 340 0 ++ flat (map (traceWritten code) (m .traces))))
+
+-- A reel of t traces of n samples, in bytes.
+abbrev pub reelLength : ℕ → ℕ → ℕ → ℕ
+reelLength code t n = firstTrace + t * stride n (sampleBytes code)

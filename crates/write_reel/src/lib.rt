@@ -1,0 +1,1 @@
+// Writing a record as a reel.
