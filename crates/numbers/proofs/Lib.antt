@@ -4,3 +4,4 @@ pub mod CauseLaws
 pub mod Filling
 pub mod ByteLaws
 pub mod SignLaws
+pub mod PlaceLaws

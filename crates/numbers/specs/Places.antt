@@ -22,3 +22,11 @@ located start b =
     pick (leb 1 (byteNo b) && ltb (placeNo start + (byteNo b - 1)) (2 ^ 64))
     (At (record { 0 = placeNo start + (byteNo b - 1) }))
     Nowhere
+
+-- The place of a field of a header whose byte number 1 stands at the place `start`; that place itself where the byte number stands nowhere.
+abbrev pub placeIn : Place → Located → Place
+placeIn start (At p) = p
+placeIn start Nowhere = start
+
+abbrev pub fieldPlace : Place → ByteNo → Place
+fieldPlace start b = placeIn start (located start b)

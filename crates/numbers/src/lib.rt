@@ -3,7 +3,7 @@ ghost use mathlib.Core.Path.{_≡_};
 ghost use mathlib.Core.List.{[], _∷_};
 ghost use Rattle.numbers.specs.BigEndian.{number, bytesOf};
 ghost use Rattle.numbers.specs.TwosComplement.{signedOf, bitsOf};
-ghost use Rattle.numbers.specs.Places.{located};
+ghost use Rattle.numbers.specs.Places.{located, fieldPlace};
 
 // A byte number, document 01's own term: the standard's, counted from 1.
 pub struct ByteNo(pub u32);
@@ -40,6 +40,18 @@ pub fn place_of(start: Place, b: ByteNo) -> Located
         return Located::Nowhere;
     }
     Located::At(Place(from + past))
+}
+
+// The place of a field of a header whose byte number 1 stands at the place start; that place itself
+// for a byte number that stands nowhere.
+pub fn field_at(start: Place, b: ByteNo) -> Place
+    ensures { λ r. ⌜ r ≡ fieldPlace start b ⌝ }
+{
+    let found = place_of(start, b);
+    let Located::At(p) = found else {
+        return start;
+    };
+    p
 }
 
 // The number of two bytes, the first of which stands highest.

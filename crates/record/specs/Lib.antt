@@ -4,3 +4,4 @@ pub mod Form
 pub mod Held
 pub mod Target
 pub mod Answer
+pub mod Parts

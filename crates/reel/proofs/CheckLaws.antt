@@ -11,13 +11,9 @@ use lib.Dec.{T, leb, ltb, eqb}
 use lib.ListN.{length, getD}
 use Rattle.numbers.specs.Walk.{pick, walk, bytesAt}
 use Rattle.numbers.specs.Cause.{refuseIf, then, firstOf}
-use Rattle.numbers.specs.Places.{placeNo, byteNo, located}
 use Rattle.numbers.specs.declared.Check.{Check}
 use Rattle.numbers.specs.declared.Check.the-variants.{Fine, Refused}
 use Rattle.numbers.specs.declared.Place.{Place}
-use Rattle.numbers.specs.declared.ByteNo.{ByteNo}
-use Rattle.numbers.specs.declared.Located.{Located}
-use Rattle.numbers.specs.declared.Located.the-variants.{At, Nowhere}
 use Rattle.numbers.proofs.CauseLaws.{passed, then-fine}
 use Rattle.sample.specs.Reading.{isCode, badGain, readWord, pairTaken}
 use Rattle.sample.specs.Value.{exactValue}
@@ -26,12 +22,6 @@ use Rattle.sample.specs.declared.Sample.the-variants as sample
 use Rattle.reel.specs.Layout.{firstTrace, word, samplesOf, codeOf, intervalOf, sampleBytes, stride, strideOf, overIn, tracesOf}
 use Rattle.reel.specs.Parts.{wordRefused}
 use Rattle.reel.specs.Causes.{mostSamples, mostTraces, within, neither, headerCauses, sizeCauses, wordCause, traceCauses, behindCauses, causesOf}
-
--- ## Places
-
--- a field's place, where byte number 1 stands at `start`
-pub located-at : (start : Place) (b : ByteNo) → 1 ≤ byteNo b → placeNo start + byteNo b < 2 ^ 64 → located start b ≡ At (record { 0 = placeNo start + (byteNo b - 1) })
-located-at start b h l = rw (le-leb 1 (byteNo b) h, lt-ltb (placeNo start + (byteNo b - 1)) (2 ^ 64) (omega arith))
 
 -- ## Rows
 
@@ -52,9 +42,20 @@ pub no-gain : (s : List ℕ) (code : ℕ) → (code ≡ 4 → ⊥) → (w k at :
 no-gain s code h w zero at = refl
 no-gain s code h w (suc k) at = rw (ne-eqb code 4 h) (no-gain s code h w k (at + w))
 
+-- ## Codes
+
+-- the code that is left
+pub last-code : (code : ℕ) → isCode code ≡ true → (code ≡ 1 → ⊥) → (code ≡ 2 → ⊥) → (code ≡ 3 → ⊥) → code ≡ 4
+last-code code h a b c = go (leb 1 code) (leb code 4) refl refl h
+  where
+    go : (x y : Bool) → leb 1 code ≡ x → leb code 4 ≡ y → (x && y) ≡ true → code ≡ 4
+    go true true p q e = let l = leb-true 1 code p in let m = leb-true code 4 q in omega arith
+    go true false p q e = absurd (subst T (sym e) tt)
+    go false y p q e = absurd (subst T (sym e) tt)
+
 -- ## Where nothing is found
 
-both-true : (a b : Bool) → not (a && b) ≡ false → (a ≡ true) × (b ≡ true)
+pub both-true : (a b : Bool) → not (a && b) ≡ false → (a ≡ true) × (b ≡ true)
 both-true true true e = (refl, refl)
 both-true true false e = absurd (subst T e tt)
 both-true false b e = absurd (subst T e tt)

@@ -12,7 +12,6 @@ ghost use Rattle.reel.specs.Causes.{within, neither, headerCauses, sizeC
 ghost use Rattle.reel.specs.Parts.{wordRefused};
 use numbers::ByteNo;
 use numbers::Check;
-use numbers::Located;
 use numbers::Place;
 use sample::Sample;
 
@@ -42,28 +41,16 @@ fn word_at(reel: &[u8], p: Place) -> usize
     numbers::be16(reel[at], reel[at + 1]) as usize
 }
 
-// The place of a field, where byte number 1 stands at the place start.
-fn field_at(start: Place, b: ByteNo) -> Place
-    requires { ⌜ (1 ≤ byteNo b) × (placeNo start + byteNo b < 2 ^ 64) ⌝ }
-    ensures { λ r. ⌜ placeNo r ≡ placeNo start + (byteNo b - 1) ⌝ }
-{
-    let found = numbers::place_of(start, b);
-    let Located::At(p) = found else {
-        return start;
-    };
-    p
-}
-
 // The number in a field of the binary header.
 fn binary_word(reel: &[u8], b: ByteNo) -> usize
     requires { ⌜ (1 ≤ byteNo b) × (byteNo b < length (now reel)) ⌝ }
     ensures { λ r. ⌜ (r ≡ word (now (reel .entry)) (byteNo b - 1)) × (r < 2 ^ 16) ⌝ }
 {
-    word_at(reel, field_at(Place(0), b))
+    word_at(reel, numbers::field_at(Place(0), b))
 }
 
 // A cause that applies where a number is outside its limits.
-fn check_limits(n: usize, least: usize, most: usize, number: u8, place: Place) -> Check
+pub fn check_limits(n: usize, least: usize, most: usize, number: u8, place: Place) -> Check
     ensures { λ r. ⌜ r ≡ refuseIf (not (within least most n)) number (placeNo place) ⌝ }
 {
     if n < least {
@@ -94,15 +81,15 @@ fn check_own(reel: &[u8], place: Place, own: usize, number: u8) -> Check
 fn check_header(code: usize, n: usize, i: usize) -> Check
     ensures { λ r. ⌜ r ≡ headerCauses code n i ⌝ }
 {
-    let a = check_limits(code, 1, 4, 2, field_at(Place(0), ByteNo(3225)));
+    let a = check_limits(code, 1, 4, 2, numbers::field_at(Place(0), ByteNo(3225)));
     let Check::Fine = a else {
         return a;
     };
-    let b = check_limits(n, 1, 8000, 3, field_at(Place(0), ByteNo(3221)));
+    let b = check_limits(n, 1, 8000, 3, numbers::field_at(Place(0), ByteNo(3221)));
     let Check::Fine = b else {
         return b;
     };
-    check_limits(i, 1, 32767, 4, field_at(Place(0), ByteNo(3217)))
+    check_limits(i, 1, 32767, 4, numbers::field_at(Place(0), ByteNo(3217)))
 }
 
 // 5 and 6: the bytes behind the last whole trace, and the count of traces.
@@ -161,11 +148,11 @@ fn check_trace(reel: &[u8], code: usize, n: usize, i: usize, v: usize, at: usize
     requires { ⌜ (v ≡ sampleBytes code) × (at + (240 + n * v) ≤ length (now reel)) ⌝ }
     ensures { λ r. ⌜ r ≡ traceCauses (now (reel .entry)) code n i at ⌝ }
 {
-    let a = check_own(reel, field_at(Place(at), ByteNo(115)), n, 7);
+    let a = check_own(reel, numbers::field_at(Place(at), ByteNo(115)), n, 7);
     let Check::Fine = a else {
         return a;
     };
-    let b = check_own(reel, field_at(Place(at), ByteNo(117)), i, 8);
+    let b = check_own(reel, numbers::field_at(Place(at), ByteNo(117)), i, 8);
     let Check::Fine = b else {
         return b;
     };

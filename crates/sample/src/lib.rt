@@ -491,7 +491,7 @@ pub fn write(code: u32, p: Pair) -> Written
 }
 
 // The pair of six bytes.
-fn pair_in(b: [u8; 6]) -> Pair
+pub fn pair_in(b: [u8; 6]) -> Pair
     ensures { λ r. ⌜ r ≡ pairIn b ⌝ }
 {
     Pair {

@@ -1,8 +1,5 @@
 -- The pieces of a record as the code writes them: how long each is, and what the code puts into a sample's six bytes. Assumes nothing.
 use mathlib.Core.Path.{_≡_, refl, sym, ap, _∙_, subst}
-use mathlib.Core.Bool.{Bool, true, false, _&&_}
-use borrow.Author.Tests.{leb-true}
-use lib.Dec.{T, leb}
 use mathlib.Core.List.{List, [], _∷_, _++_, map}
 use Prim.Native.Nat.{ℕ, _+_, _-_, _*_, _≤_, _<_}
 use native.Mathlib.Omega.{arith}
@@ -14,7 +11,7 @@ use Rattle.numbers.proofs.WalkLaws.{flat-length, flat-more, flat-none, size-byt
 use Rattle.numbers.proofs.Filling.{Filling, again, lend}
 use borrow.Rule.Slice.PartMut.{putMid}
 use Rattle.sample.specs.Value.{ibmValue, wholeValue}
-use Rattle.sample.specs.Reading.{isCode, pairTaken, readWord}
+use Rattle.sample.specs.Reading.{pairTaken, readWord}
 use Rattle.sample.specs.declared.Sample.{Sample}
 use Rattle.sample.specs.declared.Sample.the-variants.{Taken, Refused}
 use Rattle.reel.specs.Layout.{firstTrace, sampleBytes}
@@ -103,12 +100,3 @@ module _ (s : List ℕ) (code n i w : ℕ) where
 
   pub traces-none : (k at : ℕ) → k ≤ 0 → flat (map (traceCopied s code n i) (places w k at)) ≡ []
   traces-none k at h = flat-none (traceCopied s code n i) (λ p. p) w k at h
-
--- the code that is left
-pub last-code : (code : ℕ) → isCode code ≡ true → (code ≡ 1 → ⊥) → (code ≡ 2 → ⊥) → (code ≡ 3 → ⊥) → code ≡ 4
-last-code code h a b c = go (leb 1 code) (leb code 4) refl refl h
-  where
-    go : (x y : Bool) → leb 1 code ≡ x → leb code 4 ≡ y → (x && y) ≡ true → code ≡ 4
-    go true true p q e = let l = leb-true 1 code p in let m = leb-true code 4 q in omega arith
-    go true false p q e = absurd (subst T (sym e) tt)
-    go false y p q e = absurd (subst T (sym e) tt)

@@ -6,7 +6,7 @@ use mir.Syntax.{w32}
 use borrow.Author.Needs.{sfits-of, needs}
 use Rattle.numbers.specs.Places.{placeNo, byteNo}
 use Rattle.numbers.specs.declared.Located.the-variants.{At}
-use Rattle.reel.proofs.CheckLaws.{located-at}
+use Rattle.numbers.proofs.PlaceLaws.{located-at}
 use native.Mathlib.Omega.{arith}
 use Rattle.look_up.proofs.field_number.Statement.{statement}
 use Rattle.look_up.proofs.field_number.Tie as tie

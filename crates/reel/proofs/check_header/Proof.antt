@@ -4,6 +4,7 @@ use Rattle.reel.specs.Causes.{mostSamples, within}
 use Rattle.sample.specs.Reading.{isCode}
 use Rattle.numbers.proofs.CauseLaws.{then-stop, then-next}
 use Rattle.numbers.specs.Cause.{refuseIf}
+use Rattle.numbers.specs.Places.{placeNo}
 use Prim.Native.Nat.{ℕ}
 use mathlib.Core.Bool.{not}
 use mathlib.Core.Path.{_≡_, sym, ap, _∙_}
@@ -13,21 +14,21 @@ use Rattle.reel.proofs.check_header.Tie as tie
 
 -- the three rows
 row1 : (c : tie.After-check-limits) → c .check-limits .result ≡ refuseIf (not (isCode (c .before .before .args .code))) 2 3224
-row1 c = c .check-limits .ensures ∙ ap (λ (x : ℕ). refuseIf (not (isCode (c .before .before .args .code))) 2 x) (c .before .field-at .ensures)
+row1 c = c .check-limits .ensures ∙ ap (λ (x : ℕ). refuseIf (not (isCode (c .before .before .args .code))) 2 x) (ap placeNo (c .before .field-at .ensures))
 
 row2 : (c : tie.After-check-limits2)
     → let n = c .before .before .before .before .before .before .args .n in
     c .check-limits2 .result ≡ refuseIf (not (within 1 mostSamples n)) 3 3220
 row2 c =
     let n = c .before .before .before .before .before .before .args .n in
-    c .check-limits2 .ensures ∙ ap (λ (x : ℕ). refuseIf (not (within 1 mostSamples n)) 3 x) (c .before .field-at2 .ensures)
+    c .check-limits2 .ensures ∙ ap (λ (x : ℕ). refuseIf (not (within 1 mostSamples n)) 3 x) (ap placeNo (c .before .field-at2 .ensures))
 
 row3 : (c : tie.After-check-limits3)
     → let i = c .before .before .before .before .before .before .before .before .before .before .args .i in
     c .check-limits3 .result ≡ refuseIf (not (within 1 32767 i)) 4 3216
 row3 c =
     let i = c .before .before .before .before .before .before .before .before .before .before .args .i in
-    c .check-limits3 .ensures ∙ ap (λ (x : ℕ). refuseIf (not (within 1 32767 i)) 4 x) (c .before .field-at3 .ensures)
+    c .check-limits3 .ensures ∙ ap (λ (x : ℕ). refuseIf (not (within 1 32767 i)) 4 x) (ap placeNo (c .before .field-at3 .ensures))
 
 field-at-requires : tie.Need-field-at-requires
 field-at-requires c κs = search needs

@@ -6,12 +6,27 @@ use Rattle.numbers.proofs.CauseLaws.{then-stop, then-next}
 use Rattle.numbers.specs.declared.Check.the-variants.{Fine}
 use Rattle.numbers.specs.Cause.{refuseIf, firstOf}
 use Rattle.numbers.specs.Walk.{walk}
-use Prim.Native.Nat.{ℕ, _+_}
+use Rattle.numbers.specs.Places.{placeNo}
+use Rattle.numbers.proofs.PlaceLaws.{field-place}
+use Prim.Native.Nat.{ℕ, _+_, _^_, _<_}
 use mathlib.Core.Path.{_≡_, sym, ap, _∙_}
 use native.Mathlib.Omega.{arith}
 use borrow.Author.Needs.{needs}
 use Rattle.reel.proofs.check_trace.Statement.{statement}
 use Rattle.reel.proofs.check_trace.Tie as tie
+
+-- the places of fields 115 and 117
+place7 : (c : tie.After-field-at) → placeNo (c .field-at .result) ≡ c .before .before .args .at + 114
+place7 c =
+    let s = c .before .before in
+    let l : s .args .at + 115 < 2 ^ 64 = search needs in
+    ap placeNo (c .field-at .ensures ∙ field-place (record { 0 = s .args .at }) (record { 0 = 115 }) (omega arith) l)
+
+place8 : (c : tie.After-field-at2) → placeNo (c .field-at2 .result) ≡ c .before .before .before .before .before .before .args .at + 116
+place8 c =
+    let s = c .before .before .before .before .before .before in
+    let l : s .args .at + 117 < 2 ^ 64 = search needs in
+    ap placeNo (c .field-at2 .ensures ∙ field-place (record { 0 = s .args .at }) (record { 0 = 117 }) (omega arith) l)
 
 -- the rows of 7 and 8
 row7 : (c : tie.After-check-own)
@@ -19,14 +34,14 @@ row7 : (c : tie.After-check-own)
     c .check-own .result ≡ refuseIf (neither (word (a .reel .now) (a .at + 114)) (a .n)) 7 (a .at + 114)
 row7 c =
     let a = c .before .before .before .args in
-    c .check-own .ensures ∙ ap (λ (x : ℕ). refuseIf (neither (word (a .reel .now) x) (a .n)) 7 x) (c .before .field-at .ensures)
+    c .check-own .ensures ∙ ap (λ (x : ℕ). refuseIf (neither (word (a .reel .now) x) (a .n)) 7 x) (place7 (c .before))
 
 row8 : (c : tie.After-check-own2)
     → let a = c .before .before .before .before .before .before .before .args in
     c .check-own2 .result ≡ refuseIf (neither (word (a .reel .now) (a .at + 116)) (a .i)) 8 (a .at + 116)
 row8 c =
     let a = c .before .before .before .before .before .before .before .args in
-    c .check-own2 .ensures ∙ ap (λ (x : ℕ). refuseIf (neither (word (a .reel .now) x) (a .i)) 8 x) (c .before .field-at2 .ensures)
+    c .check-own2 .ensures ∙ ap (λ (x : ℕ). refuseIf (neither (word (a .reel .now) x) (a .i)) 8 x) (place8 (c .before))
 
 fine7 : (c : tie.After-enum-told)
     → let a = c .before .before .before .before .before .args in
@@ -42,7 +57,7 @@ field-at-requires : tie.Need-field-at-requires
 field-at-requires c κs = search needs
 
 check-own-requires : tie.Need-check-own-requires
-check-own-requires c κs = search needs
+check-own-requires c κs = omega (arith, place7 c, c .before .before .pre)
 
 enum-told : tie.Need-enum-told
 enum-told c = search needs
@@ -58,7 +73,7 @@ field-at-requires-2 : tie.Need-field-at-requires-2
 field-at-requires-2 c κs = search needs
 
 check-own-requires-2 : tie.Need-check-own-requires-2
-check-own-requires-2 c κs = search needs
+check-own-requires-2 c κs = omega (arith, place8 c, c .before .before .before .before .before .before .pre)
 
 enum-told-3 : tie.Need-enum-told-3
 enum-told-3 c = search needs

@@ -1,5 +1,5 @@
 -- `transcribe::put_samples` meets its contract. Assumes nothing.
-use Rattle.transcribe.proofs.CopiedLaws.{last-code}
+use Rattle.reel.proofs.CheckLaws.{last-code}
 use Rattle.transcribe.specs.Copied.{samplesCopied}
 use Rattle.reel.specs.Layout.{sampleBytes}
 use Prim.Native.Nat.{ℕ}

@@ -1,0 +1,28 @@
+-- `numbers::field_at` meets its contract. Assumes nothing.
+use Rattle.numbers.specs.Places.{placeIn}
+use mathlib.Core.Path.{_≡_, sym, ap, _∙_}
+use borrow.Author.Needs.{needs}
+use Rattle.numbers.proofs.field_at.Statement.{statement}
+use Rattle.numbers.proofs.field_at.Tie as tie
+
+place-of-requires : tie.Need-place-of-requires
+place-of-requires c κs = search needs
+
+enum-known-found : tie.Need-enum-known-found
+enum-known-found c = search needs
+
+enum-told : tie.Need-enum-told
+enum-told c = search needs
+
+returns : tie.Need-returns
+returns c =
+    let s = c .before .before .before .args .start in
+    sym (ap (placeIn s) (sym (c .before .before .place-of .ensures) ∙ c .enum-told .given .1))
+
+returns-2 : tie.Need-returns-2
+returns-2 c =
+    let s = c .before .before .before .before .args .start in
+    sym (ap (placeIn s) (sym (c .before .before .before .place-of .ensures) ∙ c .before .found .given .1))
+
+pub field-at-spec : {M : Type 1} → statement M
+field-at-spec = tie.close (tie.spec place-of-requires enum-known-found enum-told returns returns-2)

@@ -1,0 +1,340 @@
+-- What the checks of a record find, and what follows where they find nothing. Assumes nothing.
+use mathlib.Core.Path.{_≡_, refl, sym, ap, ap₂, _∙_, subst}
+use mathlib.Core.List.{List, [], _∷_}
+use mathlib.Core.Bool.{Bool, true, false, not, _&&_}
+use Prim.Native.Nat.{ℕ, zero, suc, _+_, _-_, _*_, _/_, _^_, _≤_, _<_}
+use native.Mathlib.Nat.{add-zero, zero-add, zero-mul, suc-mul, not-suc-le-zero, mul-div-cancel, mul-comm}
+use native.Mathlib.Omega.{arith}
+use borrow.Author.Tests.{leb-true, eqb-true, ltb-false, ltb-true, not-false, lt-ltb, le-ltb}
+use lib.Dec.{T, leb, ltb, eqb}
+use lib.ListN.{length, getD}
+use Rattle.numbers.specs.Walk.{pick, walk, bytesAt}
+use Rattle.numbers.specs.BigEndian.{number}
+use Rattle.numbers.specs.Cause.{refuseIf, then, firstOf}
+use Rattle.numbers.specs.declared.Place.{Place}
+use Rattle.numbers.specs.declared.Check.{Check}
+use Rattle.numbers.specs.declared.Check.the-variants.{Fine, Refused}
+use Rattle.numbers.proofs.CauseLaws.{not-fine, passed, then-fine}
+use Rattle.numbers.proofs.WalkLaws.{walk-more}
+use lib.IntN.{ℤ, natAbs}
+use Rattle.numbers.specs.TwosComplement.{bitsOf}
+use Rattle.sample.specs.Value.{denominatorPower}
+use Rattle.sample.specs.Pair.{valueOf, isCanonical}
+use Rattle.sample.specs.Reading.{isCode}
+use Rattle.sample.specs.Writing.{first, isNegative, ibmFits, ibmBits, ibmWord, numberOf, holds, wholeWord, gainFits, gainWord, wordOf, writePair}
+use Rattle.sample.specs.Calls.{pairLength, pairIn}
+use Rattle.sample.specs.declared.Pair.{Pair}
+use Rattle.sample.specs.declared.Written.{Written}
+use Rattle.sample.specs.declared.Written.the-variants as written
+use Rattle.reel.specs.Layout.{word}
+use Rattle.reel.specs.Causes.{mostSamples, mostTraces, mostInterval, within}
+use Rattle.reel.proofs.CheckLaws.{both-true, in-limits}
+use Rattle.record.specs.Form.{isField, fieldCause, cardsCauses, heldSamples, heldInterval, heldCode, numberCauses, binaryCauses, firstField, heldStride, pairCause, samplesCauses, traceForm, tagsFrom, heldTraces, endCauses, bodyCauses, formCauses}
+use Rattle.record.specs.Held.{heldValue}
+use Rattle.record.specs.Target.{isUnfit, fitCause, traceFit, fitCauses, targetCauses}
+use Rattle.record.specs.Parts.{pairRefused, pairCheck, headForm, traceCheck, formFrom, fitFrom}
+
+-- ## Checks one after the other
+
+pub then-assoc : (a b c : Check) → then (then a b) c ≡ then a (then b c)
+then-assoc Fine b c = refl
+then-assoc (Refused number place) b c = refl
+
+-- ## Fields
+
+-- a field that stands whole ends within the record
+pub field-room : (s : List ℕ) (tag size at : ℕ) → fieldCause s tag size at ≡ Fine → at + (3 + size) ≤ length s
+field-room s tag size at e =
+    leb-true (at + (3 + size)) (length s) (both-true (leb (at + (3 + size)) (length s)) (eqb (getD s at 0) tag && eqb (word s (at + 1)) size) (passed (not (isField s tag size at)) 12 at e) .0)
+
+-- ## Pairs
+
+-- the six bytes from an offset on, one by one
+pub six-bytes : (s : List ℕ) (at : ℕ)
+    → bytesAt s at 6 ≡ getD s at 0 ∷ getD s (at + 1) 0 ∷ getD s (at + 2) 0 ∷ getD s (at + 3) 0 ∷ getD s (at + 4) 0 ∷ getD s (at + 5) 0 ∷ []
+unfolding bytesAt
+six-bytes s at =
+    let d : at + 1 + 1 + 1 + 1 + 1 ≡ at + 5 = omega arith in
+    let c : at + 1 + 1 + 1 + 1 ≡ at + 4 = omega arith in
+    let b : at + 1 + 1 + 1 ≡ at + 3 = omega arith in
+    let a : at + 1 + 1 ≡ at + 2 = omega arith in
+    rw (d, c, b, a)
+
+-- writing refuses a canonical pair by 14 only
+abbrev Only14 : Written → Type 0
+Only14 (written.Word n) = Unit {0}
+Only14 (written.Refused number) = number ≡ 14
+
+only-pick : (b : Bool) (x y : Written) → Only14 x → Only14 y → Only14 (pick b x y)
+only-pick true x y p q = p
+only-pick false x y p q = q
+
+-- a word where there is one, else 14
+only-word : (b : Bool) (n : ℕ) → Only14 (pick b (written.Word n) (written.Refused 14))
+only-word true n = tt
+only-word false n = refl
+
+word-only : (code : ℕ) (v : ℤ) → Only14 (wordOf code v)
+word-only code v =
+    let c = first (ibmFits v) 128 0 in
+    let g = first (gainFits v) 256 0 in
+    let p = 2 ^ denominatorPower in
+    let a : Only14 (ibmWord v) = only-word (ltb c 128) (ibmBits (isNegative v) c (natAbs v / 16 ^ c)) in
+    let b : Only14 (wholeWord 32 1 v) = only-word (holds 32 p v) (bitsOf 32 (numberOf p v) * 1) in
+    let d : Only14 (wholeWord 16 (2 ^ 16) v) = only-word (holds 16 p v) (bitsOf 16 (numberOf p v) * 2 ^ 16) in
+    let e : Only14 (gainWord v) = only-word (ltb g 256) (g * 2 ^ 16 + bitsOf 16 (numberOf (2 ^ (denominatorPower - g)) v)) in
+    only-pick (eqb code 1) (ibmWord v) _ a (only-pick (eqb code 2) (wholeWord 32 1 v) _ b (only-pick (eqb code 3) (wholeWord 16 (2 ^ 16) v) (gainWord v) d e))
+
+module _ (s : List ℕ) (code : ℕ) (h : isCode code ≡ true) where
+  -- a pair that writing takes is canonical
+  pair-fine : (at : ℕ) → pairCheck s code at ≡ Fine → pairCause s at ≡ Fine
+  pair-fine at e = go (isCanonical p) (rw h at e)
+    where
+      p : Pair
+      p = pairIn (bytesAt s at pairLength)
+
+      go : (b : Bool) → pairRefused (pick b (wordOf code (valueOf p)) (written.Refused 13)) at ≡ Fine → refuseIf (not b) 13 at ≡ Fine
+      go true e = refl
+      go false e = absurd (not-fine e)
+
+  -- a canonical pair is refused where it doesn't fit
+  pair-fit : (at : ℕ) → pairCause s at ≡ Fine → pairCheck s code at ≡ fitCause s code at
+  pair-fit at e =
+      let c = not-false (isCanonical (pairIn (bytesAt s at pairLength))) (passed _ 13 at e) in
+      rw (h, c) (go (wordOf code (heldValue s at)) (word-only code (heldValue s at)))
+    where
+      go : (w : Written) → Only14 w → pairRefused w at ≡ refuseIf (isUnfit w) 14 at
+      go (written.Word n) o = refl
+      go (written.Refused number) o = ap (λ (k : ℕ). Refused k (record { 0 = at })) o
+
+  pairs-fine : (w k at : ℕ) → firstOf (walk (pairCheck s code) w k at) ≡ Fine → firstOf (walk (pairCause s) w k at) ≡ Fine
+  pairs-fine w zero at e = refl
+  pairs-fine w (suc k) at e =
+      let t = then-fine (pairCheck s code at) (firstOf (walk (pairCheck s code) w k (at + w))) e in
+      ap₂ then (pair-fine at (t .0)) (pairs-fine w k (at + w) (t .1))
+
+  pairs-fit : (w k at : ℕ) → firstOf (walk (pairCause s) w k at) ≡ Fine → firstOf (walk (pairCheck s code) w k at) ≡ firstOf (walk (fitCause s code) w k at)
+  pairs-fit w zero at e = refl
+  pairs-fit w (suc k) at e =
+      let t = then-fine (pairCause s at) (firstOf (walk (pairCause s) w k (at + w))) e in
+      ap₂ then (pair-fit at (t .0)) (pairs-fit w k (at + w) (t .1))
+
+-- ## A trace
+
+-- its form is that of its fields, and then that of its pairs
+pub trace-form : (s : List ℕ) (n i at : ℕ) → traceForm s n i at ≡ then (headForm s n i at) (firstOf (walk (pairCause s) pairLength n (at + 186)))
+unfolding traceForm samplesCauses headForm
+trace-form s n i at =
+    let pairs = firstOf (walk (pairCause s) pairLength n (at + 186)) in
+    let a = fieldCause s 3 180 at in
+    let b = refuseIf (not (eqb (word s (at + 117)) n)) 13 (at + 117) in
+    let c = refuseIf (not (eqb (word s (at + 119)) i)) 13 (at + 119) in
+    let d = fieldCause s 4 (pairLength * n) (at + 183) in
+    let e : at + 183 + 3 ≡ at + 186 = omega arith in
+    ap (λ (x : ℕ). then a (then b (then c (then d (firstOf (walk (pairCause s) pairLength n x)))))) e
+    ∙ sym (then-assoc a (then b (then c d)) pairs ∙ ap (then a) (then-assoc b (then c d) pairs ∙ ap (then b) (then-assoc c d pairs)))
+
+-- a trace whose fields stand whole ends within the record
+pub head-room : (s : List ℕ) (n i at : ℕ) → headForm s n i at ≡ Fine → at + (186 + n * 6) ≤ length s
+unfolding headForm
+head-room s n i at e =
+    let a = then-fine (fieldCause s 3 180 at) _ e in
+    let b = then-fine (refuseIf (not (eqb (word s (at + 117)) n)) 13 (at + 117)) _ (a .1) in
+    let c = then-fine (refuseIf (not (eqb (word s (at + 119)) i)) 13 (at + 119)) _ (b .1) in
+    omega (arith, field-room s 4 (pairLength * n) (at + 183) (c .1))
+
+pub form-room : (s : List ℕ) (n i at : ℕ) → traceForm s n i at ≡ Fine → at + (186 + n * 6) ≤ length s
+form-room s n i at e = head-room s n i at (then-fine (headForm s n i at) _ (sym (trace-form s n i at) ∙ e) .0)
+
+module _ (s : List ℕ) (code n i : ℕ) (h : isCode code ≡ true) where
+  -- a trace for which the check finds nothing
+  pub trace-fine : (at : ℕ) → traceCheck s code n i at ≡ Fine → (traceForm s n i at ≡ Fine) × (traceFit s code n at ≡ Fine)
+  unfolding traceCheck traceFit
+  trace-fine at e =
+      let t = then-fine (headForm s n i at) _ e in
+      let p = pairs-fine s code h pairLength n (at + 186) (t .1) in
+      (trace-form s n i at ∙ ap₂ then (t .0) p, sym (pairs-fit s code h pairLength n (at + 186) p) ∙ t .1)
+
+  -- what the check finds in a trace of the right form
+  pub trace-fit : (at : ℕ) → traceForm s n i at ≡ Fine → traceCheck s code n i at ≡ traceFit s code n at
+  unfolding traceCheck traceFit
+  trace-fit at e =
+      let t = then-fine (headForm s n i at) _ (sym (trace-form s n i at) ∙ e) in
+      ap (λ x. then x (firstOf (walk (pairCheck s code) pairLength n (at + 186)))) (t .0) ∙ pairs-fit s code h pairLength n (at + 186) (t .1)
+
+-- ## Traces, one after the other
+
+-- a trace is to be looked for behind t traces
+abbrev pub isMore : List ℕ → ℕ → ℕ → Bool
+isMore s t at = ltb t mostTraces && eqb (getD s at 0) 3
+
+pub more-few : (s : List ℕ) (t at : ℕ) → isMore s t at ≡ true → t < mostTraces
+more-few s t at e = go (ltb t mostTraces) refl e
+  where
+    go : (b : Bool) → ltb t mostTraces ≡ b → (b && eqb (getD s at 0) 3) ≡ true → t < mostTraces
+    go true q e = ltb-true t mostTraces q
+    go false q e = absurd (subst T (sym e) tt)
+
+-- where one is, the tags that are counted are one more than those behind it
+tags-more : (s : List ℕ) (w t at : ℕ) → isMore s t at ≡ true → tagsFrom (mostTraces - t) s w at ≡ suc (tagsFrom (mostTraces - (t + 1)) s w (at + w))
+unfolding tagsFrom
+tags-more s w t at e =
+    let few = more-few s t at e in
+    let one : mostTraces - t ≡ suc (mostTraces - (t + 1)) = omega arith in
+    let tag : eqb (getD s at 0) 3 ≡ true = rw (lt-ltb t mostTraces few) at e in
+    ap (λ (k : ℕ). tagsFrom k s w at) one ∙ rw tag
+
+-- where none is, no tag is counted
+tags-none : (s : List ℕ) (w t at : ℕ) → isMore s t at ≡ false → tagsFrom (mostTraces - t) s w at ≡ 0
+unfolding tagsFrom
+tags-none s w t at e = go (ltb t mostTraces) refl e
+  where
+    one : (k : ℕ) → eqb (getD s at 0) 3 ≡ false → tagsFrom k s w at ≡ 0
+    one zero q = refl
+    one (suc k) q = rw q
+
+    go : (b : Bool) → ltb t mostTraces ≡ b → (b && eqb (getD s at 0) 3) ≡ false → tagsFrom (mostTraces - t) s w at ≡ 0
+    go true q e = one (mostTraces - t) e
+    go false q e =
+        let l = ltb-false t mostTraces q in
+        let z : mostTraces - t ≡ 0 = omega arith in
+        ap (λ (k : ℕ). tagsFrom k s w at) z
+
+module _ (s : List ℕ) (n : ℕ) where
+  w : ℕ
+  w = heldStride n
+
+  module _ (i : ℕ) where
+    form-of : ℕ → ℕ → ℕ → Check
+    form-of k t at = then (firstOf (walk (traceForm s n i) (heldStride n) k at)) (endCauses s (t + k) (at + k * heldStride n))
+
+    form-next : (k t at : ℕ) → form-of (suc k) t at ≡ then (traceForm s n i at) (form-of k (t + 1) (at + heldStride n))
+    unfolding form-of
+    form-next k t at =
+        let v = heldStride n in
+        let a : t + suc k ≡ t + 1 + k = omega arith in
+        let b : at + suc k * v ≡ at + v + k * v = rw suc-mul (omega arith) in
+        then-assoc (traceForm s n i at) (firstOf (walk (traceForm s n i) v k (at + v))) (endCauses s (t + suc k) (at + suc k * v))
+        ∙ ap₂ (λ (x y : ℕ). then (traceForm s n i at) (then (firstOf (walk (traceForm s n i) v k (at + v))) (endCauses s x y))) a b
+
+    -- the form of what follows, a trace at a time
+    pub form-more : (t at : ℕ) → isMore s t at ≡ true
+        → formFrom s n i (mostTraces - t) t at ≡ then (traceForm s n i at) (formFrom s n i (mostTraces - (t + 1)) (t + 1) (at + heldStride n))
+    unfolding formFrom form-of
+    form-more t at e =
+        ap (λ (k : ℕ). form-of k t at) (tags-more s (heldStride n) t at e) ∙ form-next (tagsFrom (mostTraces - (t + 1)) s (heldStride n) (at + heldStride n)) t at
+
+    pub form-end : (t at : ℕ) → isMore s t at ≡ false → formFrom s n i (mostTraces - t) t at ≡ endCauses s t at
+    unfolding formFrom form-of
+    form-end t at e =
+        ap (λ (k : ℕ). form-of k t at) (tags-none s (heldStride n) t at e) ∙ ap₂ (λ (x y : ℕ). endCauses s x y) (add-zero t) (rw zero-mul (add-zero at))
+
+    -- from the first trace on, it is that of the record's traces and its end
+    pub body-is : bodyCauses s n i (heldTraces s n) ≡ formFrom s n i mostTraces 0 firstField
+    unfolding bodyCauses formFrom
+    body-is =
+        let k = heldTraces s n in
+        ap (λ (x : ℕ). then (firstOf (walk (traceForm s n i) (heldStride n) k firstField)) (endCauses s x (firstField + k * heldStride n))) (sym (zero-add k))
+
+  module _ (code : ℕ) where
+    -- the fit of the samples that follow, a trace at a time
+    pub fit-more : (t at : ℕ) → isMore s t at ≡ true
+        → fitFrom s code n (mostTraces - t) at ≡ then (traceFit s code n at) (fitFrom s code n (mostTraces - (t + 1)) (at + heldStride n))
+    unfolding fitFrom
+    fit-more t at e = ap (λ (k : ℕ). firstOf (walk (traceFit s code n) (heldStride n) k at)) (tags-more s (heldStride n) t at e)
+
+    pub fit-end : (t at : ℕ) → isMore s t at ≡ false → fitFrom s code n (mostTraces - t) at ≡ Fine
+    unfolding fitFrom
+    fit-end t at e = ap (λ (k : ℕ). firstOf (walk (traceFit s code n) (heldStride n) k at)) (tags-none s (heldStride n) t at e)
+
+    module _ (i : ℕ) (h : isCode code ≡ true) (t at : ℕ) (e : isMore s t at ≡ true) where
+      -- behind a trace for which the check finds nothing
+      pub body-more : traceCheck s code n i at ≡ Fine
+          → then (formFrom s n i (mostTraces - t) t at) (fitFrom s code n (mostTraces - t) at)
+          ≡ then (formFrom s n i (mostTraces - (t + 1)) (t + 1) (at + heldStride n)) (fitFrom s code n (mostTraces - (t + 1)) (at + heldStride n))
+      body-more f =
+          let x = trace-fine s code n i h at f in
+          ap₂ then
+          (form-more i t at e ∙ ap (λ c. then c (formFrom s n i (mostTraces - (t + 1)) (t + 1) (at + heldStride n))) (x .0))
+          (fit-more t at e ∙ ap (λ c. then c (fitFrom s code n (mostTraces - (t + 1)) (at + heldStride n))) (x .1))
+
+      -- at a trace for which it finds something
+      pub body-stop : {number : ℕ} {place : Place} → traceCheck s code n i at ≡ Refused number place
+          → then (formFrom s n i (mostTraces - t) t at) (traceCheck s code n i at) ≡ then (formFrom s n i (mostTraces - t) t at) (fitFrom s code n (mostTraces - t) at)
+      body-stop {number} {place} f = go (formFrom s n i (mostTraces - t) t at) refl
+        where
+          go : (c : Check) → formFrom s n i (mostTraces - t) t at ≡ c → then c (traceCheck s code n i at) ≡ then c (fitFrom s code n (mostTraces - t) at)
+          go Fine q =
+              let x = then-fine (traceForm s n i at) _ (sym (form-more i t at e) ∙ q) in
+              let y = trace-fit s code n i h at (x .0) in
+              sym (fit-more t at e ∙ ap (λ c. then c (fitFrom s code n (mostTraces - (t + 1)) (at + heldStride n))) (sym y ∙ f) ∙ sym f)
+          go (Refused m p) q = refl
+
+-- ## The whole record
+
+-- a valid record ends behind tag 05
+pub held-length : (s : List ℕ) → formCauses s ≡ Fine → length s ≡ 3273 + heldTraces s (heldSamples s) * heldStride (heldSamples s)
+unfolding formCauses bodyCauses
+held-length s e =
+    let n = heldSamples s in
+    let t = heldTraces s n in
+    let at = firstField + t * heldStride n in
+    let a = then-fine (cardsCauses s) _ e in
+    let b = then-fine (binaryCauses s) _ (a .1) in
+    let c = then-fine (firstOf (walk (traceForm s n (heldInterval s)) (heldStride n) t firstField)) _ (b .1) in
+    let d = then-fine (fieldCause s 5 4 at) _ (c .1) in
+    let f = then-fine (refuseIf (not (eqb (number (bytesAt s (at + 3) 4)) t)) 12 at) _ (d .1) in
+    let g = then-fine (refuseIf (ltb (at + 7) (length s)) 12 (at + 7)) _ (f .1) in
+    omega (arith, field-room s 5 4 at (d .0), ltb-false (at + 7) (length s) (passed _ _ _ (g .0)))
+
+-- so its length says how many traces it has
+pub held-count : (s : List ℕ) → formCauses s ≡ Fine → (length s - 3273) / (186 + 6 * heldSamples s) ≡ heldTraces s (heldSamples s)
+held-count s e =
+    let n = heldSamples s in
+    let t = heldTraces s n in
+    let d : length s - 3273 ≡ t * heldStride n = omega (arith, held-length s e) in
+    ap (λ (x : ℕ). x / heldStride n) d ∙ mul-div-cancel t (omega arith)
+
+-- its first two fields stand whole, and its numbers are within their limits
+pub record Headed (s : List ℕ) : Type 0 where
+  pub room : firstField ≤ length s
+  pub n-low : 1 ≤ heldSamples s
+  pub n-high : heldSamples s ≤ mostSamples
+
+pub headed : (s : List ℕ) → then (cardsCauses s) (binaryCauses s) ≡ Fine → Headed s
+unfolding binaryCauses
+headed s e =
+    let a = then-fine (cardsCauses s) _ e in
+    let b = then-fine (fieldCause s 2 60 3203) _ (a .1) in
+    let c = then-fine (refuseIf (not (within 1 mostInterval (heldInterval s))) 13 3222) _ (b .1) in
+    let d = then-fine (refuseIf (not (within 1 mostSamples (heldSamples s))) 13 3226) _ (c .1) in
+    let l = in-limits 1 mostSamples (heldSamples s) 13 3226 (d .0) in
+    record { room = field-room s 2 60 3203 (b .0); n-low = l .0; n-high = l .1 }
+
+-- the causes 11 to 14, where the target code is one of the four and the first two fields are right
+pub target-is : (s : List ℕ) (code : ℕ) → isCode code ≡ true → then (cardsCauses s) (binaryCauses s) ≡ Fine
+    → targetCauses s code ≡ then (formFrom s (heldSamples s) (heldInterval s) mostTraces 0 firstField) (fitFrom s code (heldSamples s) mostTraces firstField)
+unfolding targetCauses formCauses fitCauses fitFrom
+target-is s code h e =
+    let n = heldSamples s in
+    let a = then-fine (cardsCauses s) _ e in
+    let fit = fitCauses s code n (heldTraces s n) in
+    rw h
+    (ap (λ x. then (then x (then (binaryCauses s) (bodyCauses s n (heldInterval s) (heldTraces s n)))) fit) (a .0)
+    ∙ ap (λ x. then (then x (bodyCauses s n (heldInterval s) (heldTraces s n))) fit) (a .1)
+    ∙ ap (λ x. then x fit) (body-is s n (heldInterval s)))
+
+-- and where they are not
+pub target-stop : (s : List ℕ) (code : ℕ) → isCode code ≡ true → {number : ℕ} {place : Place} → then (cardsCauses s) (binaryCauses s) ≡ Refused number place
+    → targetCauses s code ≡ Refused number place
+unfolding targetCauses formCauses
+target-stop s code h {number} {place} e =
+    let n = heldSamples s in
+    let body = bodyCauses s n (heldInterval s) (heldTraces s n) in
+    let fit = fitCauses s code n (heldTraces s n) in
+    rw h (ap (λ x. then x fit) (sym (then-assoc (cardsCauses s) (binaryCauses s) body) ∙ ap (λ x. then x body) e))
+
+-- a record with no cause against it is valid
+pub target-form : (s : List ℕ) (code : ℕ) → targetCauses s code ≡ Fine → formCauses s ≡ Fine
+unfolding targetCauses
+target-form s code e = then-fine (formCauses s) _ (then-fine (refuseIf (not (isCode code)) 11 0) _ e .1) .0

@@ -1,0 +1,70 @@
+-- `record::check_binary` meets its contract. Assumes nothing.
+use Rattle.record.proofs.FormLaws.{field-room}
+use Rattle.record.specs.Form.{fieldCause, numberCauses, binaryCauses}
+use Rattle.reel.specs.Layout.{word}
+use Rattle.numbers.proofs.CauseLaws.{then-stop, then-next}
+use Rattle.numbers.specs.declared.Check.the-variants.{Fine}
+use lib.ListN.{length}
+use Prim.Native.Nat.{ℕ, _≤_}
+use mathlib.Core.Path.{_≡_, sym, ap, _∙_}
+use native.Mathlib.Omega.{arith}
+use borrow.Author.Needs.{needs}
+use Rattle.record.proofs.check_binary.Statement.{statement}
+use Rattle.record.proofs.check_binary.Tie as tie
+
+fine : (c : tie.After-enum-told) → fieldCause (c .before .before .before .before .args .«record» .now) 2 60 3203 ≡ Fine
+fine c = sym (c .before .before .check-field .ensures) ∙ c .enum-told .given .1
+
+-- the field ends within the record
+room : (c : tie.After-enum-told) → 3266 ≤ length (c .before .before .before .before .args .«record» .now)
+room c = field-room (c .before .before .before .before .args .«record» .now) 2 60 3203 (fine c)
+
+check-field-requires : tie.Need-check-field-requires
+check-field-requires c κs = search needs
+
+enum-told : tie.Need-enum-told
+enum-told c = search needs
+
+enum-told-2 : tie.Need-enum-told-2
+enum-told-2 c = search needs
+
+returns : tie.Need-returns
+unfolding binaryCauses
+returns c = let e = c .before .before .check-field .ensures in e ∙ then-stop _ _ (sym e ∙ c .enum-told2 .given .1)
+
+binary-word-requires : tie.Need-binary-word-requires
+binary-word-requires c κs = (omega arith, omega (arith, room c))
+
+binary-word-requires-2 : tie.Need-binary-word-requires-2
+binary-word-requires-2 c κs = (omega arith, omega (arith, room (c .before)))
+
+binary-word-requires-3 : tie.Need-binary-word-requires-3
+binary-word-requires-3 c κs = (omega arith, omega (arith, room (c .before .before)))
+
+check-numbers-requires : tie.Need-check-numbers-requires
+check-numbers-requires c κs = search needs
+
+returns-2 : tie.Need-returns-2
+unfolding binaryCauses
+returns-2 c =
+    let s = c .before .before .before .before .before .before .before .before .args .«record» .now in
+    let i = c .before .before .before .binary-word in
+    let n = c .before .before .binary-word2 in
+    let k = c .before .binary-word3 in
+    c .check-numbers .ensures ∙ ap (λ (x : ℕ). numberCauses x (n .result) (k .result)) (i .ensures .0) ∙ ap (λ (x : ℕ). numberCauses (word s 3222) x (k .result)) (n .ensures .0)
+    ∙ ap (λ (x : ℕ). numberCauses (word s 3222) (word s 3226) x) (k .ensures .0)
+    ∙ then-next _ _ (fine (c .before .before .before .before))
+
+pub check-binary-spec : {M : Type 1} → statement M
+check-binary-spec =
+    tie.close
+    (tie.spec
+    check-field-requires
+    enum-told
+    enum-told-2
+    returns
+    binary-word-requires
+    binary-word-requires-2
+    binary-word-requires-3
+    check-numbers-requires
+    returns-2)

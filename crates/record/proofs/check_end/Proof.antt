@@ -1,0 +1,94 @@
+-- `record::check_end` meets its contract. Assumes nothing.
+use Rattle.record.proofs.FormLaws.{field-room}
+use Rattle.record.specs.Form.{fieldCause}
+use Rattle.numbers.specs.Walk.{bytesAt}
+use Rattle.numbers.specs.BigEndian.{number}
+use Rattle.numbers.specs.Cause.{refuseIf}
+use Rattle.numbers.proofs.CauseLaws.{then-stop, then-next}
+use Rattle.numbers.specs.declared.Check.{Check}
+use Rattle.numbers.specs.declared.Check.the-variants.{Fine, Refused}
+use borrow.Author.Tests.{eq-eqb, ne-eqb, lt-ltb, le-ltb}
+use lib.Dec.{ltb, eqb}
+use lib.ListN.{length}
+use mathlib.Core.Bool.{not}
+use Prim.Native.Nat.{ℕ, _+_, _≤_}
+use mathlib.Core.Path.{_≡_, refl, sym, ap, _∙_}
+use native.Mathlib.Omega.{arith}
+use borrow.Author.Needs.{needs}
+use Rattle.record.proofs.check_end.Statement.{statement}
+use Rattle.record.proofs.check_end.Tie as tie
+
+fine : (c : tie.After-enum-told) → let a = c .before .before .before .before .args in fieldCause (a .«record» .now) 5 4 (a .at) ≡ Fine
+fine c = sym (c .before .before .check-field .ensures) ∙ c .enum-told .given .1
+
+-- the field ends within the record
+room : (c : tie.After-enum-told) → let a = c .before .before .before .before .args in a .at + 7 ≤ length (a .«record» .now)
+room c = let a = c .before .before .before .before .args in field-room (a .«record» .now) 5 4 (a .at) (fine c)
+
+-- the cause of a count, by the number that was read
+abbrev count : (c : tie.After-count-at) → ℕ → Check
+count c x = let a = c .before .before .before .before .before .args in refuseIf (not (eqb x (a .t))) 12 (a .at)
+
+same : (c : tie.Else1) → let a = c .before .before .before .before .before .before .args in refuseIf (not (eqb (number (bytesAt (a .«record» .now) (a .at + 3) 4)) (a .t))) 12 (a .at) ≡ Fine
+same c =
+    let m : count (c .before) (c .before .count-at .result) ≡ Fine = rw (eq-eqb (c .before .count-at .result) (c .before .before .before .before .before .before .args .t) (c .if1 .left)) in
+    sym (ap (count (c .before)) (c .before .count-at .ensures)) ∙ m
+
+check-field-requires : tie.Need-check-field-requires
+check-field-requires c κs = search needs
+
+enum-told : tie.Need-enum-told
+enum-told c = search needs
+
+enum-told-2 : tie.Need-enum-told-2
+enum-told-2 c = search needs
+
+returns : tie.Need-returns
+returns c = let e = c .before .before .check-field .ensures in e ∙ then-stop _ _ (sym e ∙ c .enum-told2 .given .1)
+
+add-count-at : tie.Need-add-count-at
+add-count-at c = omega (arith, room c)
+
+count-at-requires : tie.Need-count-at-requires
+count-at-requires c κs = omega (arith, room c)
+
+returns-2 : tie.Need-returns-2
+returns-2 c =
+    let a = c .before .before .before .before .before .before .args in
+    let m : Refused 12 (record { 0 = a .at }) ≡ count (c .before) (c .before .count-at .result) = rw (ne-eqb (c .before .count-at .result) (a .t) (c .if1 .taken)) in
+    let e = m ∙ ap (count (c .before)) (c .before .count-at .ensures) in
+    e ∙ then-stop _ _ (sym e) ∙ then-next _ _ (fine (c .before .before))
+
+add-if2 : tie.Need-add-if2
+add-if2 c = omega (arith, room (c .before .before))
+
+add-t9 : tie.Need-add-t9
+add-t9 c = omega (arith, room (c .before .before .before))
+
+returns-3 : tie.Need-returns-3
+returns-3 c =
+    let a = c .before .before .before .before .before .before .before .args in
+    let e : Refused 12 (record { 0 = a .at + 7 }) ≡ refuseIf (ltb (a .at + 7) (length (a .«record» .now))) 12 (a .at + 7) = rw (lt-ltb (a .at + 7) (length (a .«record» .now)) (c .if2 .taken)) in
+    e ∙ then-stop _ Fine (sym e) ∙ then-next _ _ (same (c .before)) ∙ then-next _ _ (fine (c .before .before .before))
+
+returns-4 : tie.Need-returns-4
+returns-4 c =
+    let a = c .before .before .before .before .before .before .before .args in
+    let e : Fine ≡ refuseIf (ltb (a .at + 7) (length (a .«record» .now))) 12 (a .at + 7) = rw (le-ltb (a .at + 7) (length (a .«record» .now)) (c .if2 .left)) in
+    then-next _ Fine (sym e) ∙ then-next _ _ (same (c .before)) ∙ then-next _ _ (fine (c .before .before .before))
+
+pub check-end-spec : {M : Type 1} → statement M
+check-end-spec =
+    tie.close
+    (tie.spec
+    check-field-requires
+    enum-told
+    enum-told-2
+    returns
+    add-count-at
+    count-at-requires
+    returns-2
+    add-if2
+    add-t9
+    returns-3
+    returns-4)

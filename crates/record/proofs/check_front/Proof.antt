@@ -1,0 +1,36 @@
+-- `record::check_front` meets its contract. Assumes nothing.
+use Rattle.record.proofs.FormLaws.{field-room}
+use Rattle.record.specs.Form.{fieldCause, cardsCauses}
+use Rattle.numbers.proofs.CauseLaws.{then-stop, then-next, then-fine}
+use Rattle.numbers.specs.declared.Check.the-variants.{Fine}
+use mathlib.Core.Path.{_≡_, sym, _∙_}
+use borrow.Author.Needs.{needs}
+use Rattle.record.proofs.check_front.Statement.{statement}
+use Rattle.record.proofs.check_front.Tie as tie
+
+fine : (c : tie.After-enum-told) → cardsCauses (c .before .before .before .before .args .«record» .now) ≡ Fine
+fine c = sym (c .before .before .check-text .ensures) ∙ c .enum-told .given .1
+
+check-text-requires : tie.Need-check-text-requires
+check-text-requires c κs = search needs
+
+enum-told : tie.Need-enum-told
+enum-told c = search needs
+
+enum-told-2 : tie.Need-enum-told-2
+enum-told-2 c = search needs
+
+returns : tie.Need-returns
+returns c = let e = c .before .before .check-text .ensures in e ∙ then-stop _ _ (sym e ∙ c .enum-told2 .given .1)
+
+check-binary-requires : tie.Need-check-binary-requires
+unfolding cardsCauses
+check-binary-requires c κs = field-room (c .before .before .before .before .args .«record» .now) 1 3200 0 (then-fine (fieldCause (c .before .before .before .before .args .«record» .now) 1 3200 0) _ (fine c) .0)
+
+returns-2 : tie.Need-returns-2
+returns-2 c = c .check-binary .ensures ∙ then-next _ _ (fine (c .before))
+
+pub check-front-spec : {M : Type 1} → statement M
+check-front-spec =
+    tie.close
+    (tie.spec check-text-requires enum-told enum-told-2 returns check-binary-requires returns-2)

@@ -1,0 +1,131 @@
+-- `record::check_head` meets its contract. Assumes nothing.
+use Rattle.record.proofs.FormLaws.{field-room}
+use Rattle.record.specs.Form.{fieldCause}
+use Rattle.record.specs.Parts.{headForm}
+use Rattle.reel.specs.Layout.{word}
+use Rattle.numbers.proofs.CauseLaws.{then-stop, then-next}
+use Rattle.numbers.specs.Cause.{refuseIf}
+use Rattle.numbers.specs.declared.Check.{Check}
+use Rattle.numbers.specs.declared.Check.the-variants.{Fine}
+use lib.Dec.{eqb}
+use mathlib.Core.List.{List}
+use lib.ListN.{length}
+use mathlib.Core.Bool.{not}
+use Prim.Native.Nat.{ℕ, _+_, _*_, _≤_}
+use mathlib.Core.Path.{_≡_, sym, ap, _∙_}
+use native.Mathlib.Omega.{arith}
+use borrow.Author.Needs.{needs}
+use Rattle.record.proofs.check_head.Statement.{statement}
+use Rattle.record.proofs.check_head.Tie as tie
+
+fine : (c : tie.After-enum-told) → let a = c .before .before .before .before .args in fieldCause (a .«record» .now) 3 180 (a .at) ≡ Fine
+fine c = sym (c .before .before .check-field .ensures) ∙ c .enum-told .given .1
+
+-- the trace's fields end within the record
+room : (c : tie.After-enum-told) → let a = c .before .before .before .before .args in a .at + 183 ≤ length (a .«record» .now)
+room c = let a = c .before .before .before .before .args in field-room (a .«record» .now) 3 180 (a .at) (fine c)
+
+-- field 115, and field 117, unlike the reel's
+unlike : List ℕ → ℕ → ℕ → Check
+unlike s own p = refuseIf (not (eqb (word s p) own)) 13 p
+
+row115 : (c : tie.After-check-like) → let a = c .before .before .before .before .before .args in c .check-like .result ≡ refuseIf (not (eqb (word (a .«record» .now) (a .at + 117)) (a .n))) 13 (a .at + 117)
+unfolding unlike
+row115 c =
+    let a = c .before .before .before .before .before .args in
+    let p : a .at + 3 + 114 ≡ a .at + 117 = omega arith in
+    c .check-like .ensures ∙ ap (unlike (a .«record» .now) (a .n)) p
+
+fine115 : (c : tie.After-enum-told3) → let a = c .before .before .before .before .before .before .before .args in refuseIf (not (eqb (word (a .«record» .now) (a .at + 117)) (a .n))) 13 (a .at + 117) ≡ Fine
+fine115 c = sym (row115 (c .before .before)) ∙ c .enum-told3 .given .1
+
+row117 : (c : tie.After-check-like2) → let a = c .before .before .before .before .before .before .before .before .args in c .check-like2 .result ≡ refuseIf (not (eqb (word (a .«record» .now) (a .at + 119)) (a .i))) 13 (a .at + 119)
+unfolding unlike
+row117 c =
+    let a = c .before .before .before .before .before .before .before .before .args in
+    let p : a .at + 3 + 116 ≡ a .at + 119 = omega arith in
+    c .check-like2 .ensures ∙ ap (unlike (a .«record» .now) (a .i)) p
+
+fine117 : (c : tie.After-enum-told5) → let a = c .before .before .before .before .before .before .before .before .before .before .args in refuseIf (not (eqb (word (a .«record» .now) (a .at + 119)) (a .i))) 13 (a .at + 119) ≡ Fine
+fine117 c = sym (row117 (c .before .before)) ∙ c .enum-told5 .given .1
+
+check-field-requires : tie.Need-check-field-requires
+check-field-requires c κs = search needs
+
+enum-told : tie.Need-enum-told
+enum-told c = search needs
+
+enum-told-2 : tie.Need-enum-told-2
+enum-told-2 c = search needs
+
+returns : tie.Need-returns
+unfolding headForm
+returns c = let e = c .before .before .check-field .ensures in e ∙ then-stop _ _ (sym e ∙ c .enum-told2 .given .1)
+
+add-check-like : tie.Need-add-check-like
+add-check-like c = omega (arith, room c)
+
+check-like-requires : tie.Need-check-like-requires
+check-like-requires c κs = (omega arith, omega (arith, room c))
+
+enum-told-3 : tie.Need-enum-told-3
+enum-told-3 c = search needs
+
+enum-told-4 : tie.Need-enum-told-4
+enum-told-4 c = search needs
+
+returns-2 : tie.Need-returns-2
+unfolding headForm
+returns-2 c = let e = row115 (c .before .before) in e ∙ then-stop _ _ (sym e ∙ c .enum-told4 .given .1) ∙ then-next _ _ (fine (c .before .before .before))
+
+add-check-like-2 : tie.Need-add-check-like-2
+add-check-like-2 c = omega (arith, room (c .before .before .before))
+
+check-like-requires-2 : tie.Need-check-like-requires-2
+check-like-requires-2 c κs = (omega arith, omega (arith, room (c .before .before .before)))
+
+enum-told-5 : tie.Need-enum-told-5
+enum-told-5 c = search needs
+
+enum-told-6 : tie.Need-enum-told-6
+enum-told-6 c = search needs
+
+returns-3 : tie.Need-returns-3
+unfolding headForm
+returns-3 c = let e = row117 (c .before .before) in e ∙ then-stop _ _ (sym e ∙ c .enum-told6 .given .1) ∙ then-next _ _ (fine115 (c .before .before .before)) ∙ then-next _ _ (fine (c .before .before .before .before .before .before))
+
+mul-check-field : tie.Need-mul-check-field
+mul-check-field c = search needs
+
+add-check-field : tie.Need-add-check-field
+add-check-field c = omega (arith, room (c .before .before .before .before .before .before))
+
+check-field-requires-2 : tie.Need-check-field-requires-2
+check-field-requires-2 c κs = (omega (arith, room (c .before .before .before .before .before .before)), omega (arith, c .before .before .before .before .before .before .before .before .before .before .pre))
+
+returns-4 : tie.Need-returns-4
+unfolding headForm
+returns-4 c = c .check-field2 .ensures ∙ then-next _ _ (fine117 (c .before)) ∙ then-next _ _ (fine115 (c .before .before .before .before)) ∙ then-next _ _ (fine (c .before .before .before .before .before .before .before))
+
+pub check-head-spec : {M : Type 1} → statement M
+check-head-spec =
+    tie.close
+    (tie.spec
+    check-field-requires
+    enum-told
+    enum-told-2
+    returns
+    add-check-like
+    check-like-requires
+    enum-told-3
+    enum-told-4
+    returns-2
+    add-check-like-2
+    check-like-requires-2
+    enum-told-5
+    enum-told-6
+    returns-3
+    mul-check-field
+    add-check-field
+    check-field-requires-2
+    returns-4)

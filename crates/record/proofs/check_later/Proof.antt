@@ -1,0 +1,26 @@
+-- `record::check_later` meets its contract. Assumes nothing.
+use Rattle.record.specs.Parts.{formFrom}
+use Rattle.reel.specs.Causes.{mostTraces}
+use Rattle.numbers.proofs.CauseLaws.{then-stop, then-next}
+use mathlib.Core.Path.{_≡_, sym, _∙_}
+use borrow.Author.Needs.{needs}
+use Rattle.record.proofs.check_later.Statement.{statement}
+use Rattle.record.proofs.check_later.Tie as tie
+
+check-rest-requires : tie.Need-check-rest-requires
+check-rest-requires c κs = c .before .pre
+
+enum-told : tie.Need-enum-told
+enum-told c = search needs
+
+enum-told-2 : tie.Need-enum-told-2
+enum-told-2 c = search needs
+
+returns : tie.Need-returns
+returns c = let e = c .before .before .check-rest .ensures in e ∙ then-stop _ _ (sym e ∙ c .enum-told2 .given .1)
+
+returns-2 : tie.Need-returns-2
+returns-2 c = then-next _ _ (sym (c .before .before .check-rest .ensures) ∙ c .enum-told .given .1)
+
+pub check-later-spec : {M : Type 1} → statement M
+check-later-spec = tie.close (tie.spec check-rest-requires enum-told enum-told-2 returns returns-2)

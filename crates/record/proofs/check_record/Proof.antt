@@ -1,0 +1,30 @@
+-- `record::check_record` meets its contract. Assumes nothing.
+use Rattle.record.proofs.FormLaws.{target-form}
+use Rattle.record.specs.Target.{checked}
+use mathlib.Core.Path.{_≡_, sym, ap, _∙_}
+use borrow.Author.Needs.{needs}
+use Rattle.record.proofs.check_record.Statement.{statement}
+use Rattle.record.proofs.check_record.Tie as tie
+
+check-causes-requires : tie.Need-check-causes-requires
+check-causes-requires c κs = search needs
+
+enum-known-c : tie.Need-enum-known-c
+enum-known-c c = search needs
+
+enum-told : tie.Need-enum-told
+enum-told c = search needs
+
+own-numbers-requires : tie.Need-own-numbers-requires
+own-numbers-requires c κs = target-form (c .before .before .before .before .args .«record» .now) (c .before .before .before .before .args .code) (sym (c .before .before .check-causes .ensures) ∙ c .enum-told .given .1)
+
+returns : tie.Need-returns
+returns c = ap (checked (c .before .before .before .before .before .args .«record» .now)) (sym (c .before .c .given .1) ∙ c .before .before .before .check-causes .ensures)
+
+returns-2 : tie.Need-returns-2
+returns-2 c = c .own-numbers .ensures ∙ ap (checked (c .before .before .before .before .before .args .«record» .now)) (sym (c .before .enum-told .given .1) ∙ c .before .before .before .check-causes .ensures)
+
+pub check-record-spec : {M : Type 1} → statement M
+check-record-spec =
+    tie.close
+    (tie.spec check-causes-requires enum-known-c enum-told own-numbers-requires returns returns-2)

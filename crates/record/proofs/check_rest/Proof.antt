@@ -1,0 +1,113 @@
+-- `record::check_rest` meets its contract. Assumes nothing.
+use Rattle.record.proofs.FormLaws.{isMore, more-few, form-more, form-end, form-room}
+use Rattle.record.specs.Form.{heldStride, traceForm}
+use Rattle.record.specs.Parts.{formFrom}
+use Rattle.reel.specs.Causes.{mostTraces}
+use Rattle.numbers.proofs.CauseLaws.{then-stop}
+use Rattle.numbers.specs.Cause.{then}
+use Rattle.numbers.specs.declared.Check.the-variants.{Fine}
+use lib.ListN.{length}
+use mathlib.Core.Bool.{true, false}
+use Prim.Native.Nat.{_+_, _-_, _*_, _≤_, _<_}
+use mathlib.Core.Path.{_≡_, refl, sym, ap, _∙_}
+use native.Mathlib.Omega.{arith}
+use borrow.Author.Needs.{needs}
+use Rattle.record.proofs.check_rest.Statement.{statement}
+use Rattle.record.proofs.check_rest.Tie as tie
+
+abbrev Inv-loop : tie.InvT-loop
+Inv-loop «record» n i done start w at₀ t₀ at t =
+    (formFrom «record» n i (mostTraces - done) done start ≡ formFrom «record» n i (mostTraces - t) t at) × (t ≤ mostTraces) × (at ≤ length «record»)
+
+abbrev μ-loop : tie.MeasureT-loop
+μ-loop «record» n i done start w at₀ t₀ at t = mostTraces - t
+
+is-more : (c : tie.Then1 Inv-loop μ-loop) → isMore (c .before .before .before .before .args .«record» .now) (c .before .before .loop .t) (c .before .before .loop .at) ≡ true
+is-more c = sym (c .before .more .ensures) ∙ c .if1 .taken
+
+few : (c : tie.Then1 Inv-loop μ-loop) → c .before .before .loop .t < mostTraces
+few c = more-few (c .before .before .before .before .args .«record» .now) (c .before .before .loop .t) (c .before .before .loop .at) (is-more c)
+
+fine : (c : tie.After-enum-told Inv-loop μ-loop) → let a = c .before .before .before .before .before .before .before .args in traceForm (a .«record» .now) (a .n) (a .i) (c .before .before .before .before .before .loop .at) ≡ Fine
+fine c = sym (c .before .before .check-form .ensures) ∙ c .enum-told .given .1
+
+-- the trace ends within the record
+room : (c : tie.After-enum-told Inv-loop μ-loop) → let a = c .before .before .before .before .before .before .before .args in c .before .before .before .before .before .loop .at + (186 + a .n * 6) ≤ length (a .«record» .now)
+room c = let a = c .before .before .before .before .before .before .before .args in form-room (a .«record» .now) (a .n) (a .i) (c .before .before .before .before .before .loop .at) (fine c)
+
+mul-w : tie.Need-mul-w Inv-loop μ-loop
+mul-w c = omega (arith, c .before .pre)
+
+add-w : tie.Need-add-w Inv-loop μ-loop
+add-w c = omega (arith, c .before .pre)
+
+loop-holds : tie.Need-loop-holds Inv-loop μ-loop
+loop-holds c = (refl, c .before .pre .1, c .before .pre .2)
+
+more-requires : tie.Need-more-requires Inv-loop μ-loop
+more-requires c κs = search needs
+
+check-form-requires : tie.Need-check-form-requires Inv-loop μ-loop
+check-form-requires c κs = (c .before .before .loop .inv .2, c .before .before .before .before .pre .0)
+
+enum-told : tie.Need-enum-told Inv-loop μ-loop
+enum-told c = search needs
+
+enum-told-2 : tie.Need-enum-told-2 Inv-loop μ-loop
+enum-told-2 c = search needs
+
+returns : tie.Need-returns Inv-loop μ-loop
+returns c =
+    let h = c .before .before .before .before .before in
+    let a = c .before .before .before .before .before .before .before .args in
+    let e = c .before .before .check-form .ensures in
+    e ∙ then-stop _ _ (sym e ∙ c .enum-told2 .given .1) ∙ sym (h .loop .inv .0 ∙ form-more (a .«record» .now) (a .n) (a .i) (h .loop .t) (h .loop .at) (is-more (c .before .before .before)))
+
+add-at : tie.Need-add-at Inv-loop μ-loop
+add-at c = omega (arith, room c)
+
+add-t : tie.Need-add-t Inv-loop μ-loop
+add-t c = omega (arith, few (c .before .before .before))
+
+loop-less : tie.Need-loop-less Inv-loop μ-loop
+loop-less c = omega (arith, few (c .before .before .before))
+
+loop-again : tie.Need-loop-again Inv-loop μ-loop
+loop-again c =
+    let h = c .before .before .before .before .before in
+    let a = c .before .before .before .before .before .before .before .args in
+    let s = a .«record» .now in (
+      h .loop .inv .0 ∙ form-more s (a .n) (a .i) (h .loop .t) (h .loop .at) (is-more (c .before .before .before)) ∙ ap (λ x. then x (formFrom s (a .n) (a .i) (mostTraces - (h .loop .t + 1)) (h .loop .t + 1) (h .loop .at + heldStride (a .n)))) (fine c),
+      omega (arith, few (c .before .before .before)),
+      omega (arith, room c),
+    )
+
+check-end-requires : tie.Need-check-end-requires Inv-loop μ-loop
+check-end-requires c κs = c .before .before .loop .inv .2
+
+returns-2 : tie.Need-returns-2 Inv-loop μ-loop
+returns-2 c =
+    let h = c .before .before .before in
+    let a = c .before .before .before .before .before .args in
+    c .check-end .ensures ∙ sym (h .loop .inv .0 ∙ form-end (a .«record» .now) (a .n) (a .i) (h .loop .t) (h .loop .at) (sym (c .before .before .more .ensures) ∙ c .before .if1 .left))
+
+pub check-rest-spec : {M : Type 1} → statement M
+check-rest-spec =
+    tie.close
+    (tie.spec
+    Inv-loop
+    μ-loop
+    mul-w
+    add-w
+    loop-holds
+    more-requires
+    check-form-requires
+    enum-told
+    enum-told-2
+    returns
+    add-at
+    add-t
+    loop-less
+    loop-again
+    check-end-requires
+    returns-2)

@@ -1,0 +1,37 @@
+-- `record::check_text` meets its contract. Assumes nothing.
+use Rattle.record.proofs.FormLaws.{field-room}
+use Rattle.record.specs.Form.{fieldCause, cardsCauses}
+use Rattle.numbers.proofs.CauseLaws.{then-stop, then-next}
+use Rattle.numbers.specs.declared.Check.the-variants.{Fine}
+use mathlib.Core.Path.{_≡_, sym, _∙_}
+use borrow.Author.Needs.{needs}
+use Rattle.record.proofs.check_text.Statement.{statement}
+use Rattle.record.proofs.check_text.Tie as tie
+
+fine : (c : tie.After-enum-told) → fieldCause (c .before .before .before .before .args .«record» .now) 1 3200 0 ≡ Fine
+fine c = sym (c .before .before .check-field .ensures) ∙ c .enum-told .given .1
+
+check-field-requires : tie.Need-check-field-requires
+check-field-requires c κs = search needs
+
+enum-told : tie.Need-enum-told
+enum-told c = search needs
+
+enum-told-2 : tie.Need-enum-told-2
+enum-told-2 c = search needs
+
+returns : tie.Need-returns
+unfolding cardsCauses
+returns c = let e = c .before .before .check-field .ensures in e ∙ then-stop _ _ (sym e ∙ c .enum-told2 .given .1)
+
+check-cards-requires : tie.Need-check-cards-requires
+check-cards-requires c κs = field-room (c .before .before .before .before .args .«record» .now) 1 3200 0 (fine c)
+
+returns-2 : tie.Need-returns-2
+unfolding cardsCauses
+returns-2 c = c .check-cards .ensures ∙ then-next _ _ (fine (c .before))
+
+pub check-text-spec : {M : Type 1} → statement M
+check-text-spec =
+    tie.close
+    (tie.spec check-field-requires enum-told enum-told-2 returns check-cards-requires returns-2)

@@ -1,0 +1,46 @@
+-- Parts of the causes against a record, for the functions inside this crate.
+use Prim.Native.Nat.{ℕ, _+_, _*_}
+use mathlib.Core.List.{List}
+use mathlib.Core.Bool.{not}
+use lib.Dec.{eqb}
+use Rattle.numbers.specs.Walk.{walk, bytesAt}
+use Rattle.numbers.specs.Cause.{refuseIf, then, firstOf}
+use Rattle.numbers.specs.declared.Check.{Check}
+use Rattle.numbers.specs.declared.Check.the-variants.{Fine, Refused}
+use Rattle.sample.specs.Writing.{writePair}
+use Rattle.sample.specs.Calls.{pairLength, pairIn}
+use Rattle.sample.specs.declared.Written.{Written}
+use Rattle.sample.specs.declared.Written.the-variants as written
+use Rattle.reel.specs.Layout.{word}
+use Rattle.record.specs.Form.{fieldCause, heldStride, traceForm, tagsFrom, endCauses}
+use Rattle.record.specs.Target.{traceFit}
+
+-- The refusal of the pair at a place, from what writing it gives.
+abbrev pub pairRefused : Written → ℕ → Check
+pairRefused (written.Word n) at = Fine
+pairRefused (written.Refused number) at = Refused number (record { 0 = at })
+
+-- 13 or 14 against the pair at a place, under a code.
+abbrev pub pairCheck : List ℕ → ℕ → ℕ → Check
+pairCheck s code at = pairRefused (writePair code (pairIn (bytesAt s at pairLength))) at
+
+-- A trace's causes but for those of its pairs.
+unfoldable pub headForm : List ℕ → ℕ → ℕ → ℕ → Check
+headForm s n i at =
+    then (fieldCause s 3 180 at)
+    (then (refuseIf (not (eqb (word s (at + 117)) n)) 13 (at + 117))
+    (then (refuseIf (not (eqb (word s (at + 119)) i)) 13 (at + 119))
+    (fieldCause s 4 (pairLength * n) (at + 183))))
+
+-- A trace's form but for its pairs, then 13 or 14 against the first pair that writing refuses.
+unfoldable pub traceCheck : List ℕ → ℕ → ℕ → ℕ → ℕ → Check
+traceCheck s code n i at = then (headForm s n i at) (firstOf (walk (pairCheck s code) pairLength n (at + 186)))
+
+-- From the place `at` on, behind t traces, where at most `left` more are counted: the form of what follows, and the fit of its samples.
+unfoldable pub formFrom : List ℕ → ℕ → ℕ → ℕ → ℕ → ℕ → Check
+formFrom s n i left t at =
+    then (firstOf (walk (traceForm s n i) (heldStride n) (tagsFrom left s (heldStride n) at) at))
+    (endCauses s (t + tagsFrom left s (heldStride n) at) (at + tagsFrom left s (heldStride n) at * heldStride n))
+
+unfoldable pub fitFrom : List ℕ → ℕ → ℕ → ℕ → ℕ → Check
+fitFrom s code n left at = firstOf (walk (traceFit s code n) (heldStride n) (tagsFrom left s (heldStride n) at) at)
