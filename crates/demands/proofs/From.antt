@@ -33,6 +33,10 @@ pub record From (s : List ℕ) (p : ℕ) (l : List ℕ) : Type 0 where
 pub from-start : (s : List ℕ) → From s 0 s
 from-start s = record { inside = omega arith; is = refl }
 
+-- The same at an offset that is the same number.
+pub from-at : {s l : List ℕ} {p q : ℕ} → p ≡ q → From s p l → From s q l
+from-at {s} {l} e f = subst (λ (x : ℕ). From s x l) e f
+
 -- The offset and the length of what stands from there on make the list's length.
 pub from-length : {s l : List ℕ} {p : ℕ} → From s p l → p + length l ≡ length s
 from-length {s} {l} {p} f = omega (arith, f .inside, length-drop p s, ap length (f .is))

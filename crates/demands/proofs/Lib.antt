@@ -1,2 +1,4 @@
 pub mod Proper
+pub mod Fitting
 pub mod From
+pub mod Headers
