@@ -4,7 +4,7 @@ use mathlib.Core.Path.{_≡_, refl, sym, ap, ap₂, _∙_, subst}
 use mathlib.Core.List.{List, [], _∷_, _++_, map, append-assoc}
 use Prim.Native.Nat.{ℕ, zero, suc, _+_, _-_, _*_, _/_, _%_, _^_, _≤_, _<_}
 use native.Mathlib.Omega.{arith}
-use lib.ListN.{length, getD, take, drop, replicate, length-append, take-append-drop}
+use lib.ListN.{length, getD, take, drop, replicate, length-append, length-replicate, take-append-drop}
 use lib.IntN.{ℤ, pos}
 use Rattle.numbers.specs.Walk.{flat, bytesAt}
 use Rattle.numbers.specs.BigEndian.{number, bytesOf}
@@ -16,7 +16,7 @@ use Rattle.reel.specs.Layout.{fieldsFrom, binaryWidths, binaryFields, traceWidt
 use Rattle.reel.specs.Meaning.{otherThan, Trace, Meaning}
 use Rattle.record.specs.Record.{numberBytes, binaryBytes}
 use Rattle.record.proofs.NumberLaws.{total, numbers-append}
-use Rattle.record.proofs.HeaderLaws.{binary-front, binary-back, binary-widths, counts, parts}
+use Rattle.record.proofs.HeaderLaws.{binary-front, binary-back, binary-widths, trace-front, trace-back, countField, intervalField, counts, parts}
 use Rattle.reel_theorems.proofs.Ranges.{Fit, length-bytes, size-numbers}
 use Rattle.demands.proofs.Proper.{ProperTrace, Proper}
 use Rattle.demands.proofs.From.{From, from-at, from-next, from-parts, from-number, from-header, from-numbers}
@@ -49,6 +49,9 @@ bytes-numbers (w ∷ ws) (z ∷ zs) =
 pub bytes-zeros : (k : ℕ) → Bytes (replicate k 0)
 bytes-zeros zero = tt
 bytes-zeros (suc k) = (omega arith, bytes-zeros k)
+
+pub size-zeros : (k : ℕ) → length (replicate {A = ℕ} k 0) ≡ k
+size-zeros k = length-replicate {A = ℕ} k 0
 
 -- Two bytes whose signed number is n hold n.
 pub word-is : (s : List ℕ) → Bytes s → (at n : ℕ) → signedOf 16 (word s at) ≡ pos n → word s at ≡ n
@@ -131,13 +134,21 @@ module _ (n i : ℕ) (m : Meaning) (p : Proper n i m) (code : ℕ) where
 -- ## A trace's header
 
 -- The 39th of the 71 numbers is field 115, the 40th field 117.
-count-at : (s : List ℕ) (at : ℕ) → getD (map (fieldNumber s at) traceFields) 38 (pos 0) ≡ signedOf 16 (word s (at + 114))
+pub count-at : (s : List ℕ) (at : ℕ) → getD (map (fieldNumber s at) traceFields) 38 (pos 0) ≡ signedOf 16 (word s (at + 114))
 unfolding traceFields traceWidths
 count-at s at = refl
 
-interval-at : (s : List ℕ) (at : ℕ) → getD (map (fieldNumber s at) traceFields) 39 (pos 0) ≡ signedOf 16 (word s (at + 116))
+pub interval-at : (s : List ℕ) (at : ℕ) → getD (map (fieldNumber s at) traceFields) 39 (pos 0) ≡ signedOf 16 (word s (at + 116))
 unfolding traceFields traceWidths
 interval-at s at = refl
+
+-- The 71 are those before field 115, fields 115 and 117, and those behind them.
+pub trace-around : (s : List ℕ) (at : ℕ)
+    → map (fieldNumber s at) traceFields
+    ≡ map (fieldNumber s at) (fieldsFrom 1 trace-front)
+    ++ (fieldNumber s at countField ∷ fieldNumber s at intervalField ∷ map (fieldNumber s at) (fieldsFrom 119 trace-back))
+unfolding traceFields traceWidths trace-front trace-back
+trace-around s at = refl
 
 module _ (n i : ℕ) (t : Trace) (p : ProperTrace n i t) where
   -- A trace's fields have 180 bytes.

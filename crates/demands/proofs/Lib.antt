@@ -2,3 +2,4 @@ pub mod Proper
 pub mod Fitting
 pub mod From
 pub mod Headers
+pub mod ReelBack

@@ -118,7 +118,7 @@ trace-size n t h =
     let a = size-numbers traceWidths (t .numbers) (h .numbers) ∙ counts .3 in
     simp (length-append, size-field) (omega (arith, a, samples-size n t h))
 
-trace-eq : {a b : Trace} → a .numbers ≡ b .numbers → a .values ≡ b .values → a ≡ b
+pub trace-eq : {a b : Trace} → a .numbers ≡ b .numbers → a .values ≡ b .values → a ≡ b
 trace-eq {a} {b} p q = ap₂ made p q
   where
     made : List ℤ → List ℤ → Trace
