@@ -8,7 +8,7 @@ use mathlib.Core.Bool.{Bool, true, false, not, _&&_}
 use Prim.Native.Nat.{ℕ, zero, suc, _+_, _-_, _*_, _/_, _%_, _^_, _≤_, _<_}
 use native.Mathlib.Nat.{mul-div-cancel, mul-mod-left}
 use native.Mathlib.Omega.{arith}
-use borrow.Author.Tests.{le-ltb, le-leb, eq-eqb, ne-eqb, eqb-true}
+use borrow.Author.Tests.{le-ltb, le-leb, eq-eqb, ne-eqb, eqb-true, leb-true}
 use lib.Dec.{T, eqb, leb, ltb}
 use lib.ListN.{length, getD, take, drop, replicate, length-append}
 use lib.Seq.{length-take-le, take-all}
@@ -27,6 +27,7 @@ use Rattle.sample.specs.Reading.{isCode, badGain}
 use Rattle.sample.specs.Writing.{wordOf, writePair}
 use Rattle.sample.specs.declared.Written.{Written}
 use Rattle.sample.specs.declared.Written.the-variants.{Word, Refused}
+use Rattle.sample_theorems.proofs.Held.{and-true}
 use Rattle.sample_theorems.proofs.Pairs.{pair-value}
 use Rattle.sample_theorems.proofs.Words.{Says, writing-sound}
 use Rattle.reel.specs.Layout.{cardBytes, firstTrace, traceHeader, traceWidths, traceFields, fieldNumber, word, intervalOf, samplesOf, codeOf, sampleBytes, stride, strideOf, tracesOf}
@@ -224,3 +225,74 @@ module _ (code n i : ℕ) (c : isCode code ≡ true) (t : Trace) (h : Ready code
             ∙ from-walk s (sampleWritten code) (Writable code) (sampleBytes code) (λ v q. size-sample code v) (λ p. exactValue code (bytesAt s p 4)) (λ v. v)
             (λ v p r q e. read-sample s code v p r c q e .value) (t .values) (at + traceHeader) rest (h .writable) from-samples
             ∙ map-id (t .values)
+
+-- ## Reels
+
+-- Card bytes other than 00 are taken as they are.
+blank-same : (l : List ℕ) → All (λ b. (0 < b) × (b < 256)) l → map blank l ≡ l
+blank-same [] h = refl
+blank-same (b ∷ l) h = cons-eq (rw (ne-eqb b 0 (λ e. some (h .0 .0) e))) (blank-same l (h .1))
+  where
+    some : {b : ℕ} → 0 < b → b ≡ 0 → ⊥
+    some p e = omega arith
+
+bytes-cards : (l : List ℕ) → All (λ b. (0 < b) × (b < 256)) l → Bytes l
+bytes-cards [] h = tt
+bytes-cards (b ∷ l) h = (h .0 .1, bytes-cards l (h .1))
+
+-- A meaning, by its three parts.
+meaning-eq : {a b : Meaning} → a .cards ≡ b .cards → a .binary ≡ b .binary → a .traces ≡ b .traces → a ≡ b
+meaning-eq {a} {b} p q r = ap₂ (λ (x : List ℕ) (y : List ℤ). made x y (a .traces)) p q ∙ ap (made (b .cards) (b .binary)) r
+  where
+    made : List ℕ → List ℤ → List Trace → Meaning
+    made x y z = record { cards = x; binary = y; traces = z }
+
+-- The codes are at most 4.
+code-high : (code : ℕ) → isCode code ≡ true → code ≤ 4
+code-high code c = leb-true code 4 (and-true (leb 1 code) (leb code 4) c .1)
+
+module _ (code n i : ℕ) (m : Meaning) (p : Proper n i m) (c : isCode code ≡ true) (f : Fitting code m) where
+  ready : All (Ready code n i) (m .traces)
+  ready = all-ready code n i (m .traces) (p .traces) f
+
+  size-traces : length (flat (map (traceWritten code) (m .traces))) ≡ length (m .traces) * stride n (sampleBytes code)
+  size-traces = flat-size (traceWritten code) (Ready code n i) (stride n (sampleBytes code)) (size-trace code n i c) (m .traces) ready
+
+  -- THEOREM. The reel of T traces of N samples has the 3,600 bytes of its headers, and for each trace 240 and those of N samples.
+  pub reel-length : length (reelOf code m) ≡ reelLength code (length (m .traces)) n
+  unfolding reelOf
+  reel-length = simp length-append (omega (arith, p .size, size-binary n i m p code, size-zeros 340, size-traces))
+
+  -- THEOREM. The reel is a list of bytes.
+  pub reel-bytes : Bytes (reelOf code m)
+  unfolding reelOf
+  reel-bytes =
+      let byte : ℕ → Type 0 = λ b. b < 256 in
+      let traces = flat (map (traceWritten code) (m .traces)) in
+      all-append byte (m .cards) (binaryBytes code (m .binary) ++ (replicate 340 0 ++ traces)) (bytes-cards (m .cards) (p .cards))
+      (all-append byte (binaryBytes code (m .binary)) (replicate 340 0 ++ traces) (bytes-binary n i m p code)
+      (all-append byte (replicate 340 0) traces (bytes-zeros 340)
+      (bytes-flat (traceWritten code) (Ready code n i) (bytes-trace code n i c) (m .traces) ready)))
+
+  -- Where its parts stand.
+  from-cards : From (reelOf code m) 0 (m .cards ++ (binaryBytes code (m .binary) ++ (replicate 340 0 ++ flat (map (traceWritten code) (m .traces)))))
+  unfolding reelOf
+  from-cards = from-start (reelOf code m)
+
+  from-binary : From (reelOf code m) 3200 (binaryBytes code (m .binary) ++ (replicate 340 0 ++ flat (map (traceWritten code) (m .traces))))
+  from-binary = from-next (m .cards) _ 3200 (p .size) from-cards
+
+  from-traces : From (reelOf code m) firstTrace (flat (map (traceWritten code) (m .traces)) ++ [])
+  from-traces =
+      rw append-nil
+      (from-next (replicate 340 0) _ 340 (size-zeros 340) (from-next (binaryBytes code (m .binary)) _ 60 (size-binary n i m p code) from-binary))
+
+  -- THEOREM. The reel's own numbers are the code, N, the interval and T.
+  pub reel-code : codeOf (reelOf code m) ≡ code
+  reel-code = code-again n i m p code (reelOf code m) reel-bytes 0 _ from-binary (omega (arith, code-high code c))
+
+  pub reel-samples : samplesOf (reelOf code m) ≡ n
+  reel-samples = samples-again n i m p code (reelOf code m) reel-bytes 0 _ from-binary
+
+  pub reel-interval : intervalOf (reelOf code m) ≡ i
+  reel-interval = interval-again n i m p code (reelOf code m) reel-bytes 0 _ from-binary
