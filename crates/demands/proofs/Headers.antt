@@ -53,9 +53,23 @@ bytes-zeros (suc k) = (omega arith, bytes-zeros k)
 pub size-zeros : (k : ℕ) → length (replicate {A = ℕ} k 0) ≡ k
 size-zeros k = length-replicate {A = ℕ} k 0
 
+-- So are card bytes.
+pub bytes-cards : (l : List ℕ) → All (λ b. (0 < b) × (b < 256)) l → Bytes l
+bytes-cards [] h = tt
+bytes-cards (b ∷ l) h = (h .0 .1, bytes-cards l (h .1))
+
 -- Two bytes whose signed number is n hold n.
 pub word-is : (s : List ℕ) → Bytes s → (at n : ℕ) → signedOf 16 (word s at) ≡ pos n → word s at ≡ n
 word-is s h at n e = sym (bits-signed 16 (word s at) (omega arith) (number-at s h at 2)) ∙ ap (bitsOf 16) e
+
+-- ## A meaning
+
+-- A meaning, by its three parts.
+pub meaning-eq : {a b : Meaning} → a .cards ≡ b .cards → a .binary ≡ b .binary → a .traces ≡ b .traces → a ≡ b
+meaning-eq {a} {b} p q r = ap₂ (λ (x : List ℕ) (y : List ℤ). made x y (a .traces)) p q ∙ ap (made (b .cards) (b .binary)) r
+  where
+    made : List ℕ → List ℤ → List Trace → Meaning
+    made x y z = record { cards = x; binary = y; traces = z }
 
 -- ## The binary header
 

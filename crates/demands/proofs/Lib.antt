@@ -3,3 +3,4 @@ pub mod Fitting
 pub mod From
 pub mod Headers
 pub mod ReelBack
+pub mod RecordBack

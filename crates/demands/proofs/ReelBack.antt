@@ -30,9 +30,9 @@ use Rattle.sample.specs.declared.Written.the-variants.{Word, Refused}
 use Rattle.sample_theorems.proofs.Held.{and-true}
 use Rattle.sample_theorems.proofs.Pairs.{pair-value}
 use Rattle.sample_theorems.proofs.Words.{Says, writing-sound}
-use Rattle.reel.specs.Layout.{cardBytes, firstTrace, traceHeader, traceWidths, traceFields, fieldNumber, word, intervalOf, samplesOf, codeOf, sampleBytes, stride, strideOf, tracesOf}
+use Rattle.reel.specs.Layout.{cardBytes, firstTrace, traceHeader, binaryFields, traceWidths, traceFields, fieldNumber, word, intervalOf, samplesOf, codeOf, sampleBytes, stride, strideOf, wholeIn, overIn, tracesOf}
 use Rattle.reel.specs.Causes.{mostSamples, mostTraces, mostInterval, within, neither, headerCauses, wordCause, traceCauses, behindCauses, causesOf}
-use Rattle.reel.specs.Meaning.{blank, cardText, filled, traceNumber, Trace, traceMeaning, Meaning, meaningOf}
+use Rattle.reel.specs.Meaning.{blank, cardText, otherThan, binaryNumbers, filled, traceNumber, Trace, traceMeaning, Meaning, meaningOf}
 use Rattle.reel.proofs.CheckLaws.{width-high}
 use Rattle.record.specs.Record.{numberBytes, binaryBytes}
 use Rattle.record.specs.Target.{isUnfit}
@@ -43,7 +43,7 @@ use Rattle.write_reel.specs.Reel.{wordContent, sampleWritten, traceWritten, ree
 use Rattle.demands.proofs.Proper.{ProperTrace, Proper}
 use Rattle.demands.proofs.Fitting.{Fitting}
 use Rattle.demands.proofs.From.{From, from-start, from-at, from-parts, from-next, from-bytes, from-walk, from-fine}
-use Rattle.demands.proofs.Headers.{all-append, bytes-flat, bytes-of, bytes-numbers, bytes-zeros, size-zeros, size-binary, bytes-binary, binary-again, code-again, samples-again, interval-again, size-header, count-at, interval-at, trace-around, numbers-again, count-again, spacing-again}
+use Rattle.demands.proofs.Headers.{all-append, bytes-flat, bytes-of, bytes-numbers, bytes-zeros, size-zeros, bytes-cards, meaning-eq, size-binary, bytes-binary, binary-again, code-again, samples-again, interval-again, size-header, count-at, interval-at, trace-around, numbers-again, count-again, spacing-again}
 
 -- ## Samples
 
@@ -236,17 +236,6 @@ blank-same (b ∷ l) h = cons-eq (rw (ne-eqb b 0 (λ e. some (h .0 .0) e))) (bla
     some : {b : ℕ} → 0 < b → b ≡ 0 → ⊥
     some p e = omega arith
 
-bytes-cards : (l : List ℕ) → All (λ b. (0 < b) × (b < 256)) l → Bytes l
-bytes-cards [] h = tt
-bytes-cards (b ∷ l) h = (h .0 .1, bytes-cards l (h .1))
-
--- A meaning, by its three parts.
-meaning-eq : {a b : Meaning} → a .cards ≡ b .cards → a .binary ≡ b .binary → a .traces ≡ b .traces → a ≡ b
-meaning-eq {a} {b} p q r = ap₂ (λ (x : List ℕ) (y : List ℤ). made x y (a .traces)) p q ∙ ap (made (b .cards) (b .binary)) r
-  where
-    made : List ℕ → List ℤ → List Trace → Meaning
-    made x y z = record { cards = x; binary = y; traces = z }
-
 -- The codes are at most 4.
 code-high : (code : ℕ) → isCode code ≡ true → code ≤ 4
 code-high code c = leb-true code 4 (and-true (leb 1 code) (leb code 4) c .1)
@@ -296,3 +285,57 @@ module _ (code n i : ℕ) (m : Meaning) (p : Proper n i m) (c : isCode code ≡ 
 
   pub reel-interval : intervalOf (reelOf code m) ≡ i
   reel-interval = interval-again n i m p code (reelOf code m) reel-bytes 0 _ from-binary
+
+  reel-stride : strideOf (reelOf code m) ≡ stride n (sampleBytes code)
+  reel-stride = ap₂ (λ (k x : ℕ). stride k (sampleBytes x)) reel-samples reel-code
+
+  -- The bytes behind the headers are those of the traces.
+  behind : length (reelOf code m) - firstTrace ≡ length (m .traces) * stride n (sampleBytes code)
+  behind = omega (arith, reel-length)
+
+  whole : wholeIn (length (reelOf code m)) (stride n (sampleBytes code)) ≡ length (m .traces)
+  whole = ap (λ (k : ℕ). k / stride n (sampleBytes code)) behind ∙ mul-div-cancel (length (m .traces)) (omega arith)
+
+  over : overIn (length (reelOf code m)) (stride n (sampleBytes code)) ≡ 0
+  over = ap (λ (k : ℕ). k % stride n (sampleBytes code)) behind ∙ mul-mod-left (length (m .traces)) (stride n (sampleBytes code))
+
+  pub reel-traces : tracesOf (reelOf code m) ≡ length (m .traces)
+  reel-traces = ap (wholeIn (length (reelOf code m))) reel-stride ∙ whole
+
+  -- None of the causes 2 to 4 applies, nor 5 or 6, nor 7 to 9 to a trace.
+  headed : headerCauses code n i ≡ Fine
+  headed = rw (c, le-leb 1 n (p .n-low), le-leb n mostSamples (p .n-high), le-leb 1 i (p .i-low), le-leb i mostInterval (p .i-high))
+
+  traces-fine : firstOf (walk (traceCauses (reelOf code m) code n i) (stride n (sampleBytes code)) (length (m .traces)) firstTrace) ≡ Fine
+  traces-fine =
+      from-fine (reelOf code m) (traceWritten code) (Ready code n i) (stride n (sampleBytes code)) (size-trace code n i c) (traceCauses (reelOf code m) code n i)
+      (λ t at rest h e. trace-fine code n i c t h (reelOf code m) reel-bytes at rest e) (m .traces) firstTrace [] ready from-traces
+
+  behind-fine : behindCauses (reelOf code m) code n i (stride n (sampleBytes code)) ≡ Fine
+  unfolding behindCauses
+  behind-fine = rw (whole, over, le-ltb mostTraces (length (m .traces)) (p .few)) traces-fine
+
+  -- THEOREM. No cause of 1 to 9 applies to the reel.
+  pub reel-no-cause : causesOf (reelOf code m) ≡ Fine
+  unfolding causesOf
+  reel-no-cause =
+      let long : ltb (length (reelOf code m)) firstTrace ≡ false = le-ltb (length (reelOf code m)) firstTrace (omega (arith, reel-length)) in
+      rw (long, reel-code, reel-samples, reel-interval, headed) behind-fine
+
+  -- THEOREM. The reel means the meaning.
+  pub reel-again : meaningOf (reelOf code m) ≡ m
+  unfolding meaningOf cardText binaryNumbers
+  reel-again = meaning-eq cards binary traces
+    where
+      cards : map blank (bytesAt (reelOf code m) 0 cardBytes) ≡ m .cards
+      cards = ap (map blank) (from-bytes (m .cards) _ cardBytes (p .size) from-cards) ∙ blank-same (m .cards) (p .cards)
+
+      binary : map (fieldNumber (reelOf code m) 0) (otherThan 3225 binaryFields) ≡ m .binary
+      binary = binary-again n i m p code (reelOf code m) reel-bytes 0 _ from-binary
+
+      traces : meaningOf (reelOf code m) .traces ≡ m .traces
+      traces =
+          rw (reel-code, reel-samples, reel-interval, whole)
+          (from-walk (reelOf code m) (traceWritten code) (Ready code n i) (stride n (sampleBytes code)) (size-trace code n i c) (traceMeaning (reelOf code m) code n i) (λ (t : Trace). t)
+          (λ t at rest h e. trace-again code n i c t h (reelOf code m) reel-bytes at rest e) (m .traces) firstTrace [] ready from-traces
+          ∙ map-id (m .traces))

@@ -37,7 +37,7 @@ use Rattle.reel_theorems.proofs.Ranges.{Fit, Some, fit-append, size-num
 
 -- ## Fields
 
-size-field : (tag : ℕ) (l : List ℕ) → length (field tag l) ≡ 3 + length l
+pub size-field : (tag : ℕ) (l : List ℕ) → length (field tag l) ≡ 3 + length l
 unfolding field
 size-field tag l = omega arith
 

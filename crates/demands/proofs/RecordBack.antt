@@ -1,0 +1,151 @@
+-- # The record of a meaning is valid and holds it again
+--
+-- The record of a proper meaning has the length that document 01 sets, N, the interval and T in it are those of the meaning, no cause of
+-- 12 and 13 applies to it, and it holds that meaning. Nothing else is assumed.
+use mathlib.Core.Path.{_≡_, refl, sym, ap, ap₂, _∙_, subst}
+use mathlib.Core.List.{List, [], _∷_, _++_, map, map-id, append-nil, append-assoc}
+use mathlib.Core.Bool.{Bool, true, false, not, _&&_}
+use Prim.Native.Nat.{ℕ, zero, suc, _+_, _-_, _*_, _^_, _≤_, _<_}
+use native.Mathlib.Nat.{mul-comm, not-suc-le-zero}
+use native.Mathlib.Omega.{arith}
+use borrow.Author.Tests.{le-ltb, le-leb, eq-eqb, ne-eqb}
+use lib.Dec.{eqb, leb, ltb}
+use lib.ListN.{length, getD, length-append}
+use lib.IntN.{ℤ, pos}
+use Rattle.numbers.specs.Walk.{pick, walk, flat, bytesAt}
+use Rattle.numbers.specs.BigEndian.{number, bytesOf}
+use Rattle.numbers.specs.Cause.{refuseIf, then, firstOf}
+use Rattle.numbers.specs.declared.Check.{Check}
+use Rattle.numbers.specs.declared.Check.the-variants.{Fine}
+use Rattle.numbers.proofs.WalkLaws.{All, cons-eq, flat-size}
+use Rattle.numbers.proofs.ByteLaws.{Bytes}
+use Rattle.sample.specs.Pair.{pairOf, valueOf, isCanonical}
+use Rattle.sample.specs.Calls.{pairLength, pairIn}
+use Rattle.sample.specs.declared.Pair.{Pair}
+use Rattle.sample_theorems.proofs.Pairs.{pair-value, bytes-pair}
+use Rattle.reel.specs.Layout.{cardBytes, binaryFields, traceWidths, traceFields, fieldNumber, word}
+use Rattle.reel.specs.Causes.{mostSamples, mostTraces, mostInterval, within}
+use Rattle.reel.specs.Meaning.{otherThan, Trace, Meaning}
+use Rattle.record.specs.Record.{field, numberBytes, binaryBytes, valueBytes, samplesField, traceBytes, recordOf, recordLength}
+use Rattle.record.specs.Form.{isField, fieldCause, cardCause, cardsCauses, heldInterval, heldSamples, heldCode, numberCauses, binaryCauses, firstField, heldStride, pairCause, samplesCauses, traceForm, tagsFrom, heldTraces, endCauses, bodyCauses, formCauses}
+use Rattle.record.specs.Held.{heldValue, heldTrace, heldBy}
+use Rattle.reel_theorems.proofs.Ranges.{length-bytes}
+use Rattle.reel_theorems.proofs.Same.{size-field, trace-eq}
+use Rattle.demands.proofs.Proper.{ProperTrace, Proper}
+use Rattle.demands.proofs.From.{From, from-start, from-at, from-length, from-parts, from-next, from-bytes, from-byte, from-behind, from-walk, from-fine, from-number}
+use Rattle.demands.proofs.Headers.{all-append, bytes-flat, bytes-of, bytes-numbers, bytes-cards, size-binary, bytes-binary, binary-again, code-again, samples-again, interval-again, size-header, numbers-again, count-again, spacing-again, meaning-eq}
+
+-- ## Fields
+
+-- A field of bytes is bytes.
+bytes-field : (tag : ℕ) (l : List ℕ) → tag < 256 → Bytes l → Bytes (field tag l)
+unfolding field
+bytes-field tag l h b = (h, all-append (λ x. x < 256) (bytesOf 2 (length l)) l (bytes-of 2 (length l)) b)
+
+-- A field with a content of `size` bytes that stands in a list of bytes.
+module _ (s : List ℕ) (tag size : ℕ) (l : List ℕ) (e : length l ≡ size) (at : ℕ) (rest : List ℕ) (f : From s at (field tag l ++ rest)) where
+  -- Its tag is at its place.
+  tag-is : getD s at 0 ≡ tag
+  unfolding field
+  tag-is = from-byte tag _ f
+
+  from-size : From s (at + 1) (bytesOf 2 (length l) ++ (l ++ rest))
+  unfolding field
+  from-size = from-parts (bytesOf 2 (length l)) l rest (from-next (tag ∷ []) _ 1 refl f)
+
+  -- Its content stands three bytes behind its place,
+  from-content : From s (at + 3) (l ++ rest)
+  from-content = from-at (omega arith) (from-next (bytesOf 2 (length l)) _ 2 (length-bytes 2 (length l)) from-size)
+
+  -- and the rest behind the content.
+  from-rest : From s (at + (3 + size)) rest
+  from-rest = from-at (omega arith) (from-next l rest size e from-content)
+
+  -- No cause of 12 applies to it, where two bytes hold its length.
+  field-fine : size < 256 ^ 2 → fieldCause s tag size at ≡ Fine
+  field-fine h =
+      let long : at + (3 + size) ≤ length s = from-rest .inside in
+      let k : word s (at + 1) ≡ size = from-number 2 (length l) (l ++ rest) (rw e h) from-size ∙ e in
+      rw (le-leb (at + (3 + size)) (length s) long, eq-eqb (getD s at 0) tag tag-is, eq-eqb (word s (at + 1)) size k)
+
+-- Two checks of which neither finds anything.
+both-fine : {c d : Check} → c ≡ Fine → d ≡ Fine → then c d ≡ Fine
+both-fine {c} {d} p q = ap (λ (x : Check). then x d) p ∙ q
+
+-- ## Samples
+
+-- The pair of a value with a canonical pair is found in its bytes.
+pair-again : (s : List ℕ) (v : ℤ) (at : ℕ) (rest : List ℕ) → isCanonical (pairOf v) ≡ true → From s at (valueBytes v ++ rest) → pairIn (bytesAt s at pairLength) ≡ pairOf v
+pair-again s v at rest h f = ap pairIn (from-bytes (valueBytes v) rest pairLength refl f) ∙ bytes-pair (pairOf v) h
+
+-- ## Traces
+
+module _ (n i : ℕ) (t : Trace) (h : ProperTrace n i t) where
+  size-samples : length (flat (map valueBytes (t .values))) ≡ pairLength * n
+  size-samples =
+      flat-size valueBytes (λ v. isCanonical (pairOf v) ≡ true) pairLength (λ v p. refl) (t .values) (h .canonical)
+      ∙ ap (λ (k : ℕ). k * pairLength) (h .size) ∙ mul-comm n pairLength
+
+  -- A trace has the bytes that document 01 sets.
+  size-trace : length (traceBytes t) ≡ heldStride n
+  unfolding traceBytes samplesField
+  size-trace = simp (length-append, size-field) (omega (arith, size-header n i t h, size-samples))
+
+  bytes-trace : Bytes (traceBytes t)
+  unfolding traceBytes samplesField
+  bytes-trace =
+      all-append (λ b. b < 256) (field 3 (numberBytes traceWidths (t .numbers))) (field 4 (flat (map valueBytes (t .values))))
+      (bytes-field 3 (numberBytes traceWidths (t .numbers)) (omega arith) (bytes-numbers traceWidths (t .numbers)))
+      (bytes-field 4 (flat (map valueBytes (t .values))) (omega arith) (bytes-flat valueBytes (λ v. isCanonical (pairOf v) ≡ true) (λ v p. bytes-value v) (t .values) (h .canonical)))
+    where
+      bytes-value : (v : ℤ) → Bytes (valueBytes v)
+      bytes-value v = all-append (λ b. b < 256) (bytesOf 2 _) (bytesOf 4 _) (bytes-of 2 _) (bytes-of 4 _)
+
+  -- A trace that stands in a list of bytes.
+  module _ (s : List ℕ) (b : Bytes s) (at : ℕ) (rest : List ℕ) (f : From s at (traceBytes t ++ rest)) where
+    from-header : From s at (field 3 (numberBytes traceWidths (t .numbers)) ++ (field 4 (flat (map valueBytes (t .values))) ++ rest))
+    unfolding traceBytes samplesField
+    from-header = from-parts (field 3 (numberBytes traceWidths (t .numbers))) (field 4 (flat (map valueBytes (t .values)))) rest f
+
+    from-numbers : From s (at + 3) (numberBytes traceWidths (t .numbers) ++ (field 4 (flat (map valueBytes (t .values))) ++ rest))
+    from-numbers = from-content s 3 180 _ (size-header n i t h) at _ from-header
+
+    from-field : From s (at + 183) (field 4 (flat (map valueBytes (t .values))) ++ rest)
+    from-field = from-rest s 3 180 _ (size-header n i t h) at _ from-header
+
+    from-samples : From s (at + 183 + 3) (flat (map valueBytes (t .values)) ++ rest)
+    from-samples = from-content s 4 (pairLength * n) _ size-samples (at + 183) rest from-field
+
+    -- It begins with tag 03.
+    trace-tag : getD s at 0 ≡ 3
+    trace-tag = tag-is s 3 180 _ (size-header n i t h) at _ from-header
+
+    -- Neither 12 nor 13 applies to its samples,
+    samples-fine : n ≤ mostSamples → samplesCauses s n (at + 183) ≡ Fine
+    unfolding samplesCauses
+    samples-fine few =
+        both-fine (field-fine s 4 (pairLength * n) _ size-samples (at + 183) rest from-field (omega arith))
+        (ap (λ (k : ℕ). firstOf (walk (pairCause s) pairLength k (at + 183 + 3))) (sym (h .size))
+        ∙ from-fine s valueBytes (λ v. isCanonical (pairOf v) ≡ true) pairLength (λ v p. refl) (pairCause s)
+        (λ v p r q e. ap (λ (x : Bool). refuseIf (not x) 13 p) (ap isCanonical (pair-again s v p r q e) ∙ q)) (t .values) (at + 183 + 3) rest (h .canonical) from-samples)
+
+    -- nor to the trace.
+    trace-fine : n ≤ mostSamples → traceForm s n i at ≡ Fine
+    unfolding traceForm
+    trace-fine few =
+        let a : word s (at + 117) ≡ n = ap (word s) (omega arith) ∙ count-again n i t h s b (at + 3) _ from-numbers in
+        let c : word s (at + 119) ≡ i = ap (word s) (omega arith) ∙ spacing-again n i t h s b (at + 3) _ from-numbers in
+        both-fine (field-fine s 3 180 _ (size-header n i t h) at _ from-header (omega arith))
+        (rw (eq-eqb (word s (at + 117)) n a, eq-eqb (word s (at + 119)) i c) (samples-fine few))
+
+    -- It holds the trace.
+    trace-again : heldTrace s n at ≡ t
+    unfolding heldTrace
+    trace-again = trace-eq (numbers-again n i t h s b (at + 3) _ from-numbers) values
+      where
+        values : walk (heldValue s) pairLength n (at + 186) ≡ t .values
+        values =
+            ap (λ (k : ℕ). walk (heldValue s) pairLength k (at + 186)) (sym (h .size))
+            ∙ from-walk s valueBytes (λ v. isCanonical (pairOf v) ≡ true) pairLength (λ v p. refl) (heldValue s) (λ v. v)
+            (λ v p r q e. ap valueOf (pair-again s v p r q e) ∙ pair-value v) (t .values) (at + 186) rest (h .canonical) (from-at (omega arith) from-samples)
+            ∙ map-id (t .values)
