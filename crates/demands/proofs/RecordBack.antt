@@ -149,3 +149,96 @@ module _ (n i : ℕ) (t : Trace) (h : ProperTrace n i t) where
             ∙ from-walk s valueBytes (λ v. isCanonical (pairOf v) ≡ true) pairLength (λ v p. refl) (heldValue s) (λ v. v)
             (λ v p r q e. ap valueOf (pair-again s v p r q e) ∙ pair-value v) (t .values) (at + 186) rest (h .canonical) (from-at (omega arith) from-samples)
             ∙ map-id (t .values)
+
+-- As many tags 03 follow each other as there are traces before another tag, where no more are counted than the most.
+tags-again : (n i : ℕ) (s : List ℕ) → Bytes s → (most : ℕ) (l : List Trace) (at tag : ℕ) (rest : List ℕ) → All (ProperTrace n i) l → length l ≤ most
+    → eqb tag 3 ≡ false → From s at (flat (map traceBytes l) ++ (tag ∷ rest)) → tagsFrom most s (heldStride n) at ≡ length l
+unfolding tagsFrom
+tags-again n i s b zero [] at tag rest h few other f = refl
+tags-again n i s b zero (t ∷ l) at tag rest h few other f = absurd (not-suc-le-zero few)
+tags-again n i s b (suc most) [] at tag rest h few other f = rw (from-byte tag rest f, other)
+tags-again n i s b (suc most) (t ∷ l) at tag rest h few other f =
+    let e = from-parts (traceBytes t) (flat (map traceBytes l)) (tag ∷ rest) f in
+    let next = from-next (traceBytes t) (flat (map traceBytes l) ++ (tag ∷ rest)) (heldStride n) (size-trace n i t (h .0)) e in
+    rw (trace-tag n i t (h .0) s b at _ e) (ap suc (tags-again n i s b most l (at + heldStride n) tag rest (h .1) (omega arith) other next))
+
+-- ## Cards
+
+-- A list is its elements, one behind the other.
+flat-single : (l : List ℕ) → flat (map (λ b. b ∷ []) l) ≡ l
+flat-single [] = refl
+flat-single (b ∷ l) = ap (λ (k : List ℕ). b ∷ k) (flat-single l)
+
+-- 13 applies to no card byte other than 00.
+cards-fine : (s l : List ℕ) (k at : ℕ) (rest : List ℕ) → length l ≡ k → All (λ b. (0 < b) × (b < 256)) l → From s at (l ++ rest)
+    → firstOf (walk (cardCause s) 1 k at) ≡ Fine
+cards-fine s l k at rest e h f =
+    ap (λ (x : ℕ). firstOf (walk (cardCause s) 1 x at)) (sym e)
+    ∙ from-fine s (λ b. b ∷ []) (λ b. (0 < b) × (b < 256)) 1 (λ b p. refl) (cardCause s) card l at rest h
+    (subst (λ (x : List ℕ). From s at (x ++ rest)) (sym (flat-single l)) f)
+  where
+    some : {b : ℕ} → 0 < b → b ≡ 0 → ⊥
+    some p e = omega arith
+
+    card : (b p : ℕ) (r : List ℕ) → (0 < b) × (b < 256) → From s p ((b ∷ []) ++ r) → cardCause s p ≡ Fine
+    card b p r q e = rw (from-byte b r e, ne-eqb b 0 (λ z. some (q .0) z))
+
+-- ## Records
+
+module _ (n i : ℕ) (m : Meaning) (p : Proper n i m) where
+  size-traces : length (flat (map traceBytes (m .traces))) ≡ length (m .traces) * heldStride n
+  size-traces = flat-size traceBytes (ProperTrace n i) (heldStride n) (size-trace n i) (m .traces) (p .traces)
+
+  -- THEOREM. A record of T traces of N samples is 3273 + T × (186 + 6N) bytes.
+  pub record-length : length (recordOf m) ≡ recordLength (length (m .traces)) n
+  unfolding recordOf
+  record-length =
+      simp (length-append, size-field) (omega (arith, p .size, size-binary n i m p 0, size-traces, length-bytes 4 (length (m .traces))))
+
+  -- THEOREM. The record is a list of bytes.
+  pub record-bytes : Bytes (recordOf m)
+  unfolding recordOf
+  record-bytes =
+      let byte : ℕ → Type 0 = λ b. b < 256 in
+      let count = field 5 (bytesOf 4 (length (m .traces))) in
+      let traces = flat (map traceBytes (m .traces)) in
+      all-append byte (field 1 (m .cards)) (field 2 (binaryBytes 0 (m .binary)) ++ (traces ++ count)) (bytes-field 1 (m .cards) (omega arith) (bytes-cards (m .cards) (p .cards)))
+      (all-append byte (field 2 (binaryBytes 0 (m .binary))) (traces ++ count) (bytes-field 2 (binaryBytes 0 (m .binary)) (omega arith) (bytes-binary n i m p 0))
+      (all-append byte traces count (bytes-flat traceBytes (ProperTrace n i) (bytes-trace n i) (m .traces) (p .traces)) (bytes-field 5 (bytesOf 4 (length (m .traces))) (omega arith) (bytes-of 4 (length (m .traces))))))
+
+  -- Where its parts stand.
+  from-front : From (recordOf m) 0 (field 1 (m .cards) ++ (field 2 (binaryBytes 0 (m .binary)) ++ (flat (map traceBytes (m .traces)) ++ field 5 (bytesOf 4 (length (m .traces))))))
+  unfolding recordOf
+  from-front = from-start (recordOf m)
+
+  from-cards : From (recordOf m) 3 (m .cards ++ (field 2 (binaryBytes 0 (m .binary)) ++ (flat (map traceBytes (m .traces)) ++ field 5 (bytesOf 4 (length (m .traces))))))
+  from-cards = from-content (recordOf m) 1 3200 (m .cards) (p .size) 0 _ from-front
+
+  from-second : From (recordOf m) 3203 (field 2 (binaryBytes 0 (m .binary)) ++ (flat (map traceBytes (m .traces)) ++ field 5 (bytesOf 4 (length (m .traces)))))
+  from-second = from-rest (recordOf m) 1 3200 (m .cards) (p .size) 0 _ from-front
+
+  from-binary : From (recordOf m) 3206 (binaryBytes 0 (m .binary) ++ (flat (map traceBytes (m .traces)) ++ field 5 (bytesOf 4 (length (m .traces)))))
+  from-binary = from-content (recordOf m) 2 60 (binaryBytes 0 (m .binary)) (size-binary n i m p 0) 3203 _ from-second
+
+  from-traces : From (recordOf m) firstField (flat (map traceBytes (m .traces)) ++ field 5 (bytesOf 4 (length (m .traces))))
+  from-traces = from-rest (recordOf m) 2 60 (binaryBytes 0 (m .binary)) (size-binary n i m p 0) 3203 _ from-second
+
+  from-end : From (recordOf m) (firstField + length (m .traces) * heldStride n) (field 5 (bytesOf 4 (length (m .traces))) ++ [])
+  from-end =
+      rw append-nil
+      (from-behind (recordOf m) traceBytes (ProperTrace n i) (heldStride n) (size-trace n i) (m .traces) firstField _ (p .traces) from-traces)
+
+  -- THEOREM. N, the interval and T in the record are those of the meaning.
+  pub record-samples : heldSamples (recordOf m) ≡ n
+  record-samples = samples-again n i m p 0 (recordOf m) record-bytes 6 _ from-binary
+
+  pub record-interval : heldInterval (recordOf m) ≡ i
+  record-interval = interval-again n i m p 0 (recordOf m) record-bytes 6 _ from-binary
+
+  pub record-traces : heldTraces (recordOf m) n ≡ length (m .traces)
+  unfolding field
+  record-traces = tags-again n i (recordOf m) record-bytes mostTraces (m .traces) firstField 5 _ (p .traces) (p .few) refl from-traces
+
+  -- The format code in the record is 0.
+  record-code : heldCode (recordOf m) ≡ 0
+  record-code = code-again n i m p 0 (recordOf m) record-bytes 6 _ from-binary (omega arith)
