@@ -242,3 +242,61 @@ module _ (n i : ℕ) (m : Meaning) (p : Proper n i m) where
   -- The format code in the record is 0.
   record-code : heldCode (recordOf m) ≡ 0
   record-code = code-again n i m p 0 (recordOf m) record-bytes 6 _ from-binary (omega arith)
+
+  -- Neither 12 nor 13 applies to its cards, its binary fields, its traces and its end.
+  front-fine : cardsCauses (recordOf m) ≡ Fine
+  unfolding cardsCauses
+  front-fine =
+      both-fine (field-fine (recordOf m) 1 3200 (m .cards) (p .size) 0 _ from-front (omega arith))
+      (cards-fine (recordOf m) (m .cards) 3200 3 _ (p .size) (p .cards) from-cards)
+
+  limits-fine : numberCauses i n 0 ≡ Fine
+  limits-fine = rw (le-leb 1 i (p .i-low), le-leb i mostInterval (p .i-high), le-leb 1 n (p .n-low), le-leb n mostSamples (p .n-high))
+
+  second-fine : binaryCauses (recordOf m) ≡ Fine
+  unfolding binaryCauses
+  second-fine =
+      both-fine (field-fine (recordOf m) 2 60 (binaryBytes 0 (m .binary)) (size-binary n i m p 0) 3203 _ from-second (omega arith))
+      (rw (record-interval, record-samples, record-code) limits-fine)
+
+  traces-fine : firstOf (walk (traceForm (recordOf m) n i) (heldStride n) (length (m .traces)) firstField) ≡ Fine
+  traces-fine =
+      from-fine (recordOf m) traceBytes (ProperTrace n i) (heldStride n) (size-trace n i) (traceForm (recordOf m) n i)
+      (λ t at rest h e. trace-fine n i t h (recordOf m) record-bytes at rest e (p .n-high)) (m .traces) firstField _ (p .traces) from-traces
+
+  end-fine : endCauses (recordOf m) (length (m .traces)) (firstField + length (m .traces) * heldStride n) ≡ Fine
+  end-fine =
+      let t = length (m .traces) in
+      let at = firstField + t * heldStride n in
+      let count : number (bytesAt (recordOf m) (at + 3) 4) ≡ t =
+      from-number 4 t [] (omega (arith, p .few)) (from-content (recordOf m) 5 4 (bytesOf 4 t) (length-bytes 4 t) at [] from-end) in
+      let last : length (recordOf m) ≤ at + 7 = omega (arith, record-length) in
+      both-fine (field-fine (recordOf m) 5 4 (bytesOf 4 t) (length-bytes 4 t) at [] from-end (omega arith))
+      (rw (eq-eqb (number (bytesAt (recordOf m) (at + 3) 4)) t count, le-ltb (at + 7) (length (recordOf m)) last))
+
+  body-fine : bodyCauses (recordOf m) n i (length (m .traces)) ≡ Fine
+  unfolding bodyCauses
+  body-fine = both-fine traces-fine end-fine
+
+  -- THEOREM. The record is valid: neither 12 nor 13 applies to it.
+  pub record-no-cause : formCauses (recordOf m) ≡ Fine
+  unfolding formCauses
+  record-no-cause = both-fine front-fine (both-fine second-fine (rw (record-samples, record-interval, record-traces) body-fine))
+
+  -- THEOREM. The record holds the meaning.
+  pub record-again : heldBy (recordOf m) ≡ m
+  unfolding heldBy
+  record-again = meaning-eq cards binary traces
+    where
+      cards : bytesAt (recordOf m) 3 cardBytes ≡ m .cards
+      cards = from-bytes (m .cards) _ cardBytes (p .size) from-cards
+
+      binary : map (fieldNumber (recordOf m) 6) (otherThan 3225 binaryFields) ≡ m .binary
+      binary = binary-again n i m p 0 (recordOf m) record-bytes 6 _ from-binary
+
+      traces : heldBy (recordOf m) .traces ≡ m .traces
+      traces =
+          rw (record-samples, record-traces)
+          (from-walk (recordOf m) traceBytes (ProperTrace n i) (heldStride n) (size-trace n i) (heldTrace (recordOf m) n) (λ (t : Trace). t)
+          (λ t at rest h e. trace-again n i t h (recordOf m) record-bytes at rest e) (m .traces) firstField _ (p .traces) from-traces
+          ∙ map-id (m .traces))
