@@ -1,7 +1,7 @@
 -- What stands in a list of bytes from an offset on: the bytes, the encodings and the header numbers there. Assumes nothing.
 use mathlib.Core.Path.{_≡_, refl, sym, ap, _∙_, subst}
 use mathlib.Core.List.{List, [], _∷_, _++_, map, append-assoc}
-use Prim.Native.Nat.{ℕ, zero, suc, _+_, _-_, _*_, _^_, _≤_, _<_}
+use Prim.Native.Nat.{ℕ, _+_, _-_, _*_, _^_, _≤_, _<_}
 use native.Mathlib.Nat.{add-zero}
 use native.Mathlib.Omega.{arith}
 use lib.ListN.{length, getD, take, drop, length-append, length-drop}
@@ -11,7 +11,7 @@ use lib.Signed.{mag}
 use Rattle.numbers.specs.Walk.{walk, flat, bytesAt}
 use Rattle.numbers.specs.BigEndian.{number, bytesOf}
 use Rattle.numbers.specs.TwosComplement.{signedOf, bitsOf}
-use Rattle.numbers.specs.Cause.{then, firstOf}
+use Rattle.numbers.specs.Cause.{firstOf}
 use Rattle.numbers.specs.declared.Check.{Check}
 use Rattle.numbers.specs.declared.Check.the-variants.{Fine}
 use Rattle.numbers.proofs.WalkLaws.{All, cons-eq, flat-size, bytes-part}

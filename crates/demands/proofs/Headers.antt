@@ -2,12 +2,12 @@
 -- Assumes nothing.
 use mathlib.Core.Path.{_≡_, refl, sym, ap, ap₂, _∙_, subst}
 use mathlib.Core.List.{List, [], _∷_, _++_, map, append-assoc}
-use Prim.Native.Nat.{ℕ, zero, suc, _+_, _-_, _*_, _/_, _%_, _^_, _≤_, _<_}
+use Prim.Native.Nat.{ℕ, zero, suc, _+_, _-_, _*_, _^_, _<_}
 use native.Mathlib.Omega.{arith}
 use lib.ListN.{length, getD, take, drop, replicate, length-append, length-replicate, take-append-drop}
 use lib.IntN.{ℤ, pos}
-use Rattle.numbers.specs.Walk.{flat, bytesAt}
-use Rattle.numbers.specs.BigEndian.{number, bytesOf}
+use Rattle.numbers.specs.Walk.{flat}
+use Rattle.numbers.specs.BigEndian.{bytesOf}
 use Rattle.numbers.specs.TwosComplement.{signedOf, bitsOf}
 use Rattle.numbers.proofs.WalkLaws.{All}
 use Rattle.numbers.proofs.ByteLaws.{Bytes, number-at}
@@ -15,11 +15,11 @@ use Rattle.numbers.proofs.SignLaws.{bits-signed}
 use Rattle.reel.specs.Layout.{fieldsFrom, binaryWidths, binaryFields, traceWidths, traceFields, fieldNumber, word}
 use Rattle.reel.specs.Meaning.{otherThan, Trace, Meaning}
 use Rattle.record.specs.Record.{numberBytes, binaryBytes}
-use Rattle.record.proofs.NumberLaws.{total, numbers-append}
+use Rattle.record.proofs.NumberLaws.{numbers-append}
 use Rattle.record.proofs.HeaderLaws.{binary-front, binary-back, binary-widths, trace-front, trace-back, countField, intervalField, counts, parts}
 use Rattle.reel_theorems.proofs.Ranges.{Fit, length-bytes, size-numbers}
 use Rattle.demands.proofs.Proper.{ProperTrace, Proper}
-use Rattle.demands.proofs.From.{From, from-at, from-next, from-parts, from-number, from-header, from-numbers}
+use Rattle.demands.proofs.From.{From, from-at, from-next, from-number, from-header, from-numbers}
 
 -- ## Lists of bytes
 
@@ -50,6 +50,7 @@ pub bytes-zeros : (k : ℕ) → Bytes (replicate k 0)
 bytes-zeros zero = tt
 bytes-zeros (suc k) = (omega arith, bytes-zeros k)
 
+-- There are as many zeros as were asked for.
 pub size-zeros : (k : ℕ) → length (replicate {A = ℕ} k 0) ≡ k
 size-zeros k = length-replicate {A = ℕ} k 0
 
@@ -80,11 +81,12 @@ fit-length [] (z ∷ zs) h = absurd h
 fit-length (w ∷ ws) [] h = absurd h
 fit-length (w ∷ ws) (z ∷ zs) h = ap suc (fit-length ws zs (h .2))
 
--- The eighth of the 26 binary numbers is field 3221, the sixth field 3217.
+-- The eighth of the 26 binary numbers is field 3221.
 eighth : (s : List ℕ) (start : ℕ) → getD (map (fieldNumber s start) (otherThan 3225 binaryFields)) 7 (pos 0) ≡ signedOf 16 (word s (start + 3220))
 unfolding binaryFields binaryWidths
 eighth s start = refl
 
+-- The sixth of them is field 3217.
 sixth : (s : List ℕ) (start : ℕ) → getD (map (fieldNumber s start) (otherThan 3225 binaryFields)) 5 (pos 0) ≡ signedOf 16 (word s (start + 3216))
 unfolding binaryFields binaryWidths
 sixth s start = refl
@@ -118,12 +120,15 @@ module _ (n i : ℕ) (m : Meaning) (p : Proper n i m) (code : ℕ) where
 
   -- A binary header that stands in a list of bytes, where byte number 1 would stand at the place `start`.
   module _ (s : List ℕ) (b : Bytes s) (start : ℕ) (rest : List ℕ) (f : From s (start + 3200) (binaryBytes code (m .binary) ++ rest)) where
+    -- The bytes before the format code stand first,
     from-front : From s (start + 3200) (numberBytes binary-front (take 9 (m .binary)) ++ (bytesOf 2 code ++ (numberBytes binary-back (drop 9 (m .binary)) ++ rest)))
     from-front = subst (From s (start + 3200)) (ap (λ (l : List ℕ). l ++ rest) binary-parts ∙ simp append-assoc) f
 
+    -- then its two,
     from-code : From s (start + 3224) (bytesOf 2 code ++ (numberBytes binary-back (drop 9 (m .binary)) ++ rest))
     from-code = from-at (omega (arith, parts .0)) (from-header binary-front (take 9 (m .binary)) _ (p .fit-front) from-front)
 
+    -- then those behind it.
     from-back : From s (start + 3226) (numberBytes binary-back (drop 9 (m .binary)) ++ rest)
     from-back = from-at (omega arith) (from-next (bytesOf 2 code) _ 2 (length-bytes 2 code) from-code)
 
@@ -138,20 +143,22 @@ module _ (n i : ℕ) (m : Meaning) (p : Proper n i m) (code : ℕ) where
     pub code-again : code < 256 ^ 2 → word s (start + 3224) ≡ code
     code-again h = from-number 2 code _ h from-code
 
-    -- Field 3221 is N, and field 3217 the interval.
+    -- Field 3221 is N.
     pub samples-again : word s (start + 3220) ≡ n
     samples-again = word-is s b (start + 3220) n (sym (eighth s start) ∙ ap (λ (l : List ℤ). getD l 7 (pos 0)) binary-again ∙ p .n-is)
 
+    -- Field 3217 is the interval.
     pub interval-again : word s (start + 3216) ≡ i
     interval-again = word-is s b (start + 3216) i (sym (sixth s start) ∙ ap (λ (l : List ℤ). getD l 5 (pos 0)) binary-again ∙ p .i-is)
 
 -- ## A trace's header
 
--- The 39th of the 71 numbers is field 115, the 40th field 117.
+-- The 39th of the 71 numbers is field 115.
 pub count-at : (s : List ℕ) (at : ℕ) → getD (map (fieldNumber s at) traceFields) 38 (pos 0) ≡ signedOf 16 (word s (at + 114))
 unfolding traceFields traceWidths
 count-at s at = refl
 
+-- The 40th of them is field 117.
 pub interval-at : (s : List ℕ) (at : ℕ) → getD (map (fieldNumber s at) traceFields) 39 (pos 0) ≡ signedOf 16 (word s (at + 116))
 unfolding traceFields traceWidths
 interval-at s at = refl
@@ -176,9 +183,10 @@ module _ (n i : ℕ) (t : Trace) (p : ProperTrace n i t) where
     unfolding traceFields
     numbers-again = from-numbers at 1 traceWidths (t .numbers) rest (omega arith) (omega arith) (p .fit) f
 
-    -- Field 115 is N, and field 117 the interval.
+    -- Field 115 is N.
     pub count-again : word s (at + 114) ≡ n
     count-again = word-is s b (at + 114) n (sym (count-at s at) ∙ ap (λ (l : List ℤ). getD l 38 (pos 0)) numbers-again ∙ p .n-is)
 
+    -- Field 117 is the interval.
     pub spacing-again : word s (at + 116) ≡ i
     spacing-again = word-is s b (at + 116) i (sym (interval-at s at) ∙ ap (λ (l : List ℤ). getD l 39 (pos 0)) numbers-again ∙ p .i-is)

@@ -2,37 +2,36 @@
 --
 -- The record of a proper meaning has the length that document 01 sets, N, the interval and T in it are those of the meaning, no cause of
 -- 12 and 13 applies to it, and it holds that meaning. Nothing else is assumed.
-use mathlib.Core.Path.{_≡_, refl, sym, ap, ap₂, _∙_, subst}
-use mathlib.Core.List.{List, [], _∷_, _++_, map, map-id, append-nil, append-assoc}
-use mathlib.Core.Bool.{Bool, true, false, not, _&&_}
+use mathlib.Core.Path.{_≡_, refl, sym, ap, _∙_, subst}
+use mathlib.Core.List.{List, [], _∷_, _++_, map, map-id, append-nil}
+use mathlib.Core.Bool.{Bool, true, false, not}
 use Prim.Native.Nat.{ℕ, zero, suc, _+_, _-_, _*_, _^_, _≤_, _<_}
 use native.Mathlib.Nat.{mul-comm, not-suc-le-zero}
 use native.Mathlib.Omega.{arith}
 use borrow.Author.Tests.{le-ltb, le-leb, eq-eqb, ne-eqb}
-use lib.Dec.{eqb, leb, ltb}
+use lib.Dec.{eqb}
 use lib.ListN.{length, getD, length-append}
-use lib.IntN.{ℤ, pos}
-use Rattle.numbers.specs.Walk.{pick, walk, flat, bytesAt}
+use lib.IntN.{ℤ}
+use Rattle.numbers.specs.Walk.{walk, flat, bytesAt}
 use Rattle.numbers.specs.BigEndian.{number, bytesOf}
 use Rattle.numbers.specs.Cause.{refuseIf, then, firstOf}
 use Rattle.numbers.specs.declared.Check.{Check}
 use Rattle.numbers.specs.declared.Check.the-variants.{Fine}
-use Rattle.numbers.proofs.WalkLaws.{All, cons-eq, flat-size}
+use Rattle.numbers.proofs.WalkLaws.{All, flat-size}
 use Rattle.numbers.proofs.ByteLaws.{Bytes}
 use Rattle.sample.specs.Pair.{pairOf, valueOf, isCanonical}
 use Rattle.sample.specs.Calls.{pairLength, pairIn}
-use Rattle.sample.specs.declared.Pair.{Pair}
 use Rattle.sample_theorems.proofs.Pairs.{pair-value, bytes-pair}
-use Rattle.reel.specs.Layout.{cardBytes, binaryFields, traceWidths, traceFields, fieldNumber, word}
-use Rattle.reel.specs.Causes.{mostSamples, mostTraces, mostInterval, within}
+use Rattle.reel.specs.Layout.{cardBytes, binaryFields, traceWidths, fieldNumber, word}
+use Rattle.reel.specs.Causes.{mostSamples, mostTraces, mostInterval}
 use Rattle.reel.specs.Meaning.{otherThan, Trace, Meaning}
 use Rattle.record.specs.Record.{field, numberBytes, binaryBytes, valueBytes, samplesField, traceBytes, recordOf, recordLength}
-use Rattle.record.specs.Form.{isField, fieldCause, cardCause, cardsCauses, heldInterval, heldSamples, heldCode, numberCauses, binaryCauses, firstField, heldStride, pairCause, samplesCauses, traceForm, tagsFrom, heldTraces, endCauses, bodyCauses, formCauses}
+use Rattle.record.specs.Form.{fieldCause, cardCause, cardsCauses, heldInterval, heldSamples, heldCode, numberCauses, binaryCauses, firstField, heldStride, pairCause, samplesCauses, traceForm, tagsFrom, heldTraces, endCauses, bodyCauses, formCauses}
 use Rattle.record.specs.Held.{heldValue, heldTrace, heldBy}
 use Rattle.reel_theorems.proofs.Ranges.{length-bytes}
 use Rattle.reel_theorems.proofs.Same.{size-field, trace-eq}
 use Rattle.demands.proofs.Proper.{ProperTrace, Proper}
-use Rattle.demands.proofs.From.{From, from-start, from-at, from-length, from-parts, from-next, from-bytes, from-byte, from-behind, from-walk, from-fine, from-number}
+use Rattle.demands.proofs.From.{From, from-start, from-at, from-parts, from-next, from-bytes, from-byte, from-behind, from-walk, from-fine, from-number}
 use Rattle.demands.proofs.Headers.{all-append, bytes-flat, bytes-of, bytes-numbers, bytes-cards, size-binary, bytes-binary, binary-again, code-again, samples-again, interval-again, size-header, numbers-again, count-again, spacing-again, meaning-eq}
 
 -- ## Fields
@@ -49,6 +48,7 @@ module _ (s : List ℕ) (tag size : ℕ) (l : List ℕ) (e : length l ≡ size) 
   unfolding field
   tag-is = from-byte tag _ f
 
+  -- Its length stands behind the tag.
   from-size : From s (at + 1) (bytesOf 2 (length l) ++ (l ++ rest))
   unfolding field
   from-size = from-parts (bytesOf 2 (length l)) l rest (from-next (tag ∷ []) _ 1 refl f)
@@ -81,6 +81,7 @@ pair-again s v at rest h f = ap pairIn (from-bytes (valueBytes v) rest pairLengt
 -- ## Traces
 
 module _ (n i : ℕ) (t : Trace) (h : ProperTrace n i t) where
+  -- The samples of a trace have six bytes each.
   size-samples : length (flat (map valueBytes (t .values))) ≡ pairLength * n
   size-samples =
       flat-size valueBytes (λ v. isCanonical (pairOf v) ≡ true) pairLength (λ v p. refl) (t .values) (h .canonical)
@@ -91,6 +92,7 @@ module _ (n i : ℕ) (t : Trace) (h : ProperTrace n i t) where
   unfolding traceBytes samplesField
   size-trace = simp (length-append, size-field) (omega (arith, size-header n i t h, size-samples))
 
+  -- They are bytes.
   bytes-trace : Bytes (traceBytes t)
   unfolding traceBytes samplesField
   bytes-trace =
@@ -103,16 +105,20 @@ module _ (n i : ℕ) (t : Trace) (h : ProperTrace n i t) where
 
   -- A trace that stands in a list of bytes.
   module _ (s : List ℕ) (b : Bytes s) (at : ℕ) (rest : List ℕ) (f : From s at (traceBytes t ++ rest)) where
+    -- Its tag 03 stands first, then its tag 04;
     from-header : From s at (field 3 (numberBytes traceWidths (t .numbers)) ++ (field 4 (flat (map valueBytes (t .values))) ++ rest))
     unfolding traceBytes samplesField
     from-header = from-parts (field 3 (numberBytes traceWidths (t .numbers))) (field 4 (flat (map valueBytes (t .values)))) rest f
 
+    -- its 71 fields stand behind tag 03,
     from-numbers : From s (at + 3) (numberBytes traceWidths (t .numbers) ++ (field 4 (flat (map valueBytes (t .values))) ++ rest))
     from-numbers = from-content s 3 180 _ (size-header n i t h) at _ from-header
 
+    -- tag 04 behind them,
     from-field : From s (at + 183) (field 4 (flat (map valueBytes (t .values))) ++ rest)
     from-field = from-rest s 3 180 _ (size-header n i t h) at _ from-header
 
+    -- and its pairs behind tag 04.
     from-samples : From s (at + 183 + 3) (flat (map valueBytes (t .values)) ++ rest)
     from-samples = from-content s 4 (pairLength * n) _ size-samples (at + 183) rest from-field
 
@@ -186,6 +192,7 @@ cards-fine s l k at rest e h f =
 -- ## Records
 
 module _ (n i : ℕ) (m : Meaning) (p : Proper n i m) where
+  -- The traces have the bytes of T strides.
   size-traces : length (flat (map traceBytes (m .traces))) ≡ length (m .traces) * heldStride n
   size-traces = flat-size traceBytes (ProperTrace n i) (heldStride n) (size-trace n i) (m .traces) (p .traces)
 
@@ -206,35 +213,42 @@ module _ (n i : ℕ) (m : Meaning) (p : Proper n i m) where
       (all-append byte (field 2 (binaryBytes 0 (m .binary))) (traces ++ count) (bytes-field 2 (binaryBytes 0 (m .binary)) (omega arith) (bytes-binary n i m p 0))
       (all-append byte traces count (bytes-flat traceBytes (ProperTrace n i) (bytes-trace n i) (m .traces) (p .traces)) (bytes-field 5 (bytesOf 4 (length (m .traces))) (omega arith) (bytes-of 4 (length (m .traces))))))
 
-  -- Where its parts stand.
+  -- The record begins with tag 01,
   from-front : From (recordOf m) 0 (field 1 (m .cards) ++ (field 2 (binaryBytes 0 (m .binary)) ++ (flat (map traceBytes (m .traces)) ++ field 5 (bytesOf 4 (length (m .traces))))))
   unfolding recordOf
   from-front = from-start (recordOf m)
 
+  -- behind which the card bytes stand;
   from-cards : From (recordOf m) 3 (m .cards ++ (field 2 (binaryBytes 0 (m .binary)) ++ (flat (map traceBytes (m .traces)) ++ field 5 (bytesOf 4 (length (m .traces))))))
   from-cards = from-content (recordOf m) 1 3200 (m .cards) (p .size) 0 _ from-front
 
+  -- then comes tag 02,
   from-second : From (recordOf m) 3203 (field 2 (binaryBytes 0 (m .binary)) ++ (flat (map traceBytes (m .traces)) ++ field 5 (bytesOf 4 (length (m .traces)))))
   from-second = from-rest (recordOf m) 1 3200 (m .cards) (p .size) 0 _ from-front
 
+  -- behind which the binary fields stand;
   from-binary : From (recordOf m) 3206 (binaryBytes 0 (m .binary) ++ (flat (map traceBytes (m .traces)) ++ field 5 (bytesOf 4 (length (m .traces)))))
   from-binary = from-content (recordOf m) 2 60 (binaryBytes 0 (m .binary)) (size-binary n i m p 0) 3203 _ from-second
 
+  -- then come the traces,
   from-traces : From (recordOf m) firstField (flat (map traceBytes (m .traces)) ++ field 5 (bytesOf 4 (length (m .traces))))
   from-traces = from-rest (recordOf m) 2 60 (binaryBytes 0 (m .binary)) (size-binary n i m p 0) 3203 _ from-second
 
+  -- and behind them tag 05 with their count.
   from-end : From (recordOf m) (firstField + length (m .traces) * heldStride n) (field 5 (bytesOf 4 (length (m .traces))) ++ [])
   from-end =
       rw append-nil
       (from-behind (recordOf m) traceBytes (ProperTrace n i) (heldStride n) (size-trace n i) (m .traces) firstField _ (p .traces) from-traces)
 
-  -- THEOREM. N, the interval and T in the record are those of the meaning.
+  -- THEOREM. N in the record is that of the meaning.
   pub record-samples : heldSamples (recordOf m) ≡ n
   record-samples = samples-again n i m p 0 (recordOf m) record-bytes 6 _ from-binary
 
+  -- THEOREM. The interval in the record is that of the meaning.
   pub record-interval : heldInterval (recordOf m) ≡ i
   record-interval = interval-again n i m p 0 (recordOf m) record-bytes 6 _ from-binary
 
+  -- THEOREM. The record has as many traces as the meaning.
   pub record-traces : heldTraces (recordOf m) n ≡ length (m .traces)
   unfolding field
   record-traces = tags-again n i (recordOf m) record-bytes mostTraces (m .traces) firstField 5 _ (p .traces) (p .few) refl from-traces
@@ -243,27 +257,31 @@ module _ (n i : ℕ) (m : Meaning) (p : Proper n i m) where
   record-code : heldCode (recordOf m) ≡ 0
   record-code = code-again n i m p 0 (recordOf m) record-bytes 6 _ from-binary (omega arith)
 
-  -- Neither 12 nor 13 applies to its cards, its binary fields, its traces and its end.
+  -- Neither 12 nor 13 applies to tag 01,
   front-fine : cardsCauses (recordOf m) ≡ Fine
   unfolding cardsCauses
   front-fine =
       both-fine (field-fine (recordOf m) 1 3200 (m .cards) (p .size) 0 _ from-front (omega arith))
       (cards-fine (recordOf m) (m .cards) 3200 3 _ (p .size) (p .cards) from-cards)
 
+  -- nor 13 to the numbers of tag 02,
   limits-fine : numberCauses i n 0 ≡ Fine
   limits-fine = rw (le-leb 1 i (p .i-low), le-leb i mostInterval (p .i-high), le-leb 1 n (p .n-low), le-leb n mostSamples (p .n-high))
 
+  -- nor either to tag 02,
   second-fine : binaryCauses (recordOf m) ≡ Fine
   unfolding binaryCauses
   second-fine =
       both-fine (field-fine (recordOf m) 2 60 (binaryBytes 0 (m .binary)) (size-binary n i m p 0) 3203 _ from-second (omega arith))
       (rw (record-interval, record-samples, record-code) limits-fine)
 
+  -- nor to a trace,
   traces-fine : firstOf (walk (traceForm (recordOf m) n i) (heldStride n) (length (m .traces)) firstField) ≡ Fine
   traces-fine =
       from-fine (recordOf m) traceBytes (ProperTrace n i) (heldStride n) (size-trace n i) (traceForm (recordOf m) n i)
       (λ t at rest h e. trace-fine n i t h (recordOf m) record-bytes at rest e (p .n-high)) (m .traces) firstField _ (p .traces) from-traces
 
+  -- nor to tag 05,
   end-fine : endCauses (recordOf m) (length (m .traces)) (firstField + length (m .traces) * heldStride n) ≡ Fine
   end-fine =
       let t = length (m .traces) in
@@ -274,6 +292,7 @@ module _ (n i : ℕ) (m : Meaning) (p : Proper n i m) where
       both-fine (field-fine (recordOf m) 5 4 (bytesOf 4 t) (length-bytes 4 t) at [] from-end (omega arith))
       (rw (eq-eqb (number (bytesAt (recordOf m) (at + 3) 4)) t count, le-ltb (at + 7) (length (recordOf m)) last))
 
+  -- nor to what stands behind tag 02.
   body-fine : bodyCauses (recordOf m) n i (length (m .traces)) ≡ Fine
   unfolding bodyCauses
   body-fine = both-fine traces-fine end-fine

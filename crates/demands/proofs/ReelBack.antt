@@ -5,24 +5,23 @@
 use mathlib.Core.Path.{_≡_, refl, sym, ap, ap₂, _∙_, subst}
 use mathlib.Core.List.{List, [], _∷_, _++_, map, map-id, append-nil, append-assoc}
 use mathlib.Core.Bool.{Bool, true, false, not, _&&_}
-use Prim.Native.Nat.{ℕ, zero, suc, _+_, _-_, _*_, _/_, _%_, _^_, _≤_, _<_}
+use Prim.Native.Nat.{ℕ, _+_, _-_, _*_, _/_, _%_, _≤_, _<_}
 use native.Mathlib.Nat.{mul-div-cancel, mul-mod-left}
 use native.Mathlib.Omega.{arith}
 use borrow.Author.Tests.{le-ltb, le-leb, eq-eqb, ne-eqb, eqb-true, leb-true}
 use lib.Dec.{T, eqb, leb, ltb}
-use lib.ListN.{length, getD, take, drop, replicate, length-append}
-use lib.Seq.{length-take-le, take-all}
+use lib.ListN.{length, getD, take, replicate, length-append}
+use lib.Seq.{length-take-le}
 use lib.IntN.{ℤ, pos, natAbs}
 use Rattle.numbers.specs.Walk.{pick, walk, flat, bytesAt}
 use Rattle.numbers.specs.BigEndian.{number, bytesOf}
 use Rattle.numbers.specs.TwosComplement.{signedOf}
-use Rattle.numbers.specs.Cause.{refuseIf, then, firstOf}
-use Rattle.numbers.specs.declared.Check.{Check}
+use Rattle.numbers.specs.Cause.{refuseIf, firstOf}
 use Rattle.numbers.specs.declared.Check.the-variants.{Fine}
 use Rattle.numbers.proofs.WalkLaws.{All, all-take, cons-eq, flat-size}
 use Rattle.numbers.proofs.ByteLaws.{Bytes}
 use Rattle.sample.specs.Value.{wholeValue, exactValue}
-use Rattle.sample.specs.Pair.{pairOf, valueOf, isCanonical}
+use Rattle.sample.specs.Pair.{pairOf, isCanonical}
 use Rattle.sample.specs.Reading.{isCode, badGain}
 use Rattle.sample.specs.Writing.{wordOf, writePair}
 use Rattle.sample.specs.declared.Written.{Written}
@@ -30,8 +29,8 @@ use Rattle.sample.specs.declared.Written.the-variants.{Word, Refused}
 use Rattle.sample_theorems.proofs.Held.{and-true}
 use Rattle.sample_theorems.proofs.Pairs.{pair-value}
 use Rattle.sample_theorems.proofs.Words.{Says, writing-sound}
-use Rattle.reel.specs.Layout.{cardBytes, firstTrace, traceHeader, binaryFields, traceWidths, traceFields, fieldNumber, word, intervalOf, samplesOf, codeOf, sampleBytes, stride, strideOf, wholeIn, overIn, tracesOf}
-use Rattle.reel.specs.Causes.{mostSamples, mostTraces, mostInterval, within, neither, headerCauses, wordCause, traceCauses, behindCauses, causesOf}
+use Rattle.reel.specs.Layout.{cardBytes, firstTrace, traceHeader, binaryFields, traceWidths, traceFields, fieldNumber, intervalOf, samplesOf, codeOf, sampleBytes, stride, strideOf, wholeIn, overIn, tracesOf}
+use Rattle.reel.specs.Causes.{mostSamples, mostTraces, mostInterval, neither, headerCauses, wordCause, traceCauses, behindCauses, causesOf}
 use Rattle.reel.specs.Meaning.{blank, cardText, otherThan, binaryNumbers, filled, traceNumber, Trace, traceMeaning, Meaning, meaningOf}
 use Rattle.reel.proofs.CheckLaws.{width-high}
 use Rattle.record.specs.Record.{numberBytes, binaryBytes}
@@ -42,7 +41,7 @@ use Rattle.reel_theorems.proofs.Same.{trace-eq}
 use Rattle.write_reel.specs.Reel.{wordContent, sampleWritten, traceWritten, reelOf, reelLength}
 use Rattle.demands.proofs.Proper.{ProperTrace, Proper}
 use Rattle.demands.proofs.Fitting.{Fitting}
-use Rattle.demands.proofs.From.{From, from-start, from-at, from-parts, from-next, from-bytes, from-walk, from-fine}
+use Rattle.demands.proofs.From.{From, from-start, from-at, from-next, from-bytes, from-walk, from-fine}
 use Rattle.demands.proofs.Headers.{all-append, bytes-flat, bytes-of, bytes-numbers, bytes-zeros, size-zeros, bytes-cards, meaning-eq, size-binary, bytes-binary, binary-again, code-again, samples-again, interval-again, size-header, count-at, interval-at, trace-around, numbers-again, count-again, spacing-again}
 
 -- ## Samples
@@ -64,20 +63,23 @@ word-of code v c h = go (wordOf code v) refl (h .0)
     go (Word k) e q = (k, e, says k e)
     go (Refused number) e q = absurd (subst T q tt)
 
--- The content of a word has four bytes, so a sample has as many as the code sets.
+-- The content of a word has four bytes.
 size-content : (w : Written) → length (wordContent w) ≡ 4
 size-content (Word k) = refl
 size-content (Refused number) = refl
 
+-- They are bytes.
 bytes-content : (w : Written) → Bytes (wordContent w)
 bytes-content (Word k) = bytes-of 4 k
 bytes-content (Refused number) = bytes-zeros 4
 
+-- A sample has as many bytes as the code sets.
 size-sample : (code : ℕ) (v : ℤ) → length (sampleWritten code v) ≡ sampleBytes code
 size-sample code v =
     let w = wordOf code v in
     length-take-le (sampleBytes code) (wordContent w) (omega (arith, size-content w, width-high code))
 
+-- They are bytes too.
 bytes-sample : (code : ℕ) (v : ℤ) → Bytes (sampleWritten code v)
 bytes-sample code v = all-take (λ b. b < 256) (sampleBytes code) (wordContent (wordOf code v)) (bytes-content (wordOf code v))
 
@@ -129,16 +131,16 @@ record Ready (code n i : ℕ) (t : Trace) : Type 0 where
   proper : ProperTrace n i t
   writable : All (Writable code) (t .values)
 
+-- Proper traces with words for their samples are all so.
 all-ready : (code n i : ℕ) (l : List Trace) → All (ProperTrace n i) l → All (λ (t : Trace). All (λ v. isUnfit (wordOf code v) ≡ false) (t .values)) l → All (Ready code n i) l
 all-ready code n i [] p f = tt
-all-ready code n i (t ∷ l) p f =
-    (
-      record {
-        proper = p .0;
-        writable = all-both (λ v. isUnfit (wordOf code v) ≡ false) (λ v. isCanonical (pairOf v) ≡ true) (t .values) (f .0) (p .0 .canonical);
-      },
-      all-ready code n i l (p .1) (f .1),
-    )
+all-ready code n i (t ∷ l) p f = (
+  record {
+    proper = p .0;
+    writable = all-both (λ v. isUnfit (wordOf code v) ≡ false) (λ v. isCanonical (pairOf v) ≡ true) (t .values) (f .0) (p .0 .canonical);
+  },
+  all-ready code n i l (p .1) (f .1),
+)
 
 -- A number is neither 0 nor another number than itself.
 neither-same : (n : ℕ) → neither n n ≡ false
@@ -169,6 +171,7 @@ module _ (code n i : ℕ) (c : isCode code ≡ true) (t : Trace) (h : Ready code
   size-trace =
       simp length-append (omega (arith, size-header n i t (h .proper), size-zeros 60, size-samples))
 
+  -- They are bytes.
   bytes-trace : Bytes (traceWritten code t)
   unfolding traceWritten
   bytes-trace =
@@ -180,10 +183,12 @@ module _ (code n i : ℕ) (c : isCode code ≡ true) (t : Trace) (h : Ready code
 
   -- A trace that stands in a list of bytes.
   module _ (s : List ℕ) (b : Bytes s) (at : ℕ) (rest : List ℕ) (f : From s at (traceWritten code t ++ rest)) where
+    -- Its 71 fields stand at its place,
     from-header : From s at (numberBytes traceWidths (t .numbers) ++ (replicate 60 0 ++ (flat (map (sampleWritten code) (t .values)) ++ rest)))
     unfolding traceWritten
     from-header = simp append-assoc at f
 
+    -- and its samples behind its header.
     from-samples : From s (at + traceHeader) (flat (map (sampleWritten code) (t .values)) ++ rest)
     from-samples =
         from-at (omega arith)
@@ -241,9 +246,11 @@ code-high : (code : ℕ) → isCode code ≡ true → code ≤ 4
 code-high code c = leb-true code 4 (and-true (leb 1 code) (leb code 4) c .1)
 
 module _ (code n i : ℕ) (m : Meaning) (p : Proper n i m) (c : isCode code ≡ true) (f : Fitting code m) where
+  -- Each trace is proper and has words for its samples.
   ready : All (Ready code n i) (m .traces)
   ready = all-ready code n i (m .traces) (p .traces) f
 
+  -- The traces have the bytes of T strides.
   size-traces : length (flat (map (traceWritten code) (m .traces))) ≡ length (m .traces) * stride n (sampleBytes code)
   size-traces = flat-size (traceWritten code) (Ready code n i) (stride n (sampleBytes code)) (size-trace code n i c) (m .traces) ready
 
@@ -263,29 +270,34 @@ module _ (code n i : ℕ) (m : Meaning) (p : Proper n i m) (c : isCode code ≡ 
       (all-append byte (replicate 340 0) traces (bytes-zeros 340)
       (bytes-flat (traceWritten code) (Ready code n i) (bytes-trace code n i c) (m .traces) ready)))
 
-  -- Where its parts stand.
+  -- The card bytes stand at the front,
   from-cards : From (reelOf code m) 0 (m .cards ++ (binaryBytes code (m .binary) ++ (replicate 340 0 ++ flat (map (traceWritten code) (m .traces)))))
   unfolding reelOf
   from-cards = from-start (reelOf code m)
 
+  -- then the binary fields,
   from-binary : From (reelOf code m) 3200 (binaryBytes code (m .binary) ++ (replicate 340 0 ++ flat (map (traceWritten code) (m .traces))))
   from-binary = from-next (m .cards) _ 3200 (p .size) from-cards
 
+  -- then, behind the headers, the traces.
   from-traces : From (reelOf code m) firstTrace (flat (map (traceWritten code) (m .traces)) ++ [])
   from-traces =
       rw append-nil
       (from-next (replicate 340 0) _ 340 (size-zeros 340) (from-next (binaryBytes code (m .binary)) _ 60 (size-binary n i m p code) from-binary))
 
-  -- THEOREM. The reel's own numbers are the code, N, the interval and T.
+  -- THEOREM. The reel's format code is the code.
   pub reel-code : codeOf (reelOf code m) ≡ code
   reel-code = code-again n i m p code (reelOf code m) reel-bytes 0 _ from-binary (omega (arith, code-high code c))
 
+  -- THEOREM. The reel's N is that of the meaning.
   pub reel-samples : samplesOf (reelOf code m) ≡ n
   reel-samples = samples-again n i m p code (reelOf code m) reel-bytes 0 _ from-binary
 
+  -- THEOREM. The reel's interval is that of the meaning.
   pub reel-interval : intervalOf (reelOf code m) ≡ i
   reel-interval = interval-again n i m p code (reelOf code m) reel-bytes 0 _ from-binary
 
+  -- The stride is that of N samples under the code.
   reel-stride : strideOf (reelOf code m) ≡ stride n (sampleBytes code)
   reel-stride = ap₂ (λ (k x : ℕ). stride k (sampleBytes x)) reel-samples reel-code
 
@@ -293,24 +305,29 @@ module _ (code n i : ℕ) (m : Meaning) (p : Proper n i m) (c : isCode code ≡ 
   behind : length (reelOf code m) - firstTrace ≡ length (m .traces) * stride n (sampleBytes code)
   behind = omega (arith, reel-length)
 
+  -- They are as many whole traces as the meaning has,
   whole : wholeIn (length (reelOf code m)) (stride n (sampleBytes code)) ≡ length (m .traces)
   whole = ap (λ (k : ℕ). k / stride n (sampleBytes code)) behind ∙ mul-div-cancel (length (m .traces)) (omega arith)
 
+  -- and no bytes are left over.
   over : overIn (length (reelOf code m)) (stride n (sampleBytes code)) ≡ 0
   over = ap (λ (k : ℕ). k % stride n (sampleBytes code)) behind ∙ mul-mod-left (length (m .traces)) (stride n (sampleBytes code))
 
+  -- THEOREM. The reel's T is the count of the meaning's traces.
   pub reel-traces : tracesOf (reelOf code m) ≡ length (m .traces)
   reel-traces = ap (wholeIn (length (reelOf code m))) reel-stride ∙ whole
 
-  -- None of the causes 2 to 4 applies, nor 5 or 6, nor 7 to 9 to a trace.
+  -- None of the causes 2 to 4 applies,
   headed : headerCauses code n i ≡ Fine
   headed = rw (c, le-leb 1 n (p .n-low), le-leb n mostSamples (p .n-high), le-leb 1 i (p .i-low), le-leb i mostInterval (p .i-high))
 
+  -- none of 7 to 9 to a trace,
   traces-fine : firstOf (walk (traceCauses (reelOf code m) code n i) (stride n (sampleBytes code)) (length (m .traces)) firstTrace) ≡ Fine
   traces-fine =
       from-fine (reelOf code m) (traceWritten code) (Ready code n i) (stride n (sampleBytes code)) (size-trace code n i c) (traceCauses (reelOf code m) code n i)
       (λ t at rest h e. trace-fine code n i c t h (reelOf code m) reel-bytes at rest e) (m .traces) firstTrace [] ready from-traces
 
+  -- and none of 5 and 6.
   behind-fine : behindCauses (reelOf code m) code n i (stride n (sampleBytes code)) ≡ Fine
   unfolding behindCauses
   behind-fine = rw (whole, over, le-ltb mostTraces (length (m .traces)) (p .few)) traces-fine
