@@ -1,2 +1,3 @@
 pub mod Proper
 pub mod Valid
+pub mod Again
