@@ -1,3 +1,4 @@
 pub mod Proper
 pub mod Valid
 pub mod Again
+pub mod ProperLaws

@@ -50,20 +50,20 @@ field-split tag l₁ l₂ r₁ r₂ n e =
 -- ## Header numbers
 
 -- that every field has some bytes is computed
-allSome : List ℕ → Bool
+unfoldable pub allSome : List ℕ → Bool
 allSome [] = true
 allSome (w ∷ ws) = ltb 0 w && allSome ws
 
-some-of : (ws : List ℕ) → allSome ws ≡ true → Some ws
+pub some-of : (ws : List ℕ) → allSome ws ≡ true → Some ws
 unfolding allSome
 some-of [] e = tt
 some-of (w ∷ ws) e = let t = and-true (ltb 0 w) (allSome ws) e in (ltb-true 0 w (t .0), some-of ws (t .1))
 
-binary-front-some : Some binary-front
+pub binary-front-some : Some binary-front
 unfolding allSome binary-front
 binary-front-some = some-of binary-front refl
 
-binary-back-some : Some binary-back
+pub binary-back-some : Some binary-back
 unfolding allSome binary-back
 binary-back-some = some-of binary-back refl
 
