@@ -7,7 +7,7 @@ use mathlib.Core.List.{List, [], _∷_, map}
 use mathlib.Core.Bool.{Bool, true, false, not, _&&_}
 use Prim.Native.Nat.{ℕ, zero, suc, _+_, _-_, _*_, _^_, _≤_, _<_}
 use native.Mathlib.Omega.{arith}
-use borrow.Author.Tests.{lt-ltb, eqb-true, eqb-false, not-false}
+use borrow.Author.Tests.{lt-ltb, eqb-true, ne-eqb, not-false}
 use lib.Dec.{ltb, eqb}
 use lib.ListN.{length, getD, take, drop}
 use lib.IntN.{ℤ, pos, natAbs}
@@ -24,12 +24,13 @@ use Rattle.sample.specs.Calls.{pairLength, pairIn}
 use Rattle.sample_theorems.proofs.Pairs.{value-pair-back}
 use Rattle.reel.specs.Layout.{fieldsFrom, cardBytes, binaryWidths, binaryFields, traceWidths, traceFields, fieldNumber, firstTrace, word, samplesOf, intervalOf, codeOf, strideOf, tracesOf}
 use Rattle.reel.specs.Causes.{mostSamples, mostTraces, mostInterval, neither, traceCauses, causesOf}
+use Rattle.reel.proofs.CheckLaws.{Sound, reel-fine}
 use Rattle.reel.specs.Meaning.{blank, cardText, otherThan, binaryNumbers, filled, Trace, traceMeaning, Meaning, meaningOf}
 use Rattle.record.specs.Form.{heldInterval, heldSamples, firstField, heldStride, tagsFrom, heldTraces, formCauses}
 use Rattle.record.specs.Held.{heldValue, heldTrace, heldBy}
-use Rattle.record.proofs.HeaderLaws.{binary-front, binary-back}
+use Rattle.record.proofs.HeaderLaws.{binary-front, binary-back, countField, intervalField, size-cards}
 use Rattle.reel_theorems.proofs.Ranges.{Fit, Some, fields-fit}
-use Rattle.reel_theorems.proofs.Same.{allSome, some-of, binary-front-some, binary-back-some}
+use Rattle.reel_theorems.proofs.Same.{allSome, some-of, binary-front-some, binary-back-some, Like, trace-like, eighth}
 use Rattle.demands.proofs.Proper.{ProperTrace, Proper}
 use Rattle.demands.proofs.Valid.{CanonicalAt, TraceStands, Valid, valid}
 
@@ -38,6 +39,13 @@ use Rattle.demands.proofs.Valid.{CanonicalAt, TraceStands, Valid, valid
 -- The signed number of 16 bits below 32,768 is the number itself.
 signed-low : (n : ℕ) → n < 2 ^ 15 → signedOf 16 n ≡ pos n
 signed-low n h = rw (lt-ltb n (2 ^ 15) h)
+
+-- A number above 0 is not 0.
+some-not : (n : ℕ) → eqb (suc n) 0 ≡ false
+some-not n = ne-eqb (suc n) 0 no
+  where
+    no : suc n ≡ 0 → ⊥
+    no e = omega arith
 
 -- Every field of a trace header has some bytes.
 trace-some : Some traceWidths
@@ -112,4 +120,96 @@ held-proper r h e =
       i-is = signed-low i q;
       few = rw (size-walk (heldTrace r n) (heldStride n) t firstField) (tags-most mostTraces r (heldStride n) firstField);
       traces = all-walk (TraceStands r n i) (ProperTrace n i) (λ a. a) (heldTrace r n) (λ a. trace-held r h n i a p q) (heldStride n) t firstField (v .traces);
+    }
+
+-- ## What a reel means
+
+-- A card byte with 40 in place of 00 is a byte other than 00.
+blank-some : (b : ℕ) → b < 256 → (0 < blank b) × (blank b < 256)
+blank-some zero h = (omega arith, omega arith)
+blank-some (suc b) h = rw (some-not b) (omega arith, h)
+
+-- What holds of each element's image holds of each element of the list mapped.
+all-map : {A B : Type 0} (P : A → Type 0) (Q : B → Type 0) (f : A → B) → ((a : A) → P a → Q (f a)) → (l : List A) → All P l → All Q (map f l)
+all-map P Q f h [] p = tt
+all-map P Q f h (x ∷ l) p = (h x (p .0), all-map P Q f h l (p .1))
+
+-- The card text is 3,200 bytes other than 00.
+card-text : (s : List ℕ) → Bytes s → All (λ b. (0 < b) × (b < 256)) (cardText s)
+unfolding cardText
+card-text s h = all-map (λ b. b < 256) (λ b. (0 < b) × (b < 256)) blank blank-some (bytesAt s 0 cardBytes) (bytes-at s h 0 cardBytes)
+
+-- The interval, by the binary numbers: field 3217 is the sixth.
+sixth : (s : List ℕ) → getD (binaryNumbers s) 5 (pos 0) ≡ signedOf 16 (intervalOf s)
+unfolding binaryNumbers binaryFields binaryWidths
+sixth s = refl
+
+-- The binary numbers before the format code fit their fields, and so do those behind it.
+front-fit : (s : List ℕ) → Bytes s → Fit binary-front (take 9 (binaryNumbers s))
+unfolding binaryNumbers binaryFields binaryWidths binary-front
+front-fit s h = fields-fit s h 0 3201 binary-front binary-front-some
+
+back-fit : (s : List ℕ) → Bytes s → Fit binary-back (drop 9 (binaryNumbers s))
+unfolding binaryNumbers binaryFields binaryWidths binary-back
+back-fit s h = fields-fit s h 0 3227 binary-back binary-back-some
+
+-- A number that is 0 or the reel's own, with the reel's own for 0, is the reel's own.
+filled-own : (own v : ℕ) → own < 2 ^ 15 → neither v own ≡ false → filled own (signedOf 16 v) ≡ pos own
+filled-own own zero h e = refl
+filled-own own (suc v) h e =
+    let same : suc v ≡ own = eqb-true (suc v) own (not-false (eqb (suc v) own) (rw (some-not v) at e)) in
+    rw (same, signed-low own h) (go (eqb own 0))
+  where
+    go : (b : Bool) → pick b (pos own) (pos own) ≡ pos own
+    go true = refl
+    go false = refl
+
+-- The numbers of fields 115 and 117 in a reel's trace.
+meant-count : (s : List ℕ) (code n i at : ℕ) → getD (traceMeaning s code n i at .numbers) 38 (pos 0) ≡ filled n (signedOf 16 (word s (at + 114)))
+unfolding traceMeaning traceFields traceWidths
+meant-count s code n i at = refl
+
+meant-interval : (s : List ℕ) (code n i at : ℕ) → getD (traceMeaning s code n i at .numbers) 39 (pos 0) ≡ filled i (signedOf 16 (word s (at + 116)))
+unfolding traceMeaning traceFields traceWidths
+meant-interval s code n i at = refl
+
+-- A trace to which 7 and 8 don't apply means a proper trace.
+trace-meant : (s : List ℕ) → Bytes s → (code n i at : ℕ) → n < 2 ^ 15 → i < 2 ^ 15 → traceCauses s code n i at ≡ Fine → ProperTrace n i (traceMeaning s code n i at)
+unfolding traceCauses
+trace-meant s h code n i at p q e =
+    let a = then-fine (refuseIf (neither (word s (at + 114)) n) 7 (at + 114)) _ e in
+    let b = then-fine (refuseIf (neither (word s (at + 116)) i) 8 (at + 116)) _ (a .1) in
+    let l = trace-like s h code n i at p q in
+    record {
+      fit = l .numbers;
+      n-is = meant-count s code n i at ∙ filled-own n (word s (at + 114)) p (passed _ _ _ (a .0));
+      i-is = meant-interval s code n i at ∙ filled-own i (word s (at + 116)) q (passed _ _ _ (b .0));
+      size = l .count;
+      canonical = l .canonical;
+    }
+
+-- THEOREM. What a reel means to which no cause of 1 to 9 applies is proper, with the reel's N and interval.
+pub reel-proper : (s : List ℕ) → Bytes s → causesOf s ≡ Fine → Proper (samplesOf s) (intervalOf s) (meaningOf s)
+unfolding meaningOf
+reel-proper s h e =
+    let v = reel-fine s e in
+    let code = codeOf s in
+    let n = samplesOf s in
+    let i = intervalOf s in
+    let k = v .numbers in
+    let p : n < 2 ^ 15 = omega (arith, k .n-high) in
+    let q : i < 2 ^ 15 = omega (arith, k .i-high) in
+    record {
+      n-low = k .n-low;
+      n-high = k .n-high;
+      i-low = k .i-low;
+      i-high = k .i-high;
+      size = size-cards s;
+      cards = card-text s h;
+      fit-front = front-fit s h;
+      fit-back = back-fit s h;
+      n-is = eighth s ∙ signed-low n p;
+      i-is = sixth s ∙ signed-low i q;
+      few = rw (size-walk (traceMeaning s code n i) (strideOf s) (tracesOf s) firstTrace) (v .few);
+      traces = first-all (traceCauses s code n i) (traceMeaning s code n i) (ProperTrace n i) (λ a. trace-meant s h code n i a p q) (strideOf s) (tracesOf s) firstTrace (v .traces);
     }
