@@ -2,30 +2,28 @@
 --
 -- Each byte of the record is below 256, and neither 12 nor 13 applies to it; nothing else is assumed.
 use mathlib.Core.Path.{_≡_, refl, sym, ap, ap₂, _∙_}
-use mathlib.Core.List.{List, [], _∷_, _++_, map}
-use mathlib.Core.Bool.{true}
-use Prim.Native.Nat.{ℕ, zero, suc, _+_, _-_, _*_, _≤_}
+use mathlib.Core.List.{List, _∷_, _++_, map}
+use Prim.Native.Nat.{ℕ, zero, suc, _+_, _*_}
 use native.Mathlib.Nat.{zero-mul, suc-mul, add-zero, mul-comm}
 use native.Mathlib.Omega.{arith}
-use lib.ListN.{length, getD}
+use lib.ListN.{length}
 use lib.Seq.{take-all}
-use lib.IntN.{ℤ, pos}
+use lib.IntN.{pos}
 use Rattle.numbers.specs.Walk.{walk, flat, bytesAt}
-use Rattle.numbers.specs.BigEndian.{number, bytesOf}
+use Rattle.numbers.specs.BigEndian.{bytesOf}
 use Rattle.numbers.specs.declared.Check.the-variants.{Fine}
 use Rattle.numbers.proofs.WalkLaws.{All, all-walk, cons-eq, size-walk, size-bytes, bytes-part}
 use Rattle.numbers.proofs.ByteLaws.{Bytes, bytes-at, bytes-again, bytes-append}
-use Rattle.sample.specs.Pair.{valueOf, isCanonical}
 use Rattle.sample.specs.Calls.{pairLength, pairBytes, pairIn}
 use Rattle.sample.specs.declared.Pair.{Pair}
 use Rattle.sample_theorems.proofs.Pairs.{value-pair-back, pair-bytes}
-use Rattle.reel.specs.Layout.{fieldsFrom, cardBytes, binaryWidths, binaryFields, traceWidths, traceFields, fieldNumber, word}
-use Rattle.reel.specs.Meaning.{otherThan, Trace}
+use Rattle.reel.specs.Layout.{fieldsFrom, cardBytes, binaryWidths, binaryFields, traceWidths, traceFields, fieldNumber}
+use Rattle.reel.specs.Meaning.{otherThan}
 use Rattle.record.specs.Record.{field, numberBytes, binaryBytes, valueBytes, samplesField, traceBytes, recordOf}
 use Rattle.record.specs.Form.{heldInterval, heldSamples, heldCode, firstField, heldStride, heldTraces, formCauses}
 use Rattle.record.specs.Held.{heldValue, heldTrace, heldBy}
-use Rattle.record.proofs.NumberLaws.{total, fields-again, numbers-append}
-use Rattle.record.proofs.HeaderLaws.{binary-front, binary-back, counts, parts}
+use Rattle.record.proofs.NumberLaws.{fields-again, numbers-append}
+use Rattle.record.proofs.HeaderLaws.{binary-front, binary-back, counts}
 use Rattle.demands.proofs.Valid.{Stands, CanonicalAt, TraceStands, lastField, Valid, valid}
 
 -- ## Lists joined

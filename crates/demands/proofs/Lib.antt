@@ -2,3 +2,4 @@ pub mod Proper
 pub mod Valid
 pub mod Again
 pub mod ProperLaws
+pub mod Fitting

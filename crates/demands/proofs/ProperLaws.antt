@@ -2,37 +2,36 @@
 --
 -- What a reel means to which no cause of 1 to 9 applies, and what a record holds to which neither 12 nor 13 applies. Each byte of either is
 -- below 256; nothing else is assumed.
-use mathlib.Core.Path.{_≡_, refl, sym, ap, _∙_}
+use mathlib.Core.Path.{_≡_, refl, ap, _∙_}
 use mathlib.Core.List.{List, [], _∷_, map}
-use mathlib.Core.Bool.{Bool, true, false, not, _&&_}
-use Prim.Native.Nat.{ℕ, zero, suc, _+_, _-_, _*_, _^_, _≤_, _<_}
+use mathlib.Core.Bool.{Bool, true, false}
+use Prim.Native.Nat.{ℕ, zero, suc, _+_, _^_, _≤_, _<_}
 use native.Mathlib.Omega.{arith}
 use borrow.Author.Tests.{lt-ltb, eqb-true, ne-eqb, not-false}
-use lib.Dec.{ltb, eqb}
-use lib.ListN.{length, getD, take, drop}
-use lib.IntN.{ℤ, pos, natAbs}
-use Rattle.numbers.specs.Walk.{pick, walk, bytesAt}
-use Rattle.numbers.specs.BigEndian.{number}
+use lib.Dec.{eqb}
+use lib.ListN.{getD, take, drop}
+use lib.IntN.{pos}
+use Rattle.numbers.specs.Walk.{pick, bytesAt}
 use Rattle.numbers.specs.TwosComplement.{signedOf}
-use Rattle.numbers.specs.Cause.{refuseIf, then, firstOf}
+use Rattle.numbers.specs.Cause.{refuseIf}
 use Rattle.numbers.specs.declared.Check.the-variants.{Fine}
-use Rattle.numbers.proofs.WalkLaws.{All, all-at, all-walk, size-walk, size-bytes}
-use Rattle.numbers.proofs.ByteLaws.{Bytes, byte-at, bytes-at}
+use Rattle.numbers.proofs.WalkLaws.{All, all-walk, size-walk, size-bytes}
+use Rattle.numbers.proofs.ByteLaws.{Bytes, bytes-at}
 use Rattle.numbers.proofs.CauseLaws.{passed, then-fine, first-all}
-use Rattle.sample.specs.Pair.{pairOf, valueOf, isCanonical}
+use Rattle.sample.specs.Pair.{pairOf, isCanonical}
 use Rattle.sample.specs.Calls.{pairLength, pairIn}
 use Rattle.sample_theorems.proofs.Pairs.{value-pair-back}
-use Rattle.reel.specs.Layout.{fieldsFrom, cardBytes, binaryWidths, binaryFields, traceWidths, traceFields, fieldNumber, firstTrace, word, samplesOf, intervalOf, codeOf, strideOf, tracesOf}
-use Rattle.reel.specs.Causes.{mostSamples, mostTraces, mostInterval, neither, traceCauses, causesOf}
-use Rattle.reel.proofs.CheckLaws.{Sound, reel-fine}
-use Rattle.reel.specs.Meaning.{blank, cardText, otherThan, binaryNumbers, filled, Trace, traceMeaning, Meaning, meaningOf}
+use Rattle.reel.specs.Layout.{cardBytes, binaryWidths, binaryFields, traceWidths, traceFields, fieldNumber, firstTrace, word, samplesOf, intervalOf, codeOf, strideOf, tracesOf}
+use Rattle.reel.specs.Causes.{mostTraces, neither, traceCauses, causesOf}
+use Rattle.reel.proofs.CheckLaws.{reel-fine}
+use Rattle.reel.specs.Meaning.{blank, cardText, binaryNumbers, filled, traceMeaning, meaningOf}
 use Rattle.record.specs.Form.{heldInterval, heldSamples, firstField, heldStride, tagsFrom, heldTraces, formCauses}
 use Rattle.record.specs.Held.{heldValue, heldTrace, heldBy}
-use Rattle.record.proofs.HeaderLaws.{binary-front, binary-back, countField, intervalField, size-cards}
+use Rattle.record.proofs.HeaderLaws.{binary-front, binary-back, size-cards}
 use Rattle.reel_theorems.proofs.Ranges.{Fit, Some, fields-fit}
-use Rattle.reel_theorems.proofs.Same.{allSome, some-of, binary-front-some, binary-back-some, Like, trace-like, eighth}
+use Rattle.reel_theorems.proofs.Same.{allSome, some-of, binary-front-some, binary-back-some, trace-like, eighth}
 use Rattle.demands.proofs.Proper.{ProperTrace, Proper}
-use Rattle.demands.proofs.Valid.{CanonicalAt, TraceStands, Valid, valid}
+use Rattle.demands.proofs.Valid.{CanonicalAt, TraceStands, valid}
 
 -- ## Numbers and lists
 

@@ -1,8 +1,8 @@
 -- What a record is that neither 12 nor 13 applies to: fields that stand whole one behind the other, and numbers within their limits.
 -- Assumes nothing.
-use mathlib.Core.Path.{_≡_, refl}
+use mathlib.Core.Path.{_≡_}
 use mathlib.Core.List.{List}
-use mathlib.Core.Bool.{true, not, _&&_}
+use mathlib.Core.Bool.{true, not}
 use Prim.Native.Nat.{ℕ, _+_, _*_, _≤_, _<_}
 use native.Mathlib.Omega.{arith}
 use borrow.Author.Tests.{leb-true, eqb-true, eqb-false, ltb-false, not-false}
@@ -10,7 +10,7 @@ use lib.Dec.{leb, ltb, eqb}
 use lib.ListN.{length, getD}
 use Rattle.numbers.specs.Walk.{walk, bytesAt}
 use Rattle.numbers.specs.BigEndian.{number}
-use Rattle.numbers.specs.Cause.{refuseIf, then, firstOf}
+use Rattle.numbers.specs.Cause.{refuseIf, firstOf}
 use Rattle.numbers.specs.declared.Check.the-variants.{Fine}
 use Rattle.numbers.proofs.WalkLaws.{All}
 use Rattle.numbers.proofs.CauseLaws.{passed, then-fine, first-all}
@@ -20,7 +20,7 @@ use Rattle.sample_theorems.proofs.Held.{and-true}
 use Rattle.reel.specs.Layout.{cardBytes, word}
 use Rattle.reel.specs.Causes.{mostSamples, mostInterval, within}
 use Rattle.reel.proofs.CheckLaws.{in-limits}
-use Rattle.record.specs.Form.{isField, fieldCause, cardCause, cardsCauses, heldInterval, heldSamples, heldCode, numberCauses, binaryCauses, firstField, heldStride, pairCause, samplesCauses, traceForm, heldTraces, endCauses, bodyCauses, formCauses}
+use Rattle.record.specs.Form.{isField, fieldCause, cardCause, cardsCauses, heldInterval, heldSamples, heldCode, binaryCauses, firstField, heldStride, pairCause, samplesCauses, traceForm, heldTraces, bodyCauses, formCauses}
 
 -- ## A field
 
