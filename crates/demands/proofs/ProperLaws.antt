@@ -23,8 +23,8 @@ use Rattle.sample.specs.Calls.{pairLength, pairIn}
 use Rattle.sample_theorems.proofs.Pairs.{value-pair-back}
 use Rattle.reel.specs.Layout.{cardBytes, binaryWidths, binaryFields, traceWidths, traceFields, fieldNumber, firstTrace, word, samplesOf, intervalOf, codeOf, strideOf, tracesOf}
 use Rattle.reel.specs.Causes.{mostTraces, neither, traceCauses, causesOf}
-use Rattle.reel.proofs.CheckLaws.{reel-fine}
 use Rattle.reel.specs.Meaning.{blank, cardText, binaryNumbers, filled, traceMeaning, meaningOf}
+use Rattle.reel.proofs.CheckLaws.{reel-fine}
 use Rattle.record.specs.Form.{heldInterval, heldSamples, firstField, heldStride, tagsFrom, heldTraces, formCauses}
 use Rattle.record.specs.Held.{heldValue, heldTrace, heldBy}
 use Rattle.record.proofs.HeaderLaws.{binary-front, binary-back, size-cards}
