@@ -86,7 +86,7 @@ bytes-of : (k n : ℕ) → Bytes (bytesOf k n)
 bytes-of zero n = tt
 bytes-of (suc k) n = (omega arith, bytes-of k n)
 
--- A word that fits is there.
+-- What is not unfit is a word.
 fit-word : (r : Written) → isUnfit r ≡ false → Writes r
 fit-word (Word n) e = (n, refl)
 fit-word (Refused number) e = absurd (subst T e tt)

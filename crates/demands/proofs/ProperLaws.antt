@@ -128,7 +128,7 @@ blank-some : (b : ℕ) → b < 256 → (0 < blank b) × (blank b < 256)
 blank-some zero h = (omega arith, omega arith)
 blank-some (suc b) h = rw (some-not b) (omega arith, h)
 
--- What holds of each element's image holds of each element of the list mapped.
+-- Where P of an element shows Q of its image, P of each element of a list shows Q of each of the list mapped.
 all-map : {A B : Type 0} (P : A → Type 0) (Q : B → Type 0) (f : A → B) → ((a : A) → P a → Q (f a)) → (l : List A) → All P l → All Q (map f l)
 all-map P Q f h [] p = tt
 all-map P Q f h (x ∷ l) p = (h x (p .0), all-map P Q f h l (p .1))
