@@ -1,4 +1,7 @@
 pub mod Proper
+pub mod Valid
+pub mod Again
+pub mod ProperLaws
 pub mod Fitting
 pub mod From
 pub mod Headers
