@@ -7,3 +7,4 @@ pub mod From
 pub mod Headers
 pub mod ReelBack
 pub mod RecordBack
+pub mod Taken
