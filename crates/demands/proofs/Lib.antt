@@ -8,3 +8,4 @@ pub mod Headers
 pub mod ReelBack
 pub mod RecordBack
 pub mod Taken
+pub mod Demand2
