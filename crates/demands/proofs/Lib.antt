@@ -9,3 +9,4 @@ pub mod ReelBack
 pub mod RecordBack
 pub mod Taken
 pub mod Demand2
+pub mod Determined

@@ -19,9 +19,9 @@ use Rattle.numbers.proofs.ByteLaws.{Bytes}
 use Rattle.numbers.proofs.CauseLaws.{passed, then-fine, at-most}
 use Rattle.sample.specs.Pair.{pairOf, isCanonical}
 use Rattle.sample.specs.Reading.{isCode}
-use Rattle.reel.specs.Layout.{samplesOf, codeOf, tracesOf}
+use Rattle.reel.specs.Layout.{firstTrace, intervalOf, samplesOf, codeOf, strideOf, tracesOf}
 use Rattle.reel.specs.Causes.{causesOf}
-use Rattle.reel.specs.Meaning.{Trace, Meaning, meaningOf}
+use Rattle.reel.specs.Meaning.{Trace, traceMeaning, Meaning, meaningOf}
 use Rattle.record.specs.Record.{recordOf, reelRecord}
 use Rattle.record.specs.Form.{firstField, heldInterval, heldSamples, heldStride, heldTraces, formCauses}
 use Rattle.record.specs.Held.{heldTrace, heldBy}
@@ -70,6 +70,11 @@ read-taken s out f h =
     let k = reading.lengthOf s in
     ap (λ (c : Check). readEnd s out (then c (refuseIf (ltb (length out) k) 10 k))) f
     ∙ ap (λ (b : Bool). readEnd s out (refuseIf b 10 k)) (le-ltb (length out) k h)
+
+-- The traces of what a reel means are the whole traces of the reel.
+pub meant-count : (s : List ℕ) → length (meaningOf s .traces) ≡ tracesOf s
+unfolding meaningOf
+meant-count s = size-walk (traceMeaning s (codeOf s) (samplesOf s) (intervalOf s)) (strideOf s) (tracesOf s) firstTrace
 
 -- ## Writings
 
