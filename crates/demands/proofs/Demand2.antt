@@ -40,7 +40,7 @@ use Rattle.reel_theorems.proofs.Same.{record-size}
 use Rattle.reel_theorems.proofs.Output.{taken-reel, taken-outcome, taken-numbers, output-record}
 use Rattle.demands.proofs.ProperLaws.{held-proper}
 use Rattle.demands.proofs.Fitting.{fit-is, HasWord}
-use Rattle.demands.proofs.Taken.{fitting-words, words-fitting, Writable, written-needs, write-taken, written-size, written-read}
+use Rattle.demands.proofs.Taken.{fitting-words, needs, written-needs, write-taken, written-size, written-read}
 
 -- ## A reel becomes its record
 
@@ -104,13 +104,7 @@ writing r code out b v = (there, here)
 
     here : CanBeWritten r code out → (numbers : List ℕ) × (writeOutcome r code out .said ≡ taken numbers)
     here h =
-        let w : Writable r code out =
-        record {
-          code-is = h .code-is;
-          form = v;
-          fit = fit-is r code .1 (words-fitting code (heldSamples r) (heldInterval r) (heldBy r) (held-proper r b v) (h .code-is) (h .held));
-          room = h .room;
-        } in
+        let w = needs r code out b v (h .code-is) (h .held) (h .room) in
         (_, ap (λ (o : Outcome). o .said) (write-taken r code out w))
 
 -- What writing a record gives, where it returns t, n and the length l.

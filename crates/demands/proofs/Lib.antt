@@ -10,3 +10,4 @@ pub mod RecordBack
 pub mod Taken
 pub mod Demand2
 pub mod Determined
+pub mod Demand3

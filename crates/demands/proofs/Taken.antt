@@ -57,7 +57,7 @@ module _ (code n i : ℕ) (m : Meaning) (p : Proper n i m) (c : isCode code ≡ 
       all-with (ProperTrace n i) (FittingTrace code) (λ (t : Trace). All (HasWord code) (t .values))
       (λ t h g. all-with _ _ (HasWord code) (λ (v : ℤ) k e. fits-is code v c k .0 e) (t .values) (h .canonical) g) (m .traces) (p .traces) f
 
-  pub words-fitting : Worded code (m .traces) → Fitting code m
+  words-fitting : Worded code (m .traces) → Fitting code m
   words-fitting f =
       all-with (ProperTrace n i) (λ (t : Trace). All (HasWord code) (t .values)) (FittingTrace code)
       (λ t h g. all-with _ (HasWord code) _ (λ (v : ℤ) k e. fits-is code v c k .1 e) (t .values) (h .canonical) g) (m .traces) (p .traces) f
@@ -119,6 +119,18 @@ module _ (r : List ℕ) (code : ℕ) (out : List ℕ) where
       ∙ ap (λ (c : Check). writeEnd r code out (then (then c f) (refuseIf (ltb (length out) k) 10 k))) (w .form)
       ∙ ap (λ (c : Check). writeEnd r code out (then c (refuseIf (ltb (length out) k) 10 k))) (w .fit)
       ∙ ap (writeEnd r code out) room
+
+-- A valid record, a code of 1 to 4 that has a word for each of its samples and an output long enough are what a writing needs.
+pub needs : (r : List ℕ) (code : ℕ) (out : List ℕ) → Bytes r → formCauses r ≡ Fine → isCode code ≡ true → Worded code (heldBy r .traces)
+    → writing.lengthOf r code ≤ length out → Writable r code out
+needs r code out b v c f h =
+    let p : Proper (heldSamples r) (heldInterval r) (heldBy r) = held-proper r b v in
+    record {
+      code-is = c;
+      form = v;
+      fit = fit-is r code .1 (words-fitting code (heldSamples r) (heldInterval r) (heldBy r) p c f);
+      room = h;
+    }
 
 -- ## The reel of a record
 
