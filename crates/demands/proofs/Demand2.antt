@@ -3,7 +3,7 @@
 -- "A reel becomes the record that SEG-Y revision 0 and the IBM word define, as document 01 condenses them. A valid record is written as a
 -- reel in any code that holds every sample exactly, if the output is long enough, and reading that reel gives the record again."
 --
--- Four theorems say so, over the outcomes that the contracts of reading and writing give. A record or a written reel is the output's first
+-- Five theorems say so, over the outcomes that the contracts of reading and writing give. A record or a written reel is the output's first
 -- bytes, as many as the length returned.
 --
 -- - `reading`: where reading a reel is taken, the numbers returned are the reel's T and N and 3273 + T × (186 + 6N), the output's first
@@ -14,9 +14,11 @@
 --   bytes are the reel of what the record holds, of that length, and the rest of the output keeps its content.
 -- - `back`: reading the reel that was written, into an output long enough, is taken with the same T and N, and gives the record again byte
 --   for byte.
+-- - `round`: the second sentence at once. A valid record, a code of 1 to 4 that holds every sample exactly and an output long enough: the
+--   writing is taken, and reading what it wrote gives the record again.
 --
 -- Each byte of a reel and of a record is below 256; nothing else is assumed. Every reel, record, code and output is meant.
-use mathlib.Core.Path.{_≡_, refl, sym, ap, ap₂, _∙_}
+use mathlib.Core.Path.{_≡_, sym, ap, ap₂, _∙_}
 use mathlib.Core.List.{List, [], _∷_, _++_}
 use mathlib.Core.Bool.{true}
 use Prim.Native.Nat.{ℕ, _+_, _*_, _≤_}
@@ -56,13 +58,13 @@ pub record RecordRead (s out : List ℕ) (t n l : ℕ) : Type 0 where
   -- The rest of the output keeps its content.
   pub rest : drop l (readOutcome s out .bytes) ≡ drop l out
 
--- The three numbers of two calls that are taken with the same are the same.
+-- Three numbers that are returned are the same as the three that are known to be.
 same-numbers : {t n l t₂ n₂ l₂ : ℕ} → taken (t ∷ n ∷ l ∷ []) ≡ taken (t₂ ∷ n₂ ∷ l₂ ∷ []) → (t ≡ t₂) × (n ≡ n₂) × (l ≡ l₂)
 same-numbers e = (cc, cc, cc)
 
 -- THEOREM. A reel becomes the record that SEG-Y revision 0 and the IBM word define.
--- Rules out a reader that writes nothing and says taken, one that converts the first trace and copies it for the rest, and one whose T or
--- length is invented.
+-- Rules out a reader that gives one fixed record, one that writes nothing and says taken, one that converts the first trace and copies it
+-- for the rest, and one whose T or length is invented.
 pub reading : (s out : List ℕ) (t n l : ℕ) → Bytes s → readOutcome s out .said ≡ taken (t ∷ n ∷ l ∷ []) → RecordRead s out t n l
 reading s out t n l b e =
     let k = same-numbers (sym e ∙ taken-numbers s out (t ∷ n ∷ l ∷ []) e) in
@@ -155,3 +157,17 @@ back r code out out₂ t n l b e h =
     ap (λ (s : List ℕ). readOutcome s out₂) (k .content)
     ∙ written-read r b code out w out₂ h
     ∙ ap₂ (λ (x y : ℕ). record { said = taken (x ∷ y ∷ length r ∷ []); bytes = r ++ drop (length r) out₂ }) (sym (k .traces)) (sym (k .samples))
+
+-- THEOREM. A valid record is written as a reel in any code that holds every sample exactly, if the output is long enough, and reading that
+-- reel gives the record again.
+-- Rules out a writer that declines every record, and what `back` rules out.
+pub round : (r : List ℕ) (code : ℕ) (out out₂ : List ℕ) → Bytes r → formCauses r ≡ Fine → CanBeWritten r code out → length r ≤ length out₂
+    → (t n l : ℕ) × (writeOutcome r code out .said ≡ taken (t ∷ n ∷ l ∷ []))
+    × (readOutcome (take l (writeOutcome r code out .bytes)) out₂ ≡ record { said = taken (t ∷ n ∷ length r ∷ []); bytes = r ++ drop (length r) out₂ })
+round r code out out₂ b v h room =
+    let w = needs r code out b v (h .code-is) (h .held) (h .room) in
+    let n = heldSamples r in
+    let t = heldTraces r n in
+    let l = reelLength code t n in
+    let e : writeOutcome r code out .said ≡ taken (t ∷ n ∷ l ∷ []) = ap (λ (o : Outcome). o .said) (write-taken r code out w) in
+    (t, n, l, e, back r code out out₂ t n l b e room)

@@ -95,9 +95,9 @@ again s out t n l code out₂ t₂ n₂ l₂ b e e₂ =
       means = subst (MeanTheSame s) (sym (k .content)) means;
       has = ap reelRecord (k .content) ∙ has;
       read = λ out₃ room.
-        back r code out₂ out₃ t₂ n₂ l₂ h e₂ (rw size room)
-        ∙ ap (λ (j : ℕ). record { said = taken (t₂ ∷ n₂ ∷ j ∷ []); bytes = r ++ drop j out₃ }) size
-        ∙ ap₂ (λ (i j : ℕ). record { said = taken (i ∷ j ∷ l ∷ []); bytes = r ++ drop l out₃ }) (k .traces ∙ v .traces) (k .samples ∙ v .samples);
+          back r code out₂ out₃ t₂ n₂ l₂ h e₂ (rw size room)
+          ∙ ap (λ (j : ℕ). record { said = taken (t₂ ∷ n₂ ∷ j ∷ []); bytes = r ++ drop j out₃ }) size
+          ∙ ap₂ (λ (i j : ℕ). record { said = taken (i ∷ j ∷ l ∷ []); bytes = r ++ drop l out₃ }) (k .traces ∙ v .traces) (k .samples ∙ v .samples);
     }
 
 -- ## Which reels are written
@@ -171,5 +171,5 @@ own s out t n l b e =
       code-is = c;
       words = reel-words s b f;
       writes = λ out₂ room.
-        held s out t n l (codeOf s) out₂ b e c (reel-words s b f) (rw size room) ∙ ap (λ (j : ℕ). taken (t ∷ n ∷ j ∷ [])) size;
+          held s out t n l (codeOf s) out₂ b e c (reel-words s b f) (rw size room) ∙ ap (λ (j : ℕ). taken (t ∷ n ∷ j ∷ [])) size;
     }

@@ -9,16 +9,16 @@
 -- - `held-record`: a valid record is the record of what it holds.
 --
 -- Each byte of a reel and of a record is below 256; nothing else is assumed.
-use mathlib.Core.Path.{_≡_, sym, ap, _∙_, subst}
+use mathlib.Core.Path.{_≡_, sym, ap, _∙_}
 use mathlib.Core.List.{List, [], _∷_}
 use Prim.Native.Nat.{ℕ}
-use lib.ListN.{length, take}
+use lib.ListN.{take}
 use Rattle.numbers.specs.Outcome.{taken}
 use Rattle.numbers.specs.declared.Check.the-variants.{Fine}
 use Rattle.numbers.proofs.ByteLaws.{Bytes}
 use Rattle.reel.specs.Layout.{samplesOf, intervalOf, tracesOf}
 use Rattle.reel.specs.Causes.{causesOf}
-use Rattle.reel.specs.Meaning.{Meaning, meaningOf}
+use Rattle.reel.specs.Meaning.{meaningOf}
 use Rattle.record.specs.Record.{recordOf}
 use Rattle.record.specs.Form.{heldSamples, heldTraces, formCauses}
 use Rattle.record.specs.Held.{heldBy}
@@ -33,8 +33,8 @@ use Rattle.demands.proofs.Demand2.{reading}
 
 -- ## The record that reading gives
 
--- A record of the reel s with T and N.
-pub record RecordOf (s : List ℕ) (t n : ℕ) (r : List ℕ) : Type 0 where
+-- r is a valid record, with the T and N of t and n, that holds what the reel s means.
+pub record RecordHolds (s : List ℕ) (t n : ℕ) (r : List ℕ) : Type 0 where
   -- It is a list of bytes, and neither 12 nor 13 applies to it.
   pub bytes : Bytes r
   pub valid : formCauses r ≡ Fine
@@ -45,7 +45,7 @@ pub record RecordOf (s : List ℕ) (t n : ℕ) (r : List ℕ) : Type 0 where
   pub samples : heldSamples r ≡ n
 
 -- The record of what a reel means to which no cause of 1 to 9 applies.
-meant : (s : List ℕ) → Bytes s → causesOf s ≡ Fine → RecordOf s (tracesOf s) (samplesOf s) (recordOf (meaningOf s))
+meant : (s : List ℕ) → Bytes s → causesOf s ≡ Fine → RecordHolds s (tracesOf s) (samplesOf s) (recordOf (meaningOf s))
 meant s b f =
     let n = samplesOf s in
     let i = intervalOf s in
@@ -63,7 +63,7 @@ meant s b f =
 -- Rules out a reader that gives one fixed record, one that writes nothing and says taken, one that converts the first trace and copies it for
 -- the rest, and one whose T or length is invented.
 pub read-valid : (s out : List ℕ) (t n l : ℕ) → Bytes s → readOutcome s out .said ≡ taken (t ∷ n ∷ l ∷ [])
-    → RecordOf s t n (take l (readOutcome s out .bytes))
+    → RecordHolds s t n (take l (readOutcome s out .bytes))
 read-valid s out t n l b e =
     let k = reading s out t n l b e in
     let h = meant s b (taken-reel s out (t ∷ n ∷ l ∷ []) e) in

@@ -3,12 +3,10 @@
 use mathlib.Core.Path.{_≡_, refl, sym, ap, ap₂, _∙_}
 use mathlib.Core.List.{List, [], _∷_, _++_}
 use mathlib.Core.Bool.{Bool, true, not}
-use Prim.Native.Nat.{ℕ, _+_, _*_, _≤_}
-use native.Mathlib.Omega.{arith}
+use Prim.Native.Nat.{ℕ, _≤_}
 use borrow.Author.Tests.{le-ltb, not-false}
 use lib.Dec.{ltb}
-use lib.ListN.{length, take, drop}
-use lib.Seq.{take-at, drop-at}
+use lib.ListN.{length, drop}
 use lib.IntN.{ℤ}
 use Rattle.numbers.specs.Cause.{refuseIf, then}
 use Rattle.numbers.specs.Outcome.{Said, taken, Outcome}
@@ -17,7 +15,6 @@ use Rattle.numbers.specs.declared.Check.the-variants.{Fine, Refused}
 use Rattle.numbers.proofs.WalkLaws.{All, cons-eq, size-walk}
 use Rattle.numbers.proofs.ByteLaws.{Bytes}
 use Rattle.numbers.proofs.CauseLaws.{passed, then-fine, at-most}
-use Rattle.sample.specs.Pair.{pairOf, isCanonical}
 use Rattle.sample.specs.Reading.{isCode}
 use Rattle.reel.specs.Layout.{firstTrace, intervalOf, samplesOf, codeOf, strideOf, tracesOf}
 use Rattle.reel.specs.Causes.{causesOf}
@@ -27,7 +24,7 @@ use Rattle.record.specs.Form.{firstField, heldInterval, heldSamples, heldStride
 use Rattle.record.specs.Held.{heldTrace, heldBy}
 use Rattle.record.specs.Target.{fitCauses, targetCauses}
 use Rattle.transcribe.specs.Reading as reading
-use Rattle.transcribe.specs.Reading.{readCauses, readEnd, readOutcome}
+use Rattle.transcribe.specs.Reading.{readEnd, readOutcome}
 use Rattle.write_reel.specs.Reel.{reelOf, reelLength}
 use Rattle.write_reel.specs.Writing as writing
 use Rattle.write_reel.specs.Writing.{writeCauses, writeEnd, writeOutcome}
@@ -141,14 +138,16 @@ held-count r =
     let n = heldSamples r in
     size-walk (heldTrace r n) (heldStride n) (heldTraces r n) firstField
 
+-- A record that is written.
 module _ (r : List ℕ) (b : Bytes r) (code : ℕ) (out : List ℕ) (w : Writable r code out) where
+  -- What the record holds is proper, and each of its samples fits the code.
   proper : Proper (heldSamples r) (heldInterval r) (heldBy r)
   proper = held-proper r b (w .form)
 
   fitting : Fitting code (heldBy r)
   fitting = fit-is r code .0 (w .fit)
 
-  -- It has the length that the writing returns.
+  -- Its reel has the length that the writing returns.
   pub written-size : length (reelOf code (heldBy r)) ≡ writing.lengthOf r code
   written-size =
       reel-length code (heldSamples r) (heldInterval r) (heldBy r) proper (w .code-is) fitting
