@@ -72,10 +72,11 @@ read-valid s out t n l b e =
 -- ## Valid records
 
 -- THEOREM. Two valid records that hold the same are equal byte for byte.
--- So no reel has two valid records: a reader whose record is valid and holds what the reel means has no choice left.
+-- With `read-valid` it leaves no second record to a reel. Alone it rules out no program of document 01's list, as it speaks of records only.
 pub held-same : (r₁ r₂ : List ℕ) → Bytes r₁ → Bytes r₂ → formCauses r₁ ≡ Fine → formCauses r₂ ≡ Fine → heldBy r₁ ≡ heldBy r₂ → r₁ ≡ r₂
 held-same r₁ r₂ b₁ b₂ v₁ v₂ e = sym (held-again r₁ b₁ v₁) ∙ ap recordOf e ∙ held-again r₂ b₂ v₂
 
 -- THEOREM. A valid record is the record of what it holds.
+-- Rules out no program of the list alone; `back` and `again`, which do, rest on it.
 pub held-record : (r : List ℕ) → Bytes r → formCauses r ≡ Fine → recordOf (heldBy r) ≡ r
 held-record = held-again
