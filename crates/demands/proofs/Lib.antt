@@ -1,1 +1,13 @@
 pub mod Proper
+pub mod Valid
+pub mod Again
+pub mod ProperLaws
+pub mod Fitting
+pub mod From
+pub mod Headers
+pub mod ReelBack
+pub mod RecordBack
+pub mod Taken
+pub mod Demand2
+pub mod Determined
+pub mod Demand3

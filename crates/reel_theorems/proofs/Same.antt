@@ -37,7 +37,7 @@ use Rattle.reel_theorems.proofs.Ranges.{Fit, Some, fit-append, size-num
 
 -- ## Fields
 
-size-field : (tag : ℕ) (l : List ℕ) → length (field tag l) ≡ 3 + length l
+pub size-field : (tag : ℕ) (l : List ℕ) → length (field tag l) ≡ 3 + length l
 unfolding field
 size-field tag l = omega arith
 
@@ -50,20 +50,20 @@ field-split tag l₁ l₂ r₁ r₂ n e =
 -- ## Header numbers
 
 -- that every field has some bytes is computed
-allSome : List ℕ → Bool
+unfoldable pub allSome : List ℕ → Bool
 allSome [] = true
 allSome (w ∷ ws) = ltb 0 w && allSome ws
 
-some-of : (ws : List ℕ) → allSome ws ≡ true → Some ws
+pub some-of : (ws : List ℕ) → allSome ws ≡ true → Some ws
 unfolding allSome
 some-of [] e = tt
 some-of (w ∷ ws) e = let t = and-true (ltb 0 w) (allSome ws) e in (ltb-true 0 w (t .0), some-of ws (t .1))
 
-binary-front-some : Some binary-front
+pub binary-front-some : Some binary-front
 unfolding allSome binary-front
 binary-front-some = some-of binary-front refl
 
-binary-back-some : Some binary-back
+pub binary-back-some : Some binary-back
 unfolding allSome binary-back
 binary-back-some = some-of binary-back refl
 
@@ -99,10 +99,10 @@ trace-fit s h n i at p q =
 -- ## Traces
 
 -- what the traces of a reel are like
-record Like (n : ℕ) (t : Trace) : Type 0 where
-  numbers : Fit traceWidths (t .numbers)
-  count : length (t .values) ≡ n
-  canonical : All (λ v. isCanonical (pairOf v) ≡ true) (t .values)
+pub record Like (n : ℕ) (t : Trace) : Type 0 where
+  pub numbers : Fit traceWidths (t .numbers)
+  pub count : length (t .values) ≡ n
+  pub canonical : All (λ v. isCanonical (pairOf v) ≡ true) (t .values)
 
 value-inj : (v w : ℤ) → isCanonical (pairOf v) ≡ true → isCanonical (pairOf w) ≡ true → valueBytes v ≡ valueBytes w → v ≡ w
 value-inj v w p q e =
@@ -118,7 +118,7 @@ trace-size n t h =
     let a = size-numbers traceWidths (t .numbers) (h .numbers) ∙ counts .3 in
     simp (length-append, size-field) (omega (arith, a, samples-size n t h))
 
-trace-eq : {a b : Trace} → a .numbers ≡ b .numbers → a .values ≡ b .values → a ≡ b
+pub trace-eq : {a b : Trace} → a .numbers ≡ b .numbers → a .values ≡ b .values → a ≡ b
 trace-eq {a} {b} p q = ap₂ made p q
   where
     made : List ℤ → List ℤ → Trace
@@ -134,7 +134,7 @@ trace-inj n t u p q e =
     trace-eq (numbers-inj traceWidths (t .numbers) (u .numbers) (p .numbers) (q .numbers) (h .0))
     (flat-inj valueBytes (λ v. isCanonical (pairOf v) ≡ true) 6 (λ v c. refl) value-inj (t .values) (u .values) (p .count ∙ sym (q .count)) (p .canonical) (q .canonical) (g .0))
 
-trace-like : (s : List ℕ) → Bytes s → (code n i at : ℕ) → n < 2 ^ 15 → i < 2 ^ 15 → Like n (traceMeaning s code n i at)
+pub trace-like : (s : List ℕ) → Bytes s → (code n i at : ℕ) → n < 2 ^ 15 → i < 2 ^ 15 → Like n (traceMeaning s code n i at)
 unfolding traceMeaning
 trace-like s h code n i at p q =
     record {
@@ -203,7 +203,7 @@ binary-same s₁ s₂ e =
     back s = map (fieldNumber s 0) (fieldsFrom 3227 binary-back)
 
 -- N, by the binary numbers: field 3221 is the eighth
-eighth : (s : List ℕ) → getD (binaryNumbers s) 7 (pos 0) ≡ signedOf 16 (samplesOf s)
+pub eighth : (s : List ℕ) → getD (binaryNumbers s) 7 (pos 0) ≡ signedOf 16 (samplesOf s)
 unfolding binaryNumbers binaryFields binaryWidths
 eighth s = refl
 

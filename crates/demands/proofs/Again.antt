@@ -1,0 +1,126 @@
+-- # A valid record is the record of what it holds
+--
+-- Each byte of the record is below 256, and neither 12 nor 13 applies to it; nothing else is assumed.
+use mathlib.Core.Path.{_≡_, refl, sym, ap, ap₂, _∙_}
+use mathlib.Core.List.{List, _∷_, _++_, map}
+use Prim.Native.Nat.{ℕ, zero, suc, _+_, _*_}
+use native.Mathlib.Nat.{zero-mul, suc-mul, add-zero, mul-comm}
+use native.Mathlib.Omega.{arith}
+use lib.ListN.{length}
+use lib.Seq.{take-all}
+use lib.IntN.{pos}
+use Rattle.numbers.specs.Walk.{walk, flat, bytesAt}
+use Rattle.numbers.specs.BigEndian.{bytesOf}
+use Rattle.numbers.specs.declared.Check.the-variants.{Fine}
+use Rattle.numbers.proofs.WalkLaws.{All, all-walk, cons-eq, size-walk, size-bytes, bytes-part}
+use Rattle.numbers.proofs.ByteLaws.{Bytes, bytes-at, bytes-again, bytes-append}
+use Rattle.sample.specs.Calls.{pairLength, pairBytes, pairIn}
+use Rattle.sample.specs.declared.Pair.{Pair}
+use Rattle.sample_theorems.proofs.Pairs.{value-pair-back, pair-bytes}
+use Rattle.reel.specs.Layout.{fieldsFrom, cardBytes, binaryWidths, binaryFields, traceWidths, traceFields, fieldNumber}
+use Rattle.reel.specs.Meaning.{otherThan}
+use Rattle.record.specs.Record.{field, numberBytes, binaryBytes, valueBytes, samplesField, traceBytes, recordOf}
+use Rattle.record.specs.Form.{heldInterval, heldSamples, heldCode, firstField, heldStride, heldTraces, formCauses}
+use Rattle.record.specs.Held.{heldValue, heldTrace, heldBy}
+use Rattle.record.proofs.NumberLaws.{fields-again, numbers-append}
+use Rattle.record.proofs.HeaderLaws.{binary-front, binary-back, counts}
+use Rattle.demands.proofs.Valid.{Stands, CanonicalAt, TraceStands, lastField, Valid, valid}
+
+-- ## Lists joined
+
+-- Two lists joined, each by another that is the same.
+join : {a b c d : List ℕ} → a ≡ c → b ≡ d → a ++ b ≡ c ++ d
+join p q = ap₂ (λ (x y : List ℕ). x ++ y) p q
+
+-- k bytes and the j bytes behind them, by the place and the count that they are asked for with.
+bytes-join : (s : List ℕ) (at k j next sum : ℕ) → at + k ≡ next → k + j ≡ sum → bytesAt s at k ++ bytesAt s next j ≡ bytesAt s at sum
+bytes-join s at k j next sum p q =
+    ap (λ (x : ℕ). bytesAt s at k ++ bytesAt s x j) (sym p) ∙ sym (bytes-append s at k j) ∙ ap (bytesAt s at) q
+
+-- Where what stands at each offset of a walk is encoded in the w bytes that stand there, the encodings joined are all those bytes.
+pub walk-again : {A : Type 0} (g : A → List ℕ) (f : ℕ → A) (s : List ℕ) (w k at : ℕ)
+    → All (λ a. g (f a) ≡ bytesAt s a w) (walk (λ a. a) w k at) → flat (map g (walk f w k at)) ≡ bytesAt s at (k * w)
+unfolding bytesAt
+walk-again g f s w zero at h = ap (bytesAt s at) (sym (zero-mul w))
+walk-again g f s w (suc k) at h =
+    join (h .0) (walk-again g f s w k (at + w) (h .1))
+    ∙ bytes-join s at w (k * w) (at + w) (suc k * w) refl (omega (arith, suc-mul k w))
+
+-- ## Fields
+
+-- A field that stands at a place, of which l is the content, is the bytes that stand there.
+pub field-again : (s : List ℕ) → Bytes s → (tag size at : ℕ) (l : List ℕ) → Stands s tag size at → l ≡ bytesAt s (at + 3) size
+    → field tag l ≡ bytesAt s at (3 + size)
+unfolding field bytesAt
+field-again s h tag size at l f e =
+    let k : length l ≡ size = ap length e ∙ size-bytes s (at + 3) size in
+    let c : bytesOf 2 (length l) ≡ bytesAt s (at + 1) 2 = ap (bytesOf 2) (k ∙ sym (f .size-is)) ∙ bytes-again s h (at + 1) 2 in
+    let front : tag ∷ bytesOf 2 (length l) ≡ bytesAt s at 3 = cons-eq (sym (f .tag-is)) c in
+    join front e ∙ sym (bytes-append s at 3 size)
+
+-- ## The binary fields
+
+-- The binary numbers that a record holds, written again with the format code 0 that stands among them.
+binary-again : (s : List ℕ) → Bytes s → heldCode s ≡ 0 → binaryBytes 0 (map (fieldNumber s 6) (otherThan 3225 binaryFields)) ≡ bytesAt s 3206 60
+unfolding binaryBytes binaryFields binaryWidths binary-front binary-back
+binary-again s h c =
+    let f = fieldNumber s 6 in
+    let code : bytesOf 2 0 ≡ bytesAt s 3230 2 = ap (bytesOf 2) (sym c) ∙ bytes-again s h 3230 2 in
+    numbers-append binary-front (2 ∷ binary-back) (map f (fieldsFrom 3201 binary-front)) (pos 0 ∷ map f (fieldsFrom 3227 binary-back)) refl
+    ∙ join (fields-again s h 6 3201 binary-front (omega arith)) (join code (fields-again s h 6 3227 binary-back (omega arith)) ∙ bytes-join s 3230 2 34 3232 36 refl refl)
+    ∙ bytes-join s 3206 24 36 3230 60 refl refl
+
+-- ## Traces
+
+-- A canonical pair, by its value and written again.
+value-again : (s : List ℕ) → Bytes s → (at : ℕ) → CanonicalAt s at → valueBytes (heldValue s at) ≡ bytesAt s at pairLength
+value-again s h at c =
+    let b = bytesAt s at pairLength in
+    ap (λ (p : Pair). pairBytes (p .e) (p .m)) (value-pair-back (pairIn b) c) ∙ pair-bytes b (size-bytes s at pairLength) (bytes-at s h at pairLength)
+
+-- The numbers of a trace header, written again.
+header-again : (s : List ℕ) → Bytes s → (at : ℕ) → numberBytes traceWidths (map (fieldNumber s at) traceFields) ≡ bytesAt s at 180
+unfolding traceFields
+header-again s h at =
+    fields-again s h at 1 traceWidths (omega arith) ∙ ap₂ (λ (a k : ℕ). bytesAt s a k) (add-zero at) (counts .3)
+
+-- A trace that stands in a record, by what it holds and written again.
+trace-again : (s : List ℕ) → Bytes s → (n i at : ℕ) → TraceStands s n i at → traceBytes (heldTrace s n at) ≡ bytesAt s at (heldStride n)
+unfolding traceBytes samplesField heldTrace
+trace-again s h n i at t =
+    let next : at + 183 + 3 ≡ at + 186 = omega arith in
+    let values : flat (map valueBytes (walk (heldValue s) pairLength n (at + 186))) ≡ bytesAt s (at + 183 + 3) (pairLength * n) =
+    ap (λ (a : ℕ). flat (map valueBytes (walk (heldValue s) pairLength n a))) (sym next)
+    ∙ walk-again valueBytes (heldValue s) s pairLength n (at + 183 + 3) (all-walk (CanonicalAt s) (λ a. valueBytes (heldValue s a) ≡ bytesAt s a pairLength) (λ a. a) (λ a. a) (value-again s h) pairLength n (at + 183 + 3) (t .pairs))
+    ∙ ap (bytesAt s (at + 183 + 3)) (mul-comm n pairLength) in
+    join (field-again s h 3 180 at _ (t .header) (header-again s h (at + 3))) (field-again s h 4 (pairLength * n) (at + 183) _ (t .samples) values)
+    ∙ bytes-join s at 183 (3 + pairLength * n) (at + 183) (heldStride n) refl (omega arith)
+
+-- ## The record
+
+-- The bytes of a record are all its bytes from the place 0 on.
+all-bytes : (s : List ℕ) → bytesAt s 0 (length s) ≡ s
+all-bytes s = sym (bytes-part s 0 (length s) (omega arith)) ∙ take-all (length s) s (omega arith)
+
+-- The four pieces of a valid record, each from what it holds.
+pieces-again : (s : List ℕ) → Bytes s → Valid s → recordOf (heldBy s) ≡ s
+unfolding recordOf heldBy
+pieces-again s h v =
+    let n = heldSamples s in
+    let i = heldInterval s in
+    let t = heldTraces s n in
+    let w = heldStride n in
+    let cards = field-again s h 1 cardBytes 0 (bytesAt s 3 cardBytes) (v .cards) refl in
+    let binary = field-again s h 2 60 3203 _ (v .binary) (binary-again s h (v .code-is)) in
+    let traces = walk-again traceBytes (heldTrace s n) s w t firstField (all-walk (TraceStands s n i) (λ a. traceBytes (heldTrace s n a) ≡ bytesAt s a w) (λ a. a) (λ a. a) (trace-again s h n i) w t firstField (v .traces)) in
+    let count : bytesOf 4 (length (walk (heldTrace s n) w t firstField)) ≡ bytesAt s (lastField s + 3) 4 =
+    ap (bytesOf 4) (size-walk (heldTrace s n) w t firstField ∙ sym (v .count-is)) ∙ bytes-again s h (lastField s + 3) 4 in
+    let end = field-again s h 5 4 (lastField s) _ (v .count) count in
+    let behind = join traces end ∙ bytes-join s firstField (t * w) 7 (lastField s) (t * w + 7) refl refl in
+    join cards (join binary behind ∙ bytes-join s 3203 63 (t * w + 7) firstField (63 + (t * w + 7)) refl refl)
+    ∙ bytes-join s 0 3203 (63 + (t * w + 7)) 3203 (length s) refl (omega (arith, v .count .whole, v .last))
+    ∙ all-bytes s
+
+-- THEOREM. A valid record is the record of what it holds.
+pub held-again : (r : List ℕ) → Bytes r → formCauses r ≡ Fine → recordOf (heldBy r) ≡ r
+held-again r h e = pieces-again r h (valid r e)

@@ -1,0 +1,173 @@
+-- # Demand 2: a reel becomes its record, a record becomes a reel, and reading that reel gives the record again
+--
+-- "A reel becomes the record that SEG-Y revision 0 and the IBM word define, as document 01 condenses them. A valid record is written as a
+-- reel in any code that holds every sample exactly, if the output is long enough, and reading that reel gives the record again."
+--
+-- Five theorems say so, over the outcomes that the contracts of reading and writing give. A record or a written reel is the output's first
+-- bytes, as many as the length returned.
+--
+-- - `reading`: where reading a reel is taken, the numbers returned are the reel's T and N and 3273 + T × (186 + 6N), the output's first
+--   bytes are the record of what the reel means, of that length, and the rest of the output keeps its content.
+-- - `writing`: writing a valid record is taken exactly when the code is from 1 to 4, every sample that the record holds has a word under
+--   it, and the output is long enough.
+-- - `written`: where writing is taken, the record is valid, the numbers returned are its T and N and the reel's length, the output's first
+--   bytes are the reel of what the record holds, of that length, and the rest of the output keeps its content.
+-- - `back`: reading the reel that was written, into an output long enough, is taken with the same T and N, and gives the record again byte
+--   for byte.
+-- - `round`: the second sentence at once. A valid record, a code of 1 to 4 that holds every sample exactly and an output long enough: the
+--   writing is taken, and reading what it wrote gives the record again.
+--
+-- Each byte of a reel and of a record is below 256; nothing else is assumed. Every reel, record, code and output is meant.
+use mathlib.Core.Path.{_≡_, sym, ap, ap₂, _∙_}
+use mathlib.Core.List.{List, [], _∷_, _++_}
+use mathlib.Core.Bool.{true}
+use Prim.Native.Nat.{ℕ, _+_, _*_, _≤_}
+use lib.ListN.{length, take, drop}
+use lib.Seq.{take-at, drop-at}
+use Rattle.numbers.specs.Outcome.{taken, Outcome}
+use Rattle.numbers.specs.declared.Check.the-variants.{Fine}
+use Rattle.numbers.proofs.WalkLaws.{All}
+use Rattle.numbers.proofs.ByteLaws.{Bytes}
+use Rattle.sample.specs.Reading.{isCode}
+use Rattle.sample_theorems.proofs.Pairs.{Iff}
+use Rattle.reel.specs.Layout.{samplesOf, tracesOf, sampleBytes}
+use Rattle.reel.specs.Meaning.{Trace, meaningOf}
+use Rattle.record.specs.Record.{recordOf}
+use Rattle.record.specs.Form.{heldInterval, heldSamples, heldTraces, formCauses}
+use Rattle.record.specs.Held.{heldBy}
+use Rattle.transcribe.specs.Reading.{readOutcome}
+use Rattle.write_reel.specs.Reel.{reelOf, reelLength}
+use Rattle.write_reel.specs.Writing.{writeEnd, writeOutcome}
+use Rattle.reel_theorems.proofs.Same.{record-size}
+use Rattle.reel_theorems.proofs.Output.{taken-reel, taken-outcome, taken-numbers, output-record}
+use Rattle.demands.proofs.ProperLaws.{held-proper}
+use Rattle.demands.proofs.Fitting.{fit-is, HasWord}
+use Rattle.demands.proofs.Taken.{fitting-words, needs, written-needs, write-taken, written-size, written-read}
+
+-- ## A reel becomes its record
+
+-- What reading a reel gives, where it returns t, n and the length l.
+pub record RecordRead (s out : List ℕ) (t n l : ℕ) : Type 0 where
+  -- T and N are those of the reel, and the length is that of a record of T traces of N samples.
+  pub traces : t ≡ tracesOf s
+  pub samples : n ≡ samplesOf s
+  pub size : l ≡ 3273 + t * (186 + 6 * n)
+  -- The output's first bytes are the record of what the reel means, and they are all of it.
+  pub content : take l (readOutcome s out .bytes) ≡ recordOf (meaningOf s)
+  pub whole : length (recordOf (meaningOf s)) ≡ l
+  -- The rest of the output keeps its content.
+  pub rest : drop l (readOutcome s out .bytes) ≡ drop l out
+
+-- Three numbers that are returned are the same as the three that are known to be.
+same-numbers : {t n l t₂ n₂ l₂ : ℕ} → taken (t ∷ n ∷ l ∷ []) ≡ taken (t₂ ∷ n₂ ∷ l₂ ∷ []) → (t ≡ t₂) × (n ≡ n₂) × (l ≡ l₂)
+same-numbers e = (cc, cc, cc)
+
+-- THEOREM. A reel becomes the record that SEG-Y revision 0 and the IBM word define.
+-- Rules out a reader that gives one fixed record, one that writes nothing and says taken, one that converts the first trace and copies it
+-- for the rest, and one whose T or length is invented.
+pub reading : (s out : List ℕ) (t n l : ℕ) → Bytes s → readOutcome s out .said ≡ taken (t ∷ n ∷ l ∷ []) → RecordRead s out t n l
+reading s out t n l b e =
+    let k = same-numbers (sym e ∙ taken-numbers s out (t ∷ n ∷ l ∷ []) e) in
+    let whole : length (recordOf (meaningOf s)) ≡ l = record-size s b (taken-reel s out (t ∷ n ∷ l ∷ []) e) ∙ sym (k .2) in
+    record {
+      traces = k .0;
+      samples = k .1;
+      size = k .2 ∙ ap₂ (λ (x y : ℕ). 3273 + x * (186 + 6 * y)) (sym (k .0)) (sym (k .1));
+      content = output-record s out t n l b e;
+      whole = whole;
+      rest =
+          ap (λ (o : Outcome). drop l (o .bytes)) (taken-outcome s out (t ∷ n ∷ l ∷ []) e)
+          ∙ drop-at (recordOf (meaningOf s)) _ l whole ∙ ap (λ (x : ℕ). drop x out) (sym (k .2));
+    }
+
+-- ## A record becomes a reel
+
+-- What it takes to write a record: the code is from 1 to 4, it holds every sample exactly, and the output is long enough.
+pub record CanBeWritten (r : List ℕ) (code : ℕ) (out : List ℕ) : Type 0 where
+  pub code-is : isCode code ≡ true
+  pub held : All (λ (t : Trace). All (HasWord code) (t .values)) (heldBy r .traces)
+  pub room : 3600 + heldTraces r (heldSamples r) * (240 + heldSamples r * sampleBytes code) ≤ length out
+
+-- THEOREM. A valid record is written as a reel in any code that holds every sample exactly, if the output is long enough; and in no other
+-- case.
+-- Rules out a writer that declines every record, and one that says output too short before working out the length.
+pub writing : (r : List ℕ) (code : ℕ) (out : List ℕ) → Bytes r → formCauses r ≡ Fine
+    → Iff ((numbers : List ℕ) × (writeOutcome r code out .said ≡ taken numbers)) (CanBeWritten r code out)
+writing r code out b v = (there, here)
+  where
+    there : (numbers : List ℕ) × (writeOutcome r code out .said ≡ taken numbers) → CanBeWritten r code out
+    there e =
+        let w = written-needs r code out (e .0) (e .1) in
+        record {
+          code-is = w .code-is;
+          held = fitting-words code (heldSamples r) (heldInterval r) (heldBy r) (held-proper r b v) (w .code-is) (fit-is r code .0 (w .fit));
+          room = w .room;
+        }
+
+    here : CanBeWritten r code out → (numbers : List ℕ) × (writeOutcome r code out .said ≡ taken numbers)
+    here h =
+        let w = needs r code out b v (h .code-is) (h .held) (h .room) in
+        (_, ap (λ (o : Outcome). o .said) (write-taken r code out w))
+
+-- What writing a record gives, where it returns t, n and the length l.
+pub record ReelWritten (r : List ℕ) (code : ℕ) (out : List ℕ) (t n l : ℕ) : Type 0 where
+  -- The record is valid.
+  pub valid : formCauses r ≡ Fine
+  -- T and N are those of the record, and the length is that of a reel of T traces of N samples.
+  pub traces : t ≡ heldTraces r (heldSamples r)
+  pub samples : n ≡ heldSamples r
+  pub size : l ≡ 3600 + t * (240 + n * sampleBytes code)
+  -- The output's first bytes are the reel of what the record holds, and they are all of it.
+  pub content : take l (writeOutcome r code out .bytes) ≡ reelOf code (heldBy r)
+  pub whole : length (reelOf code (heldBy r)) ≡ l
+  -- The rest of the output keeps its content.
+  pub rest : drop l (writeOutcome r code out .bytes) ≡ drop l out
+
+-- THEOREM. What is written is the reel of what the record holds.
+-- Rules out a writer that writes nothing and says taken, one that converts the first trace and copies it for the rest, and one whose T or
+-- length is invented.
+pub written : (r : List ℕ) (code : ℕ) (out : List ℕ) (t n l : ℕ) → Bytes r → writeOutcome r code out .said ≡ taken (t ∷ n ∷ l ∷ [])
+    → ReelWritten r code out t n l
+written r code out t n l b e =
+    let w = written-needs r code out (t ∷ n ∷ l ∷ []) e in
+    let o : writeOutcome r code out ≡ writeEnd r code out Fine = write-taken r code out w in
+    let k = same-numbers (sym e ∙ ap (λ (x : Outcome). x .said) o) in
+    let whole : length (reelOf code (heldBy r)) ≡ l = written-size r b code out w ∙ sym (k .2) in
+    record {
+      valid = w .form;
+      traces = k .0;
+      samples = k .1;
+      size = k .2 ∙ ap₂ (reelLength code) (sym (k .0)) (sym (k .1));
+      content = ap (λ (x : Outcome). take l (x .bytes)) o ∙ take-at (reelOf code (heldBy r)) _ l whole;
+      whole = whole;
+      rest =
+          ap (λ (x : Outcome). drop l (x .bytes)) o ∙ drop-at (reelOf code (heldBy r)) _ l whole ∙ ap (λ (x : ℕ). drop x out) (sym (k .2));
+    }
+
+-- ## Reading the reel that was written
+
+-- THEOREM. Reading that reel gives the record again, byte for byte and with the same T and N, in every output that is long enough.
+-- Rules out a reader and a writer that each give one fixed answer, that write nothing and say taken, that convert the first trace and copy
+-- it for the rest, or whose T or length is invented.
+pub back : (r : List ℕ) (code : ℕ) (out out₂ : List ℕ) (t n l : ℕ) → Bytes r → writeOutcome r code out .said ≡ taken (t ∷ n ∷ l ∷ []) → length r ≤ length out₂
+    → readOutcome (take l (writeOutcome r code out .bytes)) out₂ ≡ record { said = taken (t ∷ n ∷ length r ∷ []); bytes = r ++ drop (length r) out₂ }
+back r code out out₂ t n l b e h =
+    let w = written-needs r code out (t ∷ n ∷ l ∷ []) e in
+    let k = written r code out t n l b e in
+    ap (λ (s : List ℕ). readOutcome s out₂) (k .content)
+    ∙ written-read r b code out w out₂ h
+    ∙ ap₂ (λ (x y : ℕ). record { said = taken (x ∷ y ∷ length r ∷ []); bytes = r ++ drop (length r) out₂ }) (sym (k .traces)) (sym (k .samples))
+
+-- THEOREM. A valid record is written as a reel in any code that holds every sample exactly, if the output is long enough, and reading that
+-- reel gives the record again.
+-- Rules out a writer that declines every record, and what `back` rules out.
+pub round : (r : List ℕ) (code : ℕ) (out out₂ : List ℕ) → Bytes r → formCauses r ≡ Fine → CanBeWritten r code out → length r ≤ length out₂
+    → (t n l : ℕ) × (writeOutcome r code out .said ≡ taken (t ∷ n ∷ l ∷ []))
+    × (readOutcome (take l (writeOutcome r code out .bytes)) out₂ ≡ record { said = taken (t ∷ n ∷ length r ∷ []); bytes = r ++ drop (length r) out₂ })
+round r code out out₂ b v h room =
+    let w = needs r code out b v (h .code-is) (h .held) (h .room) in
+    let n = heldSamples r in
+    let t = heldTraces r n in
+    let l = reelLength code t n in
+    let e : writeOutcome r code out .said ≡ taken (t ∷ n ∷ l ∷ []) = ap (λ (o : Outcome). o .said) (write-taken r code out w) in
+    (t, n, l, e, back r code out out₂ t n l b e room)

@@ -1,0 +1,175 @@
+-- # Demand 3: records are equal exactly when the reels mean the same, and a reel written again means the same
+--
+-- "Two reels that are read without refusal have records equal byte for byte exactly when they mean the same: same card text, same number in
+-- every assigned header field but the format code, same count of traces, sample by sample the same exact value, all taken from the reel's
+-- own bytes and never from a record. Every reel written from such a record is read without refusal, means the same and has the same record."
+--
+-- A record or a written reel is the output's first bytes, as many as the length returned.
+--
+-- - `same`: where the readings of two reels are taken, each in any code and each into any output, the two records are equal exactly when the
+--   reels mean the same.
+-- - `again`: where the reading of a reel is taken, and the writing of its record under any code is taken, no cause of 1 to 9 applies to the
+--   reel that was written, it is in that code, it means the same as the first reel and has the same record; and reading it into an output
+--   long enough is taken with the same T, N and length, and gives that record.
+-- - `held`: so that `again` is no empty promise, the record of a reel whose reading is taken is written under every code of 1 to 4 that has a
+--   word for each of the reel's sample values, into every output that is long enough.
+-- - `own`: the reel's own code is one of those, and under it a reel of the same length is written.
+--
+-- Each byte of a reel is below 256; nothing else is assumed.
+use mathlib.Core.Path.{_≡_, refl, sym, ap, ap₂, _∙_, subst}
+use mathlib.Core.List.{List, [], _∷_, _++_}
+use mathlib.Core.Bool.{true}
+use Prim.Native.Nat.{ℕ, _+_, _-_, _*_, _≤_}
+use native.Mathlib.Nat.{div-add-mod'}
+use native.Mathlib.Omega.{arith}
+use borrow.Author.Tests.{le-leb}
+use lib.ListN.{length, take, drop}
+use Rattle.numbers.specs.Walk.{bytesAt}
+use Rattle.numbers.specs.Cause.{refuseIf}
+use Rattle.numbers.specs.Outcome.{taken, Outcome}
+use Rattle.numbers.specs.declared.Check.the-variants.{Fine}
+use Rattle.numbers.proofs.WalkLaws.{All, cons-eq, size-bytes}
+use Rattle.numbers.proofs.ByteLaws.{Bytes, bytes-at}
+use Rattle.numbers.proofs.CauseLaws.{passed, then-fine, first-all}
+use Rattle.sample.specs.Value.{exactValue}
+use Rattle.sample.specs.Reading.{isCode}
+use Rattle.sample_theorems.proofs.Pairs.{Iff}
+use Rattle.reel.specs.Layout.{firstTrace, traceHeader, word, intervalOf, samplesOf, codeOf, sampleBytes, strideOf, tracesOf}
+use Rattle.reel.specs.Causes.{neither, wordCause, traceCauses, causesOf}
+use Rattle.reel.specs.Meaning.{Trace, traceMeaning, Meaning, meaningOf, MeanTheSame}
+use Rattle.reel.proofs.CheckLaws.{reel-fine}
+use Rattle.record.specs.Record.{reelRecord}
+use Rattle.transcribe.specs.Reading.{readOutcome}
+use Rattle.write_reel.specs.Reel.{reelLength}
+use Rattle.write_reel.specs.Writing.{writeOutcome}
+use Rattle.reel_theorems.proofs.Same.{same-records}
+use Rattle.reel_theorems.proofs.Output.{taken-reel, same-outputs}
+use Rattle.demands.proofs.Fitting.{HasWord}
+use Rattle.demands.proofs.Taken.{written-needs, needs, write-taken, written-bytes, written-no-cause, written-code, written-record}
+use Rattle.demands.proofs.Demand2.{reading, written, back}
+use Rattle.demands.proofs.Determined.{read-valid}
+
+-- ## Two reels
+
+-- THEOREM. Two reels that are read without refusal have records equal byte for byte exactly when they mean the same.
+-- Rules out a reader that gives one fixed record, and one that converts the first trace and copies it for the rest.
+pub same : (s₁ s₂ out₁ out₂ : List ℕ) (t₁ n₁ l₁ t₂ n₂ l₂ : ℕ) → Bytes s₁ → Bytes s₂
+    → readOutcome s₁ out₁ .said ≡ taken (t₁ ∷ n₁ ∷ l₁ ∷ []) → readOutcome s₂ out₂ .said ≡ taken (t₂ ∷ n₂ ∷ l₂ ∷ [])
+    → Iff (take l₁ (readOutcome s₁ out₁ .bytes) ≡ take l₂ (readOutcome s₂ out₂ .bytes)) (MeanTheSame s₁ s₂)
+same = same-outputs
+
+-- ## A reel written from a record
+
+-- What a reel is that was written, under a code, from the record r of the reel s, whose reading returned t, n and l.
+pub record ReelAgain (s : List ℕ) (t n l : ℕ) (r : List ℕ) (code : ℕ) (reel : List ℕ) : Type 0 where
+  -- No cause of 1 to 9 applies to it, and its format code is the one asked for.
+  pub no-cause : causesOf reel ≡ Fine
+  pub code-is : codeOf reel ≡ code
+  -- It means the same as the reel s.
+  pub means : MeanTheSame s reel
+  -- Its record is r,
+  pub has : reelRecord reel ≡ r
+  -- and reading it into any output that is long enough returns t, n and l and gives r.
+  pub read : (out : List ℕ) → l ≤ length out → readOutcome reel out ≡ record { said = taken (t ∷ n ∷ l ∷ []); bytes = r ++ drop l out }
+
+-- THEOREM. Every reel written from such a record is read without refusal, means the same and has the same record.
+-- Rules out a writer that writes nothing and says taken, a writer or a reader that converts the first trace and copies it for the rest, and
+-- either with a T or a length that is invented.
+pub again : (s out : List ℕ) (t n l : ℕ) (code : ℕ) (out₂ : List ℕ) (t₂ n₂ l₂ : ℕ) → Bytes s → readOutcome s out .said ≡ taken (t ∷ n ∷ l ∷ [])
+    → writeOutcome (take l (readOutcome s out .bytes)) code out₂ .said ≡ taken (t₂ ∷ n₂ ∷ l₂ ∷ [])
+    → ReelAgain s t n l (take l (readOutcome s out .bytes)) code (take l₂ (writeOutcome (take l (readOutcome s out .bytes)) code out₂ .bytes))
+again s out t n l code out₂ t₂ n₂ l₂ b e e₂ =
+    let r = take l (readOutcome s out .bytes) in
+    let x = reading s out t n l b e in
+    let v = read-valid s out t n l b e in
+    let h = v .bytes in
+    let w = written-needs r code out₂ (t₂ ∷ n₂ ∷ l₂ ∷ []) e₂ in
+    let k = written r code out₂ t₂ n₂ l₂ h e₂ in
+    let size : length r ≡ l = ap length (x .content) ∙ x .whole in
+    let f = written-no-cause r h code out₂ w in
+    let has = written-record r h code out₂ w in
+    let means = same-records s _ b (written-bytes r h code out₂ w) (taken-reel s out (t ∷ n ∷ l ∷ []) e) f .0 (sym (x .content) ∙ sym has) in
+    record {
+      no-cause = ap causesOf (k .content) ∙ f;
+      code-is = ap codeOf (k .content) ∙ written-code r h code out₂ w;
+      means = subst (MeanTheSame s) (sym (k .content)) means;
+      has = ap reelRecord (k .content) ∙ has;
+      read = λ out₃ room.
+          back r code out₂ out₃ t₂ n₂ l₂ h e₂ (rw size room)
+          ∙ ap (λ (j : ℕ). record { said = taken (t₂ ∷ n₂ ∷ j ∷ []); bytes = r ++ drop j out₃ }) size
+          ∙ ap₂ (λ (i j : ℕ). record { said = taken (i ∷ j ∷ l ∷ []); bytes = r ++ drop l out₃ }) (k .traces ∙ v .traces) (k .samples ∙ v .samples);
+    }
+
+-- ## Which reels are written
+
+-- THEOREM. The record of a reel read without refusal is written under every code of 1 to 4 that has a word for each of the reel's sample
+-- values, into every output that is long enough.
+-- Rules out a writer that declines every record, and one whose T or length is invented.
+pub held : (s out : List ℕ) (t n l : ℕ) (code : ℕ) (out₂ : List ℕ) → Bytes s → readOutcome s out .said ≡ taken (t ∷ n ∷ l ∷ [])
+    → isCode code ≡ true → All (λ (x : Trace). All (HasWord code) (x .values)) (meaningOf s .traces)
+    → 3600 + t * (240 + n * sampleBytes code) ≤ length out₂
+    → writeOutcome (take l (readOutcome s out .bytes)) code out₂ .said ≡ taken (t ∷ n ∷ (3600 + t * (240 + n * sampleBytes code)) ∷ [])
+held s out t n l code out₂ b e c f h =
+    let r = take l (readOutcome s out .bytes) in
+    let v = read-valid s out t n l b e in
+    let size = ap₂ (reelLength code) (v .traces) (v .samples) in
+    let words = subst (λ (m : Meaning). All (λ (x : Trace). All (HasWord code) (x .values)) (m .traces)) (sym (v .holds)) f in
+    let w = needs r code out₂ (v .bytes) (v .valid) c words (rw size h) in
+    ap (λ (o : Outcome). o .said) (write-taken r code out₂ w) ∙ ap taken (cons-eq (v .traces) (cons-eq (v .samples) (cons-eq size refl)))
+
+-- Each sample of a trace of a reel has its own word, where 9 doesn't apply to it.
+trace-words : (s : List ℕ) → Bytes s → (code n i at : ℕ) → traceCauses s code n i at ≡ Fine → All (HasWord code) (traceMeaning s code n i at .values)
+unfolding traceCauses traceMeaning
+trace-words s h code n i at e =
+    let a = then-fine (refuseIf (neither (word s (at + 114)) n) 7 (at + 114)) _ e in
+    let b = then-fine (refuseIf (neither (word s (at + 116)) i) 8 (at + 116)) _ (a .1) in
+    first-all (wordCause s code) (λ p. exactValue code (bytesAt s p 4)) (HasWord code) own-word (sampleBytes code) n (at + traceHeader) (b .1)
+  where
+    own-word : (p : ℕ) → wordCause s code p ≡ Fine → HasWord code (exactValue code (bytesAt s p 4))
+    own-word p q =
+        record {
+          word = bytesAt s p 4;
+          size = size-bytes s p 4;
+          bytes = bytes-at s h p 4;
+          good = passed _ _ _ q;
+          value = refl;
+        }
+
+-- Each sample value of a reel to which no cause of 1 to 9 applies has a word under the reel's own code.
+reel-words : (s : List ℕ) → Bytes s → causesOf s ≡ Fine → All (λ (x : Trace). All (HasWord (codeOf s)) (x .values)) (meaningOf s .traces)
+unfolding meaningOf
+reel-words s h f =
+    let code = codeOf s in
+    let n = samplesOf s in
+    let i = intervalOf s in
+    first-all (traceCauses s code n i) (traceMeaning s code n i) (λ (x : Trace). All (HasWord code) (x .values)) (trace-words s h code n i) (strideOf s) (tracesOf s) firstTrace (reel-fine s f .traces)
+
+-- It has the bytes of its headers and its whole traces, and no others.
+reel-size : (s : List ℕ) → causesOf s ≡ Fine → reelLength (codeOf s) (tracesOf s) (samplesOf s) ≡ length s
+reel-size s f =
+    let v = reel-fine s f in
+    omega (arith, v .long, v .whole, div-add-mod' (length s - firstTrace) (strideOf s))
+
+-- What the reel s, whose reading returned t, n and l and gave the record r, has under its own code.
+pub record OwnCode (s : List ℕ) (t n : ℕ) (r : List ℕ) : Type 0 where
+  -- The code is one of the four, and each sample value has a word under it.
+  pub code-is : isCode (codeOf s) ≡ true
+  pub words : All (λ (x : Trace). All (HasWord (codeOf s)) (x .values)) (meaningOf s .traces)
+  -- The record is written under it into any output with room for the reel, as a reel of the same length.
+  pub writes : (out : List ℕ) → length s ≤ length out → writeOutcome r (codeOf s) out .said ≡ taken (t ∷ n ∷ length s ∷ [])
+
+-- THEOREM. The reel's own code has a word for each of the reel's sample values, and its record is written under that code.
+-- Rules out a writer that declines every record, and one whose T or length is invented.
+pub own : (s out : List ℕ) (t n l : ℕ) → Bytes s → readOutcome s out .said ≡ taken (t ∷ n ∷ l ∷ []) → OwnCode s t n (take l (readOutcome s out .bytes))
+own s out t n l b e =
+    let f = taken-reel s out (t ∷ n ∷ l ∷ []) e in
+    let x = reading s out t n l b e in
+    let k = reel-fine s f .numbers in
+    let c : isCode (codeOf s) ≡ true = rw (le-leb 1 (codeOf s) (k .code-low), le-leb (codeOf s) 4 (k .code-high)) in
+    let size : reelLength (codeOf s) t n ≡ length s = ap₂ (reelLength (codeOf s)) (x .traces) (x .samples) ∙ reel-size s f in
+    record {
+      code-is = c;
+      words = reel-words s b f;
+      writes = λ out₂ room.
+          held s out t n l (codeOf s) out₂ b e c (reel-words s b f) (rw size room) ∙ ap (λ (j : ℕ). taken (t ∷ n ∷ j ∷ [])) size;
+    }

@@ -1,0 +1,82 @@
+-- # Theorem 4: a record and what it holds determine each other
+--
+-- "A record is valid when neither 12 nor 13 applies to it"; "a record or a written reel is the output's first bytes, as many as the length
+-- returned."
+--
+-- - `read-valid`: where reading a reel is taken, the record in the output is valid, it holds what the reel means, and its T and N are those
+--   returned.
+-- - `held-same`: two valid records that hold the same are equal byte for byte.
+-- - `held-record`: a valid record is the record of what it holds.
+--
+-- Each byte of a reel and of a record is below 256; nothing else is assumed.
+use mathlib.Core.Path.{_≡_, sym, ap, _∙_}
+use mathlib.Core.List.{List, [], _∷_}
+use Prim.Native.Nat.{ℕ}
+use lib.ListN.{take}
+use Rattle.numbers.specs.Outcome.{taken}
+use Rattle.numbers.specs.declared.Check.the-variants.{Fine}
+use Rattle.numbers.proofs.ByteLaws.{Bytes}
+use Rattle.reel.specs.Layout.{samplesOf, intervalOf, tracesOf}
+use Rattle.reel.specs.Causes.{causesOf}
+use Rattle.reel.specs.Meaning.{meaningOf}
+use Rattle.record.specs.Record.{recordOf}
+use Rattle.record.specs.Form.{heldSamples, heldTraces, formCauses}
+use Rattle.record.specs.Held.{heldBy}
+use Rattle.transcribe.specs.Reading.{readOutcome}
+use Rattle.reel_theorems.proofs.Output.{taken-reel}
+use Rattle.demands.proofs.Again.{held-again}
+use Rattle.demands.proofs.Proper.{Proper}
+use Rattle.demands.proofs.ProperLaws.{reel-proper}
+use Rattle.demands.proofs.RecordBack.{record-bytes, record-samples, record-traces, record-no-cause, record-again}
+use Rattle.demands.proofs.Taken.{meant-count}
+use Rattle.demands.proofs.Demand2.{reading}
+
+-- ## The record that reading gives
+
+-- r is a valid record, with the T and N of t and n, that holds what the reel s means.
+pub record RecordHolds (s : List ℕ) (t n : ℕ) (r : List ℕ) : Type 0 where
+  -- It is a list of bytes, and neither 12 nor 13 applies to it.
+  pub bytes : Bytes r
+  pub valid : formCauses r ≡ Fine
+  -- It holds what the reel means.
+  pub holds : heldBy r ≡ meaningOf s
+  -- Its T and N are t and n.
+  pub traces : heldTraces r (heldSamples r) ≡ t
+  pub samples : heldSamples r ≡ n
+
+-- The record of what a reel means to which no cause of 1 to 9 applies.
+meant : (s : List ℕ) → Bytes s → causesOf s ≡ Fine → RecordHolds s (tracesOf s) (samplesOf s) (recordOf (meaningOf s))
+meant s b f =
+    let n = samplesOf s in
+    let i = intervalOf s in
+    let m = meaningOf s in
+    let p : Proper n i m = reel-proper s b f in
+    record {
+      bytes = record-bytes n i m p;
+      valid = record-no-cause n i m p;
+      holds = record-again n i m p;
+      traces = ap (heldTraces (recordOf m)) (record-samples n i m p) ∙ record-traces n i m p ∙ meant-count s;
+      samples = record-samples n i m p;
+    }
+
+-- THEOREM. Every record that reading gives is valid and holds what the reel means.
+-- Rules out a reader that gives one fixed record, one that writes nothing and says taken, one that converts the first trace and copies it for
+-- the rest, and one whose T or length is invented.
+pub read-valid : (s out : List ℕ) (t n l : ℕ) → Bytes s → readOutcome s out .said ≡ taken (t ∷ n ∷ l ∷ [])
+    → RecordHolds s t n (take l (readOutcome s out .bytes))
+read-valid s out t n l b e =
+    let k = reading s out t n l b e in
+    let h = meant s b (taken-reel s out (t ∷ n ∷ l ∷ []) e) in
+    rw (k .traces, k .samples, k .content) h
+
+-- ## Valid records
+
+-- THEOREM. Two valid records that hold the same are equal byte for byte.
+-- With `read-valid` it leaves no second record to a reel. Alone it rules out no program of document 01's list, as it speaks of records only.
+pub held-same : (r₁ r₂ : List ℕ) → Bytes r₁ → Bytes r₂ → formCauses r₁ ≡ Fine → formCauses r₂ ≡ Fine → heldBy r₁ ≡ heldBy r₂ → r₁ ≡ r₂
+held-same r₁ r₂ b₁ b₂ v₁ v₂ e = sym (held-again r₁ b₁ v₁) ∙ ap recordOf e ∙ held-again r₂ b₂ v₂
+
+-- THEOREM. A valid record is the record of what it holds.
+-- Rules out no program of the list alone; `back` and `again`, which do, rest on it.
+pub held-record : (r : List ℕ) → Bytes r → formCauses r ≡ Fine → recordOf (heldBy r) ≡ r
+held-record = held-again

@@ -1,0 +1,108 @@
+-- # Which records a target code can hold
+--
+-- 14 finds nothing in a record exactly when each sample that it holds has a word under the target code; and a value with a canonical pair
+-- has one exactly when some word of that code has the value. Assumes nothing.
+use mathlib.Core.Path.{_≡_, refl, sym, ap, _∙_, subst}
+use mathlib.Core.List.{List, [], _∷_}
+use mathlib.Core.Bool.{Bool, true, false}
+use Prim.Native.Nat.{ℕ, zero, suc, _+_}
+use native.Mathlib.Omega.{arith}
+use lib.Dec.{T}
+use lib.ListN.{length}
+use lib.IntN.{ℤ}
+use Rattle.numbers.specs.Walk.{walk}
+use Rattle.numbers.specs.BigEndian.{bytesOf}
+use Rattle.numbers.specs.Cause.{refuseIf, firstOf}
+use Rattle.numbers.specs.declared.Check.{Check}
+use Rattle.numbers.specs.declared.Check.the-variants.{Fine}
+use Rattle.numbers.proofs.WalkLaws.{All, all-walk}
+use Rattle.numbers.proofs.ByteLaws.{Bytes}
+use Rattle.numbers.proofs.CauseLaws.{passed, AllFine, first-all}
+use Rattle.sample.specs.Value.{exactValue}
+use Rattle.sample.specs.Pair.{pairOf, isCanonical}
+use Rattle.sample.specs.Reading.{isCode, badGain}
+use Rattle.sample.specs.Writing.{wordOf, writePair}
+use Rattle.sample.specs.Calls.{pairLength}
+use Rattle.sample.specs.declared.Written.{Written}
+use Rattle.sample.specs.declared.Written.the-variants.{Word, Refused}
+use Rattle.sample_theorems.proofs.Pairs.{Iff, pair-value}
+use Rattle.sample_theorems.proofs.Words.{Writes, written-is, writing-sound, writing-complete}
+use Rattle.reel.specs.Meaning.{Trace, Meaning}
+use Rattle.record.specs.Form.{firstField, heldSamples, heldStride, heldTraces}
+use Rattle.record.specs.Held.{heldValue, heldTrace, heldBy}
+use Rattle.record.specs.Target.{isUnfit, fitCause, traceFit, fitCauses}
+
+-- ## What a record holds
+
+-- Each value of a trace has a word under the code.
+abbrev pub FittingTrace : ℕ → Trace → Type 0
+FittingTrace code t = All (λ v. isUnfit (wordOf code v) ≡ false) (t .values)
+
+-- Each value of a meaning has a word under the code.
+abbrev pub Fitting : ℕ → Meaning → Type 0
+Fitting code m = All (FittingTrace code) (m .traces)
+
+-- Where none of a list of checks finds anything, the list finds nothing.
+fine-each : (cs : List Check) → AllFine cs → firstOf cs ≡ Fine
+fine-each [] h = refl
+fine-each (c ∷ cs) h = rw (h .0) (fine-each cs (h .1))
+
+-- Where P of the value at an offset shows that the check there finds nothing, P of each value along a walk shows that the checks along it
+-- find nothing.
+all-first : {A : Type 0} (f : ℕ → Check) (g : ℕ → A) (P : A → Type 0) → ((a : ℕ) → P (g a) → f a ≡ Fine)
+    → (w k at : ℕ) → All P (walk g w k at) → firstOf (walk f w k at) ≡ Fine
+all-first f g P h w k at p = fine-each (walk f w k at) (all-walk P (λ c. c ≡ Fine) g f h w k at p)
+
+-- 14 finds nothing in a trace exactly when each of its values has a word.
+trace-fit-is : (s : List ℕ) (code n at : ℕ) → Iff (traceFit s code n at ≡ Fine) (FittingTrace code (heldTrace s n at))
+unfolding traceFit heldTrace
+trace-fit-is s code n at = (
+  first-all (fitCause s code) (heldValue s) (λ v. isUnfit (wordOf code v) ≡ false) (λ a e. passed (isUnfit (wordOf code (heldValue s a))) 14 a e) pairLength n (at + 186),
+  all-first (fitCause s code) (heldValue s) (λ v. isUnfit (wordOf code v) ≡ false) (λ a e. ap (λ (b : Bool). refuseIf b 14 a) e) pairLength n (at + 186),
+)
+
+-- THEOREM. 14 finds nothing in a record exactly when each sample that it holds has a word under the code.
+pub fit-is : (s : List ℕ) (code : ℕ) → Iff (fitCauses s code (heldSamples s) (heldTraces s (heldSamples s)) ≡ Fine) (Fitting code (heldBy s))
+unfolding fitCauses heldBy
+fit-is s code =
+    let n = heldSamples s in
+    let t = heldTraces s n in (
+      first-all (traceFit s code n) (heldTrace s n) (FittingTrace code) (λ a. trace-fit-is s code n a .0) (heldStride n) t firstField,
+      all-first (traceFit s code n) (heldTrace s n) (FittingTrace code) (λ a. trace-fit-is s code n a .1) (heldStride n) t firstField,
+    )
+
+-- ## A value
+
+-- Some word of the code, which reading takes, has the value v.
+pub record HasWord (code : ℕ) (v : ℤ) : Type 0 where
+  pub word : List ℕ
+  pub size : length word ≡ 4
+  pub bytes : Bytes word
+  pub good : badGain code word ≡ false
+  pub value : exactValue code word ≡ v
+
+-- The bytes of a number are bytes.
+bytes-of : (k n : ℕ) → Bytes (bytesOf k n)
+bytes-of zero n = tt
+bytes-of (suc k) n = (omega arith, bytes-of k n)
+
+-- What is not unfit is a word.
+fit-word : (r : Written) → isUnfit r ≡ false → Writes r
+fit-word (Word n) e = (n, refl)
+fit-word (Refused number) e = absurd (subst T e tt)
+
+-- THEOREM. A value with a canonical pair fits a code exactly when the code has a word of that value.
+pub fits-is : (code : ℕ) (v : ℤ) → isCode code ≡ true → isCanonical (pairOf v) ≡ true → Iff (isUnfit (wordOf code v) ≡ false) (HasWord code v)
+fits-is code v h c = (there, back)
+  where
+    there : isUnfit (wordOf code v) ≡ false → HasWord code v
+    there e =
+        let x = fit-word (wordOf code v) e in
+        let w : writePair code (pairOf v) ≡ Word (x .0) = rw (h, c, pair-value v) (x .1) in
+        let s = writing-sound code (pairOf v) (x .0) w in
+        record { word = bytesOf 4 (x .0); size = refl; bytes = bytes-of 4 (x .0); good = s .good; value = s .value ∙ pair-value v }
+
+    back : HasWord code v → isUnfit (wordOf code v) ≡ false
+    back w =
+        let x = writing-complete code (pairOf v) (w .word) h c (w .bytes) (w .value ∙ sym (pair-value v)) in
+        ap (λ (z : ℤ). isUnfit (wordOf code z)) (sym (pair-value v)) ∙ ap isUnfit (written-is code (pairOf v) (x .0) (x .1) .2)

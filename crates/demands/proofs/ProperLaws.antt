@@ -1,0 +1,214 @@
+-- # What reels mean and records hold is proper
+--
+-- What a reel means to which no cause of 1 to 9 applies, and what a record holds to which neither 12 nor 13 applies. Each byte of either is
+-- below 256; nothing else is assumed.
+use mathlib.Core.Path.{_≡_, refl, ap, _∙_}
+use mathlib.Core.List.{List, [], _∷_, map}
+use mathlib.Core.Bool.{Bool, true, false}
+use Prim.Native.Nat.{ℕ, zero, suc, _+_, _^_, _≤_, _<_}
+use native.Mathlib.Omega.{arith}
+use borrow.Author.Tests.{lt-ltb, eqb-true, ne-eqb, not-false}
+use lib.Dec.{eqb}
+use lib.ListN.{getD, take, drop}
+use lib.IntN.{pos}
+use Rattle.numbers.specs.Walk.{pick, bytesAt}
+use Rattle.numbers.specs.TwosComplement.{signedOf}
+use Rattle.numbers.specs.Cause.{refuseIf}
+use Rattle.numbers.specs.declared.Check.the-variants.{Fine}
+use Rattle.numbers.proofs.WalkLaws.{All, all-walk, size-walk, size-bytes}
+use Rattle.numbers.proofs.ByteLaws.{Bytes, bytes-at}
+use Rattle.numbers.proofs.CauseLaws.{passed, then-fine, first-all}
+use Rattle.sample.specs.Pair.{pairOf, isCanonical}
+use Rattle.sample.specs.Calls.{pairLength, pairIn}
+use Rattle.sample_theorems.proofs.Pairs.{value-pair-back}
+use Rattle.reel.specs.Layout.{cardBytes, binaryWidths, binaryFields, traceWidths, traceFields, fieldNumber, firstTrace, word, samplesOf, intervalOf, codeOf, strideOf, tracesOf}
+use Rattle.reel.specs.Causes.{mostTraces, neither, traceCauses, causesOf}
+use Rattle.reel.specs.Meaning.{blank, cardText, binaryNumbers, filled, traceMeaning, meaningOf}
+use Rattle.reel.proofs.CheckLaws.{reel-fine}
+use Rattle.record.specs.Form.{heldInterval, heldSamples, firstField, heldStride, tagsFrom, heldTraces, formCauses}
+use Rattle.record.specs.Held.{heldValue, heldTrace, heldBy}
+use Rattle.record.proofs.HeaderLaws.{binary-front, binary-back, size-cards}
+use Rattle.reel_theorems.proofs.Ranges.{Fit, Some, fields-fit}
+use Rattle.reel_theorems.proofs.Same.{allSome, some-of, binary-front-some, binary-back-some, trace-like, eighth}
+use Rattle.demands.proofs.Proper.{ProperTrace, Proper}
+use Rattle.demands.proofs.Valid.{CanonicalAt, TraceStands, valid}
+
+-- ## Numbers and lists
+
+-- The signed number of 16 bits below 32,768 is the number itself.
+signed-low : (n : ℕ) → n < 2 ^ 15 → signedOf 16 n ≡ pos n
+signed-low n h = rw (lt-ltb n (2 ^ 15) h)
+
+-- A number above 0 is not 0.
+some-not : (n : ℕ) → eqb (suc n) 0 ≡ false
+some-not n = ne-eqb (suc n) 0 no
+  where
+    no : suc n ≡ 0 → ⊥
+    no e = omega arith
+
+-- Every field of a trace header has some bytes.
+trace-some : Some traceWidths
+unfolding allSome traceWidths
+trace-some = some-of traceWidths refl
+
+-- What holds of each element of a list, and what else holds of each, hold both of each.
+all-both : {A : Type 0} (P Q : A → Type 0) (l : List A) → All P l → All Q l → All (λ x. P x × Q x) l
+all-both P Q [] p q = tt
+all-both P Q (x ∷ l) p q = ((p .0, q .0), all-both P Q l (p .1) (q .1))
+
+-- ## What a record holds
+
+-- No more tags are counted than the most.
+tags-most : (most : ℕ) (s : List ℕ) (w at : ℕ) → tagsFrom most s w at ≤ most
+unfolding tagsFrom
+tags-most zero s w at = omega arith
+tags-most (suc most) s w at = go (eqb (getD s at 0) 3) (tags-most most s w (at + w))
+  where
+    go : (b : Bool) {k : ℕ} → k ≤ most → pick b (suc k) 0 ≤ suc most
+    go true h = omega arith
+    go false h = omega arith
+
+-- A canonical pair's value has a canonical pair.
+value-held : (s : List ℕ) (at : ℕ) → CanonicalAt s at → isCanonical (pairOf (heldValue s at)) ≡ true
+value-held s at c = ap isCanonical (value-pair-back (pairIn (bytesAt s at pairLength)) c) ∙ c
+
+-- The numbers of fields 115 and 117 in a record's trace.
+held-count : (s : List ℕ) (at : ℕ) → getD (map (fieldNumber s (at + 3)) traceFields) 38 (pos 0) ≡ signedOf 16 (word s (at + 117))
+unfolding traceFields traceWidths
+held-count s at = let e : at + 3 + 114 ≡ at + 117 = omega arith in ap (λ (p : ℕ). signedOf 16 (word s p)) e
+
+held-interval : (s : List ℕ) (at : ℕ) → getD (map (fieldNumber s (at + 3)) traceFields) 39 (pos 0) ≡ signedOf 16 (word s (at + 119))
+unfolding traceFields traceWidths
+held-interval s at = let e : at + 3 + 116 ≡ at + 119 = omega arith in ap (λ (p : ℕ). signedOf 16 (word s p)) e
+
+-- A trace that stands in a record holds a proper trace.
+trace-held : (s : List ℕ) → Bytes s → (n i at : ℕ) → n < 2 ^ 15 → i < 2 ^ 15 → TraceStands s n i at → ProperTrace n i (heldTrace s n at)
+unfolding heldTrace traceFields
+trace-held s h n i at p q t =
+    let next : at + 183 + 3 ≡ at + 186 = omega arith in
+    record {
+      fit = fields-fit s h (at + 3) 1 traceWidths trace-some;
+      n-is = held-count s at ∙ ap (signedOf 16) (t .n-is) ∙ signed-low n p;
+      i-is = held-interval s at ∙ ap (signedOf 16) (t .i-is) ∙ signed-low i q;
+      size = size-walk (heldValue s) pairLength n (at + 186);
+      canonical =
+          rw next at
+          (all-walk (CanonicalAt s) (λ v. isCanonical (pairOf v) ≡ true) (λ a. a) (heldValue s) (value-held s) pairLength n (at + 183 + 3) (t .pairs));
+    }
+
+-- THEOREM. What a valid record holds is proper, with the record's N and interval.
+pub held-proper : (r : List ℕ) → Bytes r → formCauses r ≡ Fine → Proper (heldSamples r) (heldInterval r) (heldBy r)
+unfolding heldBy binaryFields binaryWidths binary-front binary-back
+held-proper r h e =
+    let v = valid r e in
+    let n = heldSamples r in
+    let i = heldInterval r in
+    let t = heldTraces r n in
+    let p : n < 2 ^ 15 = omega (arith, v .n-high) in
+    let q : i < 2 ^ 15 = omega (arith, v .i-high) in
+    record {
+      n-low = v .n-low;
+      n-high = v .n-high;
+      i-low = v .i-low;
+      i-high = v .i-high;
+      size = size-bytes r 3 cardBytes;
+      cards = all-both (λ b. 0 < b) (λ b. b < 256) (bytesAt r 3 cardBytes) (v .card-bytes) (bytes-at r h 3 cardBytes);
+      fit-front = fields-fit r h 6 3201 binary-front binary-front-some;
+      fit-back = fields-fit r h 6 3227 binary-back binary-back-some;
+      n-is = signed-low n p;
+      i-is = signed-low i q;
+      few = rw (size-walk (heldTrace r n) (heldStride n) t firstField) (tags-most mostTraces r (heldStride n) firstField);
+      traces = all-walk (TraceStands r n i) (ProperTrace n i) (λ a. a) (heldTrace r n) (λ a. trace-held r h n i a p q) (heldStride n) t firstField (v .traces);
+    }
+
+-- ## What a reel means
+
+-- A card byte with 40 in place of 00 is a byte other than 00.
+blank-some : (b : ℕ) → b < 256 → (0 < blank b) × (blank b < 256)
+blank-some zero h = (omega arith, omega arith)
+blank-some (suc b) h = rw (some-not b) (omega arith, h)
+
+-- Where P of an element shows Q of its image, P of each element of a list shows Q of each of the list mapped.
+all-map : {A B : Type 0} (P : A → Type 0) (Q : B → Type 0) (f : A → B) → ((a : A) → P a → Q (f a)) → (l : List A) → All P l → All Q (map f l)
+all-map P Q f h [] p = tt
+all-map P Q f h (x ∷ l) p = (h x (p .0), all-map P Q f h l (p .1))
+
+-- The card text is 3,200 bytes other than 00.
+card-text : (s : List ℕ) → Bytes s → All (λ b. (0 < b) × (b < 256)) (cardText s)
+unfolding cardText
+card-text s h = all-map (λ b. b < 256) (λ b. (0 < b) × (b < 256)) blank blank-some (bytesAt s 0 cardBytes) (bytes-at s h 0 cardBytes)
+
+-- The interval, by the binary numbers: field 3217 is the sixth.
+sixth : (s : List ℕ) → getD (binaryNumbers s) 5 (pos 0) ≡ signedOf 16 (intervalOf s)
+unfolding binaryNumbers binaryFields binaryWidths
+sixth s = refl
+
+-- The binary numbers before the format code fit their fields, and so do those behind it.
+front-fit : (s : List ℕ) → Bytes s → Fit binary-front (take 9 (binaryNumbers s))
+unfolding binaryNumbers binaryFields binaryWidths binary-front
+front-fit s h = fields-fit s h 0 3201 binary-front binary-front-some
+
+back-fit : (s : List ℕ) → Bytes s → Fit binary-back (drop 9 (binaryNumbers s))
+unfolding binaryNumbers binaryFields binaryWidths binary-back
+back-fit s h = fields-fit s h 0 3227 binary-back binary-back-some
+
+-- A number that is 0 or the reel's own, with the reel's own for 0, is the reel's own.
+filled-own : (own v : ℕ) → own < 2 ^ 15 → neither v own ≡ false → filled own (signedOf 16 v) ≡ pos own
+filled-own own zero h e = refl
+filled-own own (suc v) h e =
+    let same : suc v ≡ own = eqb-true (suc v) own (not-false (eqb (suc v) own) (rw (some-not v) at e)) in
+    rw (same, signed-low own h) (go (eqb own 0))
+  where
+    go : (b : Bool) → pick b (pos own) (pos own) ≡ pos own
+    go true = refl
+    go false = refl
+
+-- The numbers of fields 115 and 117 in a reel's trace.
+meant-count : (s : List ℕ) (code n i at : ℕ) → getD (traceMeaning s code n i at .numbers) 38 (pos 0) ≡ filled n (signedOf 16 (word s (at + 114)))
+unfolding traceMeaning traceFields traceWidths
+meant-count s code n i at = refl
+
+meant-interval : (s : List ℕ) (code n i at : ℕ) → getD (traceMeaning s code n i at .numbers) 39 (pos 0) ≡ filled i (signedOf 16 (word s (at + 116)))
+unfolding traceMeaning traceFields traceWidths
+meant-interval s code n i at = refl
+
+-- A trace to which 7 and 8 don't apply means a proper trace.
+trace-meant : (s : List ℕ) → Bytes s → (code n i at : ℕ) → n < 2 ^ 15 → i < 2 ^ 15 → traceCauses s code n i at ≡ Fine → ProperTrace n i (traceMeaning s code n i at)
+unfolding traceCauses
+trace-meant s h code n i at p q e =
+    let a = then-fine (refuseIf (neither (word s (at + 114)) n) 7 (at + 114)) _ e in
+    let b = then-fine (refuseIf (neither (word s (at + 116)) i) 8 (at + 116)) _ (a .1) in
+    let l = trace-like s h code n i at p q in
+    record {
+      fit = l .numbers;
+      n-is = meant-count s code n i at ∙ filled-own n (word s (at + 114)) p (passed _ _ _ (a .0));
+      i-is = meant-interval s code n i at ∙ filled-own i (word s (at + 116)) q (passed _ _ _ (b .0));
+      size = l .count;
+      canonical = l .canonical;
+    }
+
+-- THEOREM. What a reel means to which no cause of 1 to 9 applies is proper, with the reel's N and interval.
+pub reel-proper : (s : List ℕ) → Bytes s → causesOf s ≡ Fine → Proper (samplesOf s) (intervalOf s) (meaningOf s)
+unfolding meaningOf
+reel-proper s h e =
+    let v = reel-fine s e in
+    let code = codeOf s in
+    let n = samplesOf s in
+    let i = intervalOf s in
+    let k = v .numbers in
+    let p : n < 2 ^ 15 = omega (arith, k .n-high) in
+    let q : i < 2 ^ 15 = omega (arith, k .i-high) in
+    record {
+      n-low = k .n-low;
+      n-high = k .n-high;
+      i-low = k .i-low;
+      i-high = k .i-high;
+      size = size-cards s;
+      cards = card-text s h;
+      fit-front = front-fit s h;
+      fit-back = back-fit s h;
+      n-is = eighth s ∙ signed-low n p;
+      i-is = sixth s ∙ signed-low i q;
+      few = rw (size-walk (traceMeaning s code n i) (strideOf s) (tracesOf s) firstTrace) (v .few);
+      traces = first-all (traceCauses s code n i) (traceMeaning s code n i) (ProperTrace n i) (λ a. trace-meant s h code n i a p q) (strideOf s) (tracesOf s) firstTrace (v .traces);
+    }

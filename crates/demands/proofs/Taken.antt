@@ -1,0 +1,199 @@
+-- What readings and writings that are taken need and give. Where each byte of a reel or of a record must be below 256, the law says so;
+-- nothing else is assumed.
+use mathlib.Core.Path.{_≡_, refl, sym, ap, ap₂, _∙_}
+use mathlib.Core.List.{List, [], _∷_, _++_}
+use mathlib.Core.Bool.{Bool, true, not}
+use Prim.Native.Nat.{ℕ, _≤_}
+use borrow.Author.Tests.{le-ltb, not-false}
+use lib.Dec.{ltb}
+use lib.ListN.{length, drop}
+use lib.IntN.{ℤ}
+use Rattle.numbers.specs.Cause.{refuseIf, then}
+use Rattle.numbers.specs.Outcome.{Said, taken, Outcome}
+use Rattle.numbers.specs.declared.Check.{Check}
+use Rattle.numbers.specs.declared.Check.the-variants.{Fine, Refused}
+use Rattle.numbers.proofs.WalkLaws.{All, cons-eq, size-walk}
+use Rattle.numbers.proofs.ByteLaws.{Bytes}
+use Rattle.numbers.proofs.CauseLaws.{passed, then-fine, at-most}
+use Rattle.sample.specs.Reading.{isCode}
+use Rattle.reel.specs.Layout.{firstTrace, intervalOf, samplesOf, codeOf, strideOf, tracesOf}
+use Rattle.reel.specs.Causes.{causesOf}
+use Rattle.reel.specs.Meaning.{Trace, traceMeaning, Meaning, meaningOf}
+use Rattle.record.specs.Record.{recordOf, reelRecord}
+use Rattle.record.specs.Form.{firstField, heldInterval, heldSamples, heldStride, heldTraces, formCauses}
+use Rattle.record.specs.Held.{heldTrace, heldBy}
+use Rattle.record.specs.Target.{fitCauses, targetCauses}
+use Rattle.transcribe.specs.Reading as reading
+use Rattle.transcribe.specs.Reading.{readEnd, readOutcome}
+use Rattle.write_reel.specs.Reel.{reelOf, reelLength}
+use Rattle.write_reel.specs.Writing as writing
+use Rattle.write_reel.specs.Writing.{writeCauses, writeEnd, writeOutcome}
+use Rattle.reel_theorems.proofs.Same.{record-size}
+use Rattle.reel_theorems.proofs.Output.{not-taken}
+use Rattle.demands.proofs.Proper.{ProperTrace, Proper}
+use Rattle.demands.proofs.Again.{held-again}
+use Rattle.demands.proofs.ProperLaws.{held-proper}
+use Rattle.demands.proofs.Fitting.{FittingTrace, Fitting, fit-is, HasWord, fits-is}
+use Rattle.demands.proofs.ReelBack.{reel-length, reel-bytes, reel-code, reel-samples, reel-traces, reel-no-cause, reel-again}
+
+-- ## Words for every sample
+
+-- Where two things that hold of an element show a third, the first two of each element of a list show the third of each.
+all-with : {A : Type 0} (P Q R : A → Type 0) → ((a : A) → P a → Q a → R a) → (l : List A) → All P l → All Q l → All R l
+all-with P Q R h [] p q = tt
+all-with P Q R h (a ∷ l) p q = (h a (p .0) (q .0), all-with P Q R h l (p .1) (q .1))
+
+-- Each sample of a list of traces has a word under a code.
+abbrev pub Worded : ℕ → List Trace → Type 0
+Worded code l = All (λ (t : Trace). All (HasWord code) (t .values)) l
+
+-- The samples of a proper meaning fit a code of 1 to 4 exactly when each has a word under it.
+module _ (code n i : ℕ) (m : Meaning) (p : Proper n i m) (c : isCode code ≡ true) where
+  pub fitting-words : Fitting code m → Worded code (m .traces)
+  fitting-words f =
+      all-with (ProperTrace n i) (FittingTrace code) (λ (t : Trace). All (HasWord code) (t .values))
+      (λ t h g. all-with _ _ (HasWord code) (λ (v : ℤ) k e. fits-is code v c k .0 e) (t .values) (h .canonical) g) (m .traces) (p .traces) f
+
+  words-fitting : Worded code (m .traces) → Fitting code m
+  words-fitting f =
+      all-with (ProperTrace n i) (λ (t : Trace). All (HasWord code) (t .values)) (FittingTrace code)
+      (λ t h g. all-with _ (HasWord code) _ (λ (v : ℤ) k e. fits-is code v c k .1 e) (t .values) (h .canonical) g) (m .traces) (p .traces) f
+
+-- ## Readings
+
+-- Where no cause of 1 to 9 applies to a reel, and the output is long enough, its reading is taken.
+pub read-taken : (s out : List ℕ) → causesOf s ≡ Fine → reading.lengthOf s ≤ length out → readOutcome s out ≡ readEnd s out Fine
+read-taken s out f h =
+    let k = reading.lengthOf s in
+    ap (λ (c : Check). readEnd s out (then c (refuseIf (ltb (length out) k) 10 k))) f
+    ∙ ap (λ (b : Bool). readEnd s out (refuseIf b 10 k)) (le-ltb (length out) k h)
+
+-- The traces of what a reel means are the whole traces of the reel.
+pub meant-count : (s : List ℕ) → length (meaningOf s .traces) ≡ tracesOf s
+unfolding meaningOf
+meant-count s = size-walk (traceMeaning s (codeOf s) (samplesOf s) (intervalOf s)) (strideOf s) (tracesOf s) firstTrace
+
+-- ## Writings
+
+-- What a writing needs: a code of 1 to 4, a record to which neither 12 nor 13 applies, no cause of 14, and an output that is long enough.
+pub record Writable (r : List ℕ) (code : ℕ) (out : List ℕ) : Type 0 where
+  pub code-is : isCode code ≡ true
+  pub form : formCauses r ≡ Fine
+  pub fit : fitCauses r code (heldSamples r) (heldTraces r (heldSamples r)) ≡ Fine
+  pub room : writing.lengthOf r code ≤ length out
+
+module _ (r : List ℕ) (code : ℕ) (out : List ℕ) where
+  -- A writing that is taken has no cause of 10 to 14.
+  written-fine : (numbers : List ℕ) → writeOutcome r code out .said ≡ taken numbers → writeCauses r code (length out) ≡ Fine
+  written-fine numbers e = go (writeCauses r code (length out)) refl e
+    where
+      go : (c : Check) → writeCauses r code (length out) ≡ c → writeEnd r code out c .said ≡ taken numbers → writeCauses r code (length out) ≡ Fine
+      go Fine q e = q
+      go (Refused number place) q e = absurd (not-taken e)
+
+  -- It has what it needs,
+  pub written-needs : (numbers : List ℕ) → writeOutcome r code out .said ≡ taken numbers → Writable r code out
+  unfolding targetCauses
+  written-needs numbers e =
+      let a = then-fine (targetCauses r code) _ (written-fine numbers e) in
+      let b = then-fine (refuseIf (not (isCode code)) 11 0) _ (a .0) in
+      let c = then-fine (formCauses r) _ (b .1) in
+      record {
+        code-is = not-false (isCode code) (passed _ _ _ (b .0));
+        form = c .0;
+        fit = c .1;
+        room = at-most (length out) (writing.lengthOf r code) 10 (writing.lengthOf r code) (a .1);
+      }
+
+  -- and a writing that has what it needs is taken.
+  pub write-taken : Writable r code out → writeOutcome r code out ≡ writeEnd r code out Fine
+  unfolding targetCauses
+  write-taken w =
+      let k = writing.lengthOf r code in
+      let f = fitCauses r code (heldSamples r) (heldTraces r (heldSamples r)) in
+      let room = ap (λ (b : Bool). refuseIf b 10 k) (le-ltb (length out) k (w .room)) in
+      ap (λ (b : Bool). writeEnd r code out (then (then (refuseIf (not b) 11 0) (then (formCauses r) f)) (refuseIf (ltb (length out) k) 10 k))) (w .code-is)
+      ∙ ap (λ (c : Check). writeEnd r code out (then (then c f) (refuseIf (ltb (length out) k) 10 k))) (w .form)
+      ∙ ap (λ (c : Check). writeEnd r code out (then c (refuseIf (ltb (length out) k) 10 k))) (w .fit)
+      ∙ ap (writeEnd r code out) room
+
+-- A valid record, a code of 1 to 4 that has a word for each of its samples and an output long enough are what a writing needs.
+pub needs : (r : List ℕ) (code : ℕ) (out : List ℕ) → Bytes r → formCauses r ≡ Fine → isCode code ≡ true → Worded code (heldBy r .traces)
+    → writing.lengthOf r code ≤ length out → Writable r code out
+needs r code out b v c f h =
+    let p : Proper (heldSamples r) (heldInterval r) (heldBy r) = held-proper r b v in
+    record {
+      code-is = c;
+      form = v;
+      fit = fit-is r code .1 (words-fitting code (heldSamples r) (heldInterval r) (heldBy r) p c f);
+      room = h;
+    }
+
+-- ## The reel of a record
+
+-- The traces of what a record holds are those that are counted in it.
+pub held-count : (r : List ℕ) → length (heldBy r .traces) ≡ heldTraces r (heldSamples r)
+unfolding heldBy
+held-count r =
+    let n = heldSamples r in
+    size-walk (heldTrace r n) (heldStride n) (heldTraces r n) firstField
+
+-- A record that is written.
+module _ (r : List ℕ) (b : Bytes r) (code : ℕ) (out : List ℕ) (w : Writable r code out) where
+  -- What the record holds is proper, and each of its samples fits the code.
+  proper : Proper (heldSamples r) (heldInterval r) (heldBy r)
+  proper = held-proper r b (w .form)
+
+  fitting : Fitting code (heldBy r)
+  fitting = fit-is r code .0 (w .fit)
+
+  -- Its reel has the length that the writing returns.
+  pub written-size : length (reelOf code (heldBy r)) ≡ writing.lengthOf r code
+  written-size =
+      reel-length code (heldSamples r) (heldInterval r) (heldBy r) proper (w .code-is) fitting
+      ∙ ap (λ (t : ℕ). reelLength code t (heldSamples r)) (held-count r)
+
+  -- It is a list of bytes.
+  pub written-bytes : Bytes (reelOf code (heldBy r))
+  written-bytes = reel-bytes code (heldSamples r) (heldInterval r) (heldBy r) proper (w .code-is) fitting
+
+  -- No cause of 1 to 9 applies to it.
+  pub written-no-cause : causesOf (reelOf code (heldBy r)) ≡ Fine
+  written-no-cause = reel-no-cause code (heldSamples r) (heldInterval r) (heldBy r) proper (w .code-is) fitting
+
+  -- Its format code is the target code.
+  pub written-code : codeOf (reelOf code (heldBy r)) ≡ code
+  written-code = reel-code code (heldSamples r) (heldInterval r) (heldBy r) proper (w .code-is) fitting
+
+  -- Its N and its T are those of the record.
+  pub written-samples : samplesOf (reelOf code (heldBy r)) ≡ heldSamples r
+  written-samples = reel-samples code (heldSamples r) (heldInterval r) (heldBy r) proper (w .code-is) fitting
+
+  pub written-traces : tracesOf (reelOf code (heldBy r)) ≡ heldTraces r (heldSamples r)
+  written-traces = reel-traces code (heldSamples r) (heldInterval r) (heldBy r) proper (w .code-is) fitting ∙ held-count r
+
+  -- Its record is the record.
+  pub written-record : reelRecord (reelOf code (heldBy r)) ≡ r
+  written-record =
+      ap recordOf (reel-again code (heldSamples r) (heldInterval r) (heldBy r) proper (w .code-is) fitting) ∙ held-again r b (w .form)
+
+  -- The length of its record is that of the record.
+  pub written-length : reading.lengthOf (reelOf code (heldBy r)) ≡ length r
+  written-length = sym (record-size (reelOf code (heldBy r)) written-bytes written-no-cause) ∙ ap length written-record
+
+  -- Reading it into an output long enough gives the record again, with the record's T and N.
+  pub written-read : (out₂ : List ℕ) → length r ≤ length out₂
+      → readOutcome (reelOf code (heldBy r)) out₂ ≡ record { said = taken (heldTraces r (heldSamples r) ∷ heldSamples r ∷ length r ∷ []); bytes = r ++ drop (length r) out₂ }
+  written-read out₂ h = read-taken s out₂ written-no-cause (rw written-length h) ∙ ap₂ made said bytes
+    where
+      s : List ℕ
+      s = reelOf code (heldBy r)
+
+      made : Said → List ℕ → Outcome
+      made x y = record { said = x; bytes = y }
+
+      said : taken (tracesOf s ∷ samplesOf s ∷ reading.lengthOf s ∷ []) ≡ taken (heldTraces r (heldSamples r) ∷ heldSamples r ∷ length r ∷ [])
+      said = ap taken (cons-eq written-traces (cons-eq written-samples (cons-eq written-length refl)))
+
+      bytes : reelRecord s ++ drop (reading.lengthOf s) out₂ ≡ r ++ drop (length r) out₂
+      bytes = ap₂ (λ (x : List ℕ) (k : ℕ). x ++ drop k out₂) written-record written-length
