@@ -8,7 +8,8 @@ use native.Mathlib.Numerals.{add-one}
 use native.Mathlib.Omega.{arith}
 use lib.ListN.{length, getD, take, drop, length-append, drop-of-length-le}
 use lib.Seq.{sets, sets-eq, take-at, drop-at, drop-cons}
-use Rattle.numbers.specs.Walk.{walk, flat, bytesAt}
+use borrow.Author.Tests.{eq-eqb}
+use Rattle.numbers.specs.Walk.{walk, flat, bytesAt, copyOf}
 
 less-one : (k : ℕ) → suc k - 1 ≡ k
 less-one k = omega arith
@@ -150,3 +151,8 @@ four-bytes s at =
     let b : at + 1 + 1 + 1 ≡ at + 3 = omega arith in
     let a : at + 1 + 1 ≡ at + 2 = omega arith in
     rw (b, a)
+
+-- a slice copied into another of the same length
+pub copied : (src out : List ℕ) {ys : List ℕ} → ys ≡ copyOf src out → length out ≡ length src → ys ≡ src
+unfolding copyOf
+copied src out p e = p ∙ rw (eq-eqb (length out) (length src) e)

@@ -2,7 +2,8 @@
 use Prim.Native.Nat.{ℕ, zero, suc, _+_}
 use mathlib.Core.Bool.{Bool, true, false}
 use mathlib.Core.List.{List, [], _∷_, _++_}
-use lib.ListN.{getD}
+use lib.ListN.{length, getD}
+use lib.Dec.{eqb}
 
 -- what f gives at the offsets `at`, `at + w`, `at + w + w` and so on, k of them
 abbrev pub walk : {A : Type 0} → (ℕ → A) → ℕ → ℕ → ℕ → List A
@@ -22,3 +23,7 @@ pick false a b = b
 -- the k bytes of s from the offset `at` on, with 0 for each that lies past the end: always k of them
 unfoldable pub bytesAt : List ℕ → ℕ → ℕ → List ℕ
 bytesAt s at k = walk (λ a. getD s a 0) 1 k at
+
+-- what a slice holds after another was copied into it: the other's content where both have the same length, its own where they do not
+unfoldable pub copyOf : List ℕ → List ℕ → List ℕ
+copyOf src out = pick (eqb (length out) (length src)) src out

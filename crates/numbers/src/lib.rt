@@ -1,6 +1,7 @@
 // What every layer uses: byte numbers and places, big-endian numbers, two's complement.
 ghost use mathlib.Core.Path.{_≡_};
 ghost use mathlib.Core.List.{[], _∷_};
+ghost use Rattle.numbers.specs.Walk.{copyOf};
 ghost use Rattle.numbers.specs.BigEndian.{number, bytesOf};
 ghost use Rattle.numbers.specs.TwosComplement.{signedOf, bitsOf};
 ghost use Rattle.numbers.specs.Places.{located, fieldPlace};
@@ -128,5 +129,19 @@ pub fn bits32(z: i32) -> u32
         0xffff_ffff - (-1 - z) as u32
     } else {
         z as u32
+    }
+}
+
+// Copies a slice into another of the same length. One of another length is left as it was.
+pub fn copy(src: &[u8], out: &mut [u8])
+    ensures { λ _. ⌜ now (out .exit) ≡ copyOf (now (src .entry)) (now (out .entry)) ⌝ }
+{
+    if out.len() != src.len() {
+        return;
+    }
+    let mut i = 0;
+    while i < src.len() {
+        out[i] = src[i];
+        i += 1;
     }
 }

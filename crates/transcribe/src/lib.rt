@@ -73,17 +73,6 @@ fn put_cards(src: &[u8], out: &mut [u8])
     }
 }
 
-fn copy(src: &[u8], out: &mut [u8])
-    requires { ⌜ length (now out) ≡ length (now src) ⌝ }
-    ensures { λ _. ⌜ now (out .exit) ≡ now (src .entry) ⌝ }
-{
-    let mut i = 0;
-    while i < src.len() {
-        out[i] = src[i];
-        i += 1;
-    }
-}
-
 // The number in two bytes, or the reel's own where it is 0.
 fn own_at(reel: &[u8], own: u16, at: usize) -> u16
     requires { ⌜ at + 1 < length (now reel) ⌝ }
@@ -101,10 +90,10 @@ fn put_header(reel: &[u8], n: u16, i: u16, at: usize, out: &mut [u8])
     requires { ⌜ (at + 180 ≤ length (now reel)) × (length (now out) ≡ 180) ⌝ }
     ensures { λ _. ⌜ now (out .exit) ≡ headerCopied (now (reel .entry)) n i at ⌝ }
 {
-    copy(&reel[at..at + 114], &mut out[0..114]);
+    numbers::copy(&reel[at..at + 114], &mut out[0..114]);
     put16(own_at(reel, n, at + 114), &mut out[114..116]);
     put16(own_at(reel, i, at + 116), &mut out[116..118]);
-    copy(&reel[at + 118..at + 180], &mut out[118..180]);
+    numbers::copy(&reel[at + 118..at + 180], &mut out[118..180]);
 }
 
 // The binary header's 27 fields, the format code replaced by 0.
@@ -112,9 +101,9 @@ fn put_binary(reel: &[u8], out: &mut [u8])
     requires { ⌜ (3600 ≤ length (now reel)) × (length (now out) ≡ 60) ⌝ }
     ensures { λ _. ⌜ now (out .exit) ≡ binaryCopied (now (reel .entry)) ⌝ }
 {
-    copy(&reel[3200..3224], &mut out[0..24]);
+    numbers::copy(&reel[3200..3224], &mut out[0..24]);
     put16(0, &mut out[24..26]);
-    copy(&reel[3226..3260], &mut out[26..60]);
+    numbers::copy(&reel[3226..3260], &mut out[26..60]);
 }
 
 // A pair in six bytes.

@@ -2,7 +2,7 @@
 use Rattle.transcribe.proofs.CopiedLaws.{size-binary}
 use Rattle.transcribe.specs.Copied.{binaryCopied}
 use Rattle.numbers.proofs.Filling.{start, lend, close}
-use Rattle.numbers.proofs.WalkLaws.{bytes-between, size-bytes}
+use Rattle.numbers.proofs.WalkLaws.{bytes-between, copied, size-bytes}
 use Rattle.numbers.specs.BigEndian.{bytesOf}
 use Rattle.numbers.specs.Walk.{bytesAt}
 use mathlib.Core.List.{_++_}
@@ -77,9 +77,9 @@ returns c =
     let x = bytesAt s 3200 24 in
     let z = bytesAt s 3226 34 in
     let w₀ = start _ (b .args .out .now) (b .pre .1 ∙ sym (size-binary s)) in
-    let w₁ = lend x (bytesOf 2 0 ++ z) 24 w₀ (omega arith) (size-bytes s 3200 24) (c .before .before .before .before .before .before .before .before .before .before .before .copy .ensures ∙ bytes-between s 3200 3224 24 (omega (arith, b .pre .0)) refl) in
+    let w₁ = lend x (bytesOf 2 0 ++ z) 24 w₀ (omega arith) (size-bytes s 3200 24) (copied _ _ (c .before .before .before .before .before .before .before .before .before .before .before .copy .ensures) (search needs) ∙ bytes-between s 3200 3224 24 (omega (arith, b .pre .0)) refl) in
     let w₂ = lend (bytesOf 2 0) z 26 w₁ (omega arith) refl (c .before .before .before .before .before .before .before .put16 .ensures) in
-    close z 60 w₂ (omega arith) (size-bytes s 3226 34) (c .before .before .copy2 .ensures ∙ bytes-between s 3226 3260 34 (omega (arith, b .pre .0)) refl)
+    close z 60 w₂ (omega arith) (size-bytes s 3226 34) (copied _ _ (c .before .before .copy2 .ensures) (search needs) ∙ bytes-between s 3226 3260 34 (omega (arith, b .pre .0)) refl)
 
 pub put-binary-spec : {M : Type 1} → statement M
 put-binary-spec =

@@ -3,7 +3,7 @@ use Rattle.transcribe.proofs.CopiedLaws.{size-header}
 use Rattle.transcribe.specs.Copied.{ownOr, headerCopied}
 use Rattle.reel.specs.Layout.{word}
 use Rattle.numbers.proofs.Filling.{start, lend, close}
-use Rattle.numbers.proofs.WalkLaws.{bytes-between, size-bytes}
+use Rattle.numbers.proofs.WalkLaws.{bytes-between, copied, size-bytes}
 use Rattle.numbers.specs.BigEndian.{bytesOf}
 use Rattle.numbers.specs.Walk.{bytesAt}
 use Prim.Native.Nat.{_+_}
@@ -114,10 +114,10 @@ returns c =
     let y = bytesOf 2 (ownOr (b .args .n) (word s (at + 114))) in
     let u = bytesOf 2 (ownOr (b .args .i) (word s (at + 116))) in
     let z = bytesAt s (at + 118) 62 in
-    let e₁ = c .before .before .before .before .before .before .before .before .before .before .before .before .before .before .before .before .before .copy .ensures ∙ bytes-between s at (at + 114) 114 (omega (arith, b .pre .0)) refl in
+    let e₁ = copied _ _ (c .before .before .before .before .before .before .before .before .before .before .before .before .before .before .before .before .before .copy .ensures) (search needs) ∙ bytes-between s at (at + 114) 114 (omega (arith, b .pre .0)) refl in
     let e₂ = c .before .before .before .before .before .before .before .before .before .before .before .before .put16 .ensures ∙ ap (bytesOf 2) (c .before .before .before .before .before .before .before .before .before .before .before .before .before .before .own-at .ensures) in
     let e₃ = c .before .before .before .before .before .before .before .put162 .ensures ∙ ap (bytesOf 2) (c .before .before .before .before .before .before .before .before .before .own-at2 .ensures) in
-    let e₄ = c .before .before .copy2 .ensures ∙ bytes-between s (at + 118) (at + 180) 62 (omega (arith, b .pre .0)) (omega arith) in
+    let e₄ = copied _ _ (c .before .before .copy2 .ensures) (search needs) ∙ bytes-between s (at + 118) (at + 180) 62 (omega (arith, b .pre .0)) (omega arith) in
     let w₀ = start _ (b .args .out .now) (b .pre .1 ∙ sym (size-header s (b .args .n) (b .args .i) at)) in
     let w₁ = lend x (y ++ (u ++ z)) 114 w₀ (omega arith) (size-bytes s at 114) e₁ in
     let w₂ = lend y (u ++ z) 116 w₁ (omega arith) refl e₂ in

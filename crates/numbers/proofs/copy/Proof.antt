@@ -1,13 +1,15 @@
--- `transcribe::copy` meets its contract. Assumes nothing.
+-- `numbers::copy` meets its contract. Assumes nothing.
 use Rattle.numbers.proofs.Filling.{Filling, start, finish, again, put}
-use Rattle.numbers.proofs.WalkLaws.{drop-next}
+use Rattle.numbers.proofs.WalkLaws.{drop-next, copied}
+use Rattle.numbers.specs.Walk.{copyOf}
+use borrow.Author.Tests.{ne-eqb}
 use lib.ListN.{length, drop, length-set, drop-of-length-le}
 use Prim.Native.Nat.{_-_, _≤_}
-use mathlib.Core.Path.{_≡_}
-use borrow.Author.Needs.{needs}
+use mathlib.Core.Path.{_≡_, refl, sym, _∙_}
 use native.Mathlib.Omega.{arith}
-use Rattle.transcribe.proofs.copy.Statement.{statement}
-use Rattle.transcribe.proofs.copy.Tie as tie
+use borrow.Author.Needs.{needs}
+use Rattle.numbers.proofs.copy.Statement.{statement}
+use Rattle.numbers.proofs.copy.Tie as tie
 
 abbrev Inv-loop : tie.InvT-loop
 Inv-loop src out₀ i₀ out i = (i ≤ length src) × (length out ≡ length src) × Filling src out i (drop i src)
@@ -15,8 +17,12 @@ Inv-loop src out₀ i₀ out i = (i ≤ length src) × (length out ≡ length sr
 abbrev μ-loop : tie.MeasureT-loop
 μ-loop src out₀ i₀ out i = length src - i
 
+returns : tie.Need-returns Inv-loop μ-loop
+unfolding copyOf
+returns c = let a = c .before .args in rw (ne-eqb (length (a .out .now)) (length (a .src .now)) (c .if1 .taken))
+
 loop-holds : tie.Need-loop-holds Inv-loop μ-loop
-loop-holds c = (omega arith, c .pre, start _ _ (c .pre))
+loop-holds c = (omega arith, c .if1 .left, start _ _ (c .if1 .left))
 
 shared-slice-read-out : tie.Need-shared-slice-read-out Inv-loop μ-loop
 shared-slice-read-out c = search needs
@@ -33,14 +39,16 @@ loop-less c = search needs
 loop-again : tie.Need-loop-again Inv-loop μ-loop
 loop-again c =
     let h = c .before .before in
-    let s = h .before .args .src .now in
+    let s = c .before .before .before .before .args .src .now in
     (omega arith, simp length-set (omega arith), put _ (again (h .loop .inv .2) (drop-next s (h .loop .i) (c .before .loop-test .taken))))
 
 same-length : tie.Need-same-length Inv-loop μ-loop
 same-length c = search needs
 
-returns : tie.Need-returns Inv-loop μ-loop
-returns c = finish (c .before .loop .inv .2) (drop-of-length-le (c .before .before .args .src .now) (c .loop-test .left))
+returns-2 : tie.Need-returns-2 Inv-loop μ-loop
+returns-2 c =
+    let a = c .before .before .before .args in
+    finish (c .before .loop .inv .2) (drop-of-length-le (a .src .now) (c .loop-test .left)) ∙ sym (copied (a .src .now) (a .out .now) refl (c .before .before .if1 .left))
 
 pub copy-spec : {M : Type 1} → statement M
 copy-spec =
@@ -48,6 +56,7 @@ copy-spec =
     (tie.spec
     Inv-loop
     μ-loop
+    returns
     loop-holds
     shared-slice-read-out
     slice-write-out
@@ -55,4 +64,4 @@ copy-spec =
     loop-less
     loop-again
     same-length
-    returns)
+    returns-2)
