@@ -3,3 +3,4 @@ pub mod Valid
 pub mod Again
 pub mod ProperLaws
 pub mod Fitting
+pub mod WriteRefusals

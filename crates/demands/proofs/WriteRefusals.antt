@@ -1,0 +1,450 @@
+-- # Refusals of writing are exact
+--
+-- The causes against writing a record as a reel, as a table: 11; then the record front to back, each field first by 12, then by 13; then
+-- 14, first sample first; then 10. Each row says in which case it applies, and what stands beside it. Writing is refused by a number with
+-- a place exactly when that row of the table applies, and it has no cause exactly when no row does. Assumes nothing.
+use mathlib.Core.Path.{_≡_, refl, sym, ap, _∙_, subst}
+use mathlib.Core.List.{List}
+use mathlib.Core.Logic.{_⊎_, inl, inr, ⊎-elim}
+use mathlib.Core.Bool.{Bool, true, false, not, _&&_}
+use Prim.Native.Nat.{ℕ, zero, suc, _+_, _-_, _*_, _≤_, _<_}
+use native.Mathlib.Nat.{add-zero, zero-mul, suc-mul, mul-one, not-suc-le-zero}
+use native.Mathlib.Omega.{arith}
+use borrow.Author.Tests.{lt-ltb, le-ltb, le-leb, eq-eqb, ne-eqb, leb-true, ltb-true, ltb-false, eqb-true, eqb-false}
+use lib.Dec.{T, leb, ltb, eqb}
+use lib.ListN.{length, getD}
+use Rattle.numbers.specs.Walk.{pick, walk, bytesAt}
+use Rattle.numbers.specs.BigEndian.{number}
+use Rattle.numbers.specs.Cause.{refuseIf, then, firstOf}
+use Rattle.numbers.specs.declared.Place.{Place}
+use Rattle.numbers.specs.declared.Check.{Check}
+use Rattle.numbers.specs.declared.Check.the-variants.{Fine, Refused}
+use Rattle.numbers.proofs.CauseLaws.{not-fine, then-fine}
+use Rattle.sample.specs.Pair.{isCanonical}
+use Rattle.sample.specs.Reading.{isCode}
+use Rattle.sample.specs.Writing.{wordOf}
+use Rattle.sample.specs.Calls.{pairLength, pairIn}
+use Rattle.sample_theorems.proofs.Held.{and-true}
+use Rattle.sample_theorems.proofs.Pairs.{Iff}
+use Rattle.reel.specs.Layout.{cardBytes, word}
+use Rattle.reel.specs.Causes.{mostSamples, mostTraces, mostInterval, within}
+use Rattle.record.specs.Form.{isField, fieldCause, cardCause, cardsCauses, heldInterval, heldSamples, heldCode, numberCauses, binaryCauses, firstField, heldStride, pairCause, samplesCauses, traceForm, tagsFrom, heldTraces, endCauses, bodyCauses, formCauses}
+use Rattle.record.specs.Held.{heldValue}
+use Rattle.record.specs.Target.{isUnfit, fitCause, traceFit, fitCauses, targetCauses}
+use Rattle.write_reel.specs.Reel.{reelLength}
+use Rattle.write_reel.specs.Writing.{writeCauses}
+use Rattle.reel_theorems.proofs.Refusals.{First, first-is, first-of, none-is, none-of}
+use Rattle.demands.proofs.Valid.{Stands, stands, CanonicalAt}
+use Rattle.demands.proofs.ProperLaws.{value-held, tags-most}
+use Rattle.demands.proofs.Fitting.{HasWord, fits-is}
+
+-- ## The terms of the table
+
+-- A place, by its number.
+abbrev pub atPlace : ℕ → Place
+atPlace at = record { 0 = at }
+
+-- n is from a to b.
+abbrev pub Between : ℕ → ℕ → ℕ → Type 0
+Between a b n = (a ≤ n) × (n ≤ b)
+
+-- The place of trace k in a record, counted from 0, and the place of its pair j. Behind the last trace it is the place of tag 05.
+abbrev pub tracePlace : List ℕ → ℕ → ℕ
+tracePlace s k = firstField + k * heldStride (heldSamples s)
+
+abbrev pub pairPlace : List ℕ → ℕ → ℕ → ℕ
+pairPlace s k j = tracePlace s k + 186 + j * pairLength
+
+-- Tag 01 stands at the front with its 3,200 card bytes, none of them 00.
+pub record CardsRight (s : List ℕ) : Type 0 where
+  pub cards : Stands s 1 3200 0
+  pub card-bytes : (j : ℕ) → j < 3200 → ¬ (getD s (3 + j) 0 ≡ 0)
+
+-- Then tag 02 stands with its 60 bytes: interval and N are within their limits, and the format code is 0.
+pub record HeadRight (s : List ℕ) : Type 0 where
+  pub front : CardsRight s
+  pub binary : Stands s 2 60 3203
+  pub interval : Between 1 32767 (heldInterval s)
+  pub samples : Between 1 8000 (heldSamples s)
+  pub code : heldCode s ≡ 0
+
+-- Trace k stands: tag 03 with its 180 bytes, of which field 115 is N and field 117 the interval, then tag 04 with N canonical pairs.
+pub record TraceRight (s : List ℕ) (k : ℕ) : Type 0 where
+  pub header : Stands s 3 180 (tracePlace s k)
+  pub count : word s (tracePlace s k + 117) ≡ heldSamples s
+  pub interval : word s (tracePlace s k + 119) ≡ heldInterval s
+  pub samples : Stands s 4 (6 * heldSamples s) (tracePlace s k + 183)
+  pub pairs : (j : ℕ) → j < heldSamples s → CanonicalAt s (pairPlace s k j)
+
+-- All is right up to trace k: tags 01 and 02, and the k traces before it.
+pub record RightUntil (s : List ℕ) (k : ℕ) : Type 0 where
+  pub head : HeadRight s
+  pub before : (i : ℕ) → i < k → TraceRight s i
+
+-- All is right up to trace k, and another trace begins there: its tag is 03, and it is none beyond the 100,000th.
+pub record TraceNext (s : List ℕ) (k : ℕ) : Type 0 where
+  pub until : RightUntil s k
+  pub few : k < 100000
+  pub tag : getD s (tracePlace s k) 0 ≡ 3
+
+-- All is right up to the end of t traces, and tag 05 should follow: no tag 03 does, or it would be that of trace 100,001.
+pub record EndNext (s : List ℕ) (t : ℕ) : Type 0 where
+  pub until : RightUntil s t
+  pub few : t ≤ 100000
+  pub end : (t ≡ 100000) ⊎ (¬ (getD s (tracePlace s t) 0 ≡ 3))
+
+-- A valid record of t traces, to which neither 12 nor 13 applies: behind its traces tag 05 holds their count, and no byte comes after it.
+pub record RecordRight (s : List ℕ) (t : ℕ) : Type 0 where
+  pub end : EndNext s t
+  pub field : Stands s 5 4 (tracePlace s t)
+  pub count : number (bytesAt s (tracePlace s t + 3) 4) ≡ t
+  pub last : length s ≤ tracePlace s t + 7
+
+-- Sample j of trace k fits the target: some word of the code has the value of its pair.
+abbrev pub Fits : List ℕ → ℕ → ℕ → ℕ → Type 0
+Fits s code k j = HasWord code (heldValue s (pairPlace s k j))
+
+-- ## The table
+
+-- The rows: number, and what stands beside it. A field is refused by 12 where it doesn't stand whole at its place with its tag and length.
+pub data WriteRow (s : List ℕ) (code room : ℕ) : ℕ → Place → Type 0 where
+  -- target code not 1 to 4
+  bad-target : ¬ (Between 1 4 code) → WriteRow s code room 11 (atPlace 0)
+  -- tag 01, and a card byte 00
+  no-cards : Between 1 4 code → ¬ (Stands s 1 3200 0) → WriteRow s code room 12 (atPlace 0)
+  bad-card : (j : ℕ) → Between 1 4 code → Stands s 1 3200 0 → j < 3200 → ((i : ℕ) → i < j → ¬ (getD s (3 + i) 0 ≡ 0)) → getD s (3 + j) 0 ≡ 0
+      → WriteRow s code room 13 (atPlace (3 + j))
+  -- tag 02, and in it the interval, N and the format code
+  no-binary : Between 1 4 code → CardsRight s → ¬ (Stands s 2 60 3203) → WriteRow s code room 12 (atPlace 3203)
+  bad-interval : Between 1 4 code → CardsRight s → Stands s 2 60 3203 → ¬ (Between 1 32767 (heldInterval s)) → WriteRow s code room 13 (atPlace 3222)
+  bad-samples : Between 1 4 code → CardsRight s → Stands s 2 60 3203 → Between 1 32767 (heldInterval s) → ¬ (Between 1 8000 (heldSamples s))
+      → WriteRow s code room 13 (atPlace 3226)
+  bad-code : Between 1 4 code → CardsRight s → Stands s 2 60 3203 → Between 1 32767 (heldInterval s) → Between 1 8000 (heldSamples s) → ¬ (heldCode s ≡ 0)
+      → WriteRow s code room 13 (atPlace 3230)
+  -- tag 03 of trace k, and in it fields 115 and 117
+  no-header : (k : ℕ) → Between 1 4 code → TraceNext s k → ¬ (Stands s 3 180 (tracePlace s k)) → WriteRow s code room 12 (atPlace (tracePlace s k))
+  bad-115 : (k : ℕ) → Between 1 4 code → TraceNext s k → Stands s 3 180 (tracePlace s k) → ¬ (word s (tracePlace s k + 117) ≡ heldSamples s)
+      → WriteRow s code room 13 (atPlace (tracePlace s k + 117))
+  bad-117 : (k : ℕ) → Between 1 4 code → TraceNext s k → Stands s 3 180 (tracePlace s k) → word s (tracePlace s k + 117) ≡ heldSamples s
+      → ¬ (word s (tracePlace s k + 119) ≡ heldInterval s)
+      → WriteRow s code room 13 (atPlace (tracePlace s k + 119))
+  -- tag 04 of trace k, and in it pair j
+  no-samples : (k : ℕ) → Between 1 4 code → TraceNext s k → Stands s 3 180 (tracePlace s k) → word s (tracePlace s k + 117) ≡ heldSamples s
+      → word s (tracePlace s k + 119) ≡ heldInterval s → ¬ (Stands s 4 (6 * heldSamples s) (tracePlace s k + 183))
+      → WriteRow s code room 12 (atPlace (tracePlace s k + 183))
+  bad-pair : (k j : ℕ) → Between 1 4 code → TraceNext s k → Stands s 3 180 (tracePlace s k) → word s (tracePlace s k + 117) ≡ heldSamples s
+      → word s (tracePlace s k + 119) ≡ heldInterval s → Stands s 4 (6 * heldSamples s) (tracePlace s k + 183)
+      → j < heldSamples s → ((i : ℕ) → i < j → CanonicalAt s (pairPlace s k i)) → ¬ (CanonicalAt s (pairPlace s k j))
+      → WriteRow s code room 13 (atPlace (pairPlace s k j))
+  -- tag 05 behind t traces, a wrong count in it, and bytes after it
+  no-end : (t : ℕ) → Between 1 4 code → EndNext s t → ¬ (Stands s 5 4 (tracePlace s t)) → WriteRow s code room 12 (atPlace (tracePlace s t))
+  bad-count : (t : ℕ) → Between 1 4 code → EndNext s t → Stands s 5 4 (tracePlace s t) → ¬ (number (bytesAt s (tracePlace s t + 3) 4) ≡ t)
+      → WriteRow s code room 12 (atPlace (tracePlace s t))
+  after : (t : ℕ) → Between 1 4 code → EndNext s t → Stands s 5 4 (tracePlace s t) → number (bytesAt s (tracePlace s t + 3) 4) ≡ t
+      → tracePlace s t + 7 < length s
+      → WriteRow s code room 12 (atPlace (tracePlace s t + 7))
+  -- sample j of trace k doesn't fit the target
+  unfit : (t k j : ℕ) → Between 1 4 code → RecordRight s t → k < t → j < heldSamples s → ((h i : ℕ) → h < k → i < heldSamples s → Fits s code h i)
+      → ((i : ℕ) → i < j → Fits s code k i) → ¬ (Fits s code k j)
+      → WriteRow s code room 14 (atPlace (pairPlace s k j))
+  -- the output is too short for the reel
+  short : (t : ℕ) → Between 1 4 code → RecordRight s t → ((k j : ℕ) → k < t → j < heldSamples s → Fits s code k j)
+      → room < reelLength code t (heldSamples s)
+      → WriteRow s code room 10 (atPlace (reelLength code t (heldSamples s)))
+
+-- ## One test of the table
+
+-- What a check answers that tests P: nothing where P holds, else its number and place.
+abbrev Tests : Type 0 → ℕ → ℕ → Check → Type 0
+Tests P number at c = (P × (c ≡ Fine)) ⊎ ((¬ P) × (c ≡ Refused number (atPlace at)))
+
+-- True is not false.
+apart : false ≡ true → ⊥
+apart e = subst T (sym e) tt
+
+-- A test by a truth value that is true just where P holds.
+test-by : (P : Type 0) (b : Bool) (number at : ℕ) → (b ≡ true → P) → (P → b ≡ true) → Tests P number at (refuseIf (not b) number at)
+test-by P true number at f g = inl (f refl, refl)
+test-by P false number at f g = inr (λ p. apart (g p), refl)
+
+module _ {P : Type 0} {number at : ℕ} {c : Check} (t : Tests P number at c) where
+  -- Where P holds, the check answers nothing.
+  fine-where : P → c ≡ Fine
+  fine-where p = ⊎-elim (λ r. r .1) (λ r. absurd (r .0 p)) t
+
+  -- Where P doesn't hold, it refuses.
+  refused-where : ¬ P → c ≡ Refused number (atPlace at)
+  refused-where n = ⊎-elim (λ r. absurd (n (r .0))) (λ r. r .1) t
+
+  -- Where it answers nothing, P holds.
+  holds-where : c ≡ Fine → P
+  holds-where e = ⊎-elim (λ r. r .0) (λ r. absurd (not-fine (sym (r .1) ∙ e))) t
+
+  -- A check that refuses does so by its own row.
+  row-where : (R : ℕ → Place → Type 0) {n : ℕ} {p : Place} → (¬ P → R number (atPlace at)) → c ≡ Refused n p → R n p
+  row-where R {n} {p} f e = ⊎-elim (λ r. absurd (not-fine (sym e ∙ r .1))) (λ r. go (r .0) (sym (r .1) ∙ e)) t
+    where
+      go : ¬ P → Refused number (atPlace at) ≡ Refused n p → R n p
+      go h q =
+          let a : number ≡ n = cc in
+          let b : atPlace at ≡ p = cc in
+          subst (λ (x : ℕ). R x p) a (subst (λ (x : Place). R number x) b (f h))
+
+-- The row of two checks: of the first, or where that answers nothing, of the second.
+then-row : (R : ℕ → Place → Type 0) (c d : Check) {n : ℕ} {p : Place} → (c ≡ Refused n p → R n p) → (c ≡ Fine → d ≡ Refused n p → R n p)
+    → then c d ≡ Refused n p → R n p
+then-row R Fine d a b e = b refl e
+then-row R (Refused m q) d a b e = a e
+
+-- Where the first of two checks refuses, both do.
+then-first : (c d : Check) {n : ℕ} {p : Place} → c ≡ Refused n p → then c d ≡ Refused n p
+then-first c d e = ap (λ x. then x d) e
+
+-- Where the first answers nothing, both answer what the second does.
+then-second : (c d : Check) {x : Check} → c ≡ Fine → d ≡ x → then c d ≡ x
+then-second c d e f = ap (λ x. then x d) e ∙ f
+
+-- ## The tests, one by one
+
+and-both : (b c : Bool) → b ≡ true → c ≡ true → (b && c) ≡ true
+and-both true c p q = q
+and-both false c p q = p
+
+-- A number within its limits.
+test-between : (a b n number at : ℕ) → Tests (Between a b n) number at (refuseIf (not (within a b n)) number at)
+test-between a b n number at =
+    test-by (Between a b n) (within a b n) number at
+    (λ e. let h = and-true (leb a n) _ e in (leb-true a n (h .0), leb-true n b (h .1)))
+    (λ h. and-both (leb a n) _ (le-leb a n (h .0)) (le-leb n b (h .1)))
+
+-- A number that must be another.
+test-same : (a b number at : ℕ) → Tests (a ≡ b) number at (refuseIf (not (eqb a b)) number at)
+test-same a b number at = test-by (a ≡ b) (eqb a b) number at (eqb-true a b) (eq-eqb a b)
+
+-- A field at its place.
+test-field : (s : List ℕ) (tag size at : ℕ) → Tests (Stands s tag size at) 12 at (fieldCause s tag size at)
+test-field s tag size at =
+    test-by (Stands s tag size at) (isField s tag size at) 12 at there
+    (λ h. and-both (leb (at + (3 + size)) (length s)) _ (le-leb (at + (3 + size)) (length s) (h .whole)) (and-both (eqb (getD s at 0) tag) _ (eq-eqb (getD s at 0) tag (h .tag-is)) (eq-eqb (word s (at + 1)) size (h .size-is))))
+  where
+    there : isField s tag size at ≡ true → Stands s tag size at
+    there e =
+        let a = and-true (leb (at + (3 + size)) (length s)) _ e in
+        let b = and-true (eqb (getD s at 0) tag) _ (a .1) in
+        record {
+          whole = leb-true (at + (3 + size)) (length s) (a .0);
+          tag-is = eqb-true (getD s at 0) tag (b .0);
+          size-is = eqb-true (word s (at + 1)) size (b .1);
+        }
+
+-- A card byte other than 00.
+test-card : (s : List ℕ) (at : ℕ) → Tests (¬ (getD s at 0 ≡ 0)) 13 at (cardCause s at)
+test-card s at = go (eqb (getD s at 0) 0) refl
+  where
+    go : (b : Bool) → eqb (getD s at 0) 0 ≡ b → Tests (¬ (getD s at 0 ≡ 0)) 13 at (refuseIf b 13 at)
+    go true e = inr (λ n. n (eqb-true (getD s at 0) 0 e), refl)
+    go false e = inl (eqb-false (getD s at 0) 0 e, refl)
+
+-- A pair that is canonical.
+test-pair : (s : List ℕ) (at : ℕ) → Tests (CanonicalAt s at) 13 at (pairCause s at)
+test-pair s at = test-by (CanonicalAt s at) (isCanonical (pairIn (bytesAt s at pairLength))) 13 at (λ e. e) (λ e. e)
+
+-- A length that is enough.
+test-room : (room size number at : ℕ) → Tests (size ≤ room) number at (refuseIf (ltb room size) number at)
+test-room room size number at = go (ltb room size) refl
+  where
+    go : (b : Bool) → ltb room size ≡ b → Tests (size ≤ room) number at (refuseIf b number at)
+    go true e = let h = ltb-true room size e in inr (λ n. let z : 1 ≤ 0 = omega arith in not-suc-le-zero z, refl)
+    go false e = inl (ltb-false room size e, refl)
+
+-- A canonical pair that fits the target.
+test-fit : (s : List ℕ) (code at : ℕ) → isCode code ≡ true → CanonicalAt s at → Tests (HasWord code (heldValue s at)) 14 at (fitCause s code at)
+test-fit s code at h c = go (isUnfit (wordOf code (heldValue s at))) refl
+  where
+    both : Iff (isUnfit (wordOf code (heldValue s at)) ≡ false) (HasWord code (heldValue s at))
+    both = fits-is code (heldValue s at) h (value-held s at c)
+
+    go : (b : Bool) → isUnfit (wordOf code (heldValue s at)) ≡ b → Tests (HasWord code (heldValue s at)) 14 at (refuseIf b 14 at)
+    go true e = inr (λ w. apart (sym (both .1 w) ∙ e), refl)
+    go false e = inl (both .0 e, refl)
+
+-- ## Tests along a walk
+
+-- k checks along a walk, of which the j-th tests P j.
+module _ (P : ℕ → Type 0) (number : ℕ) (f : ℕ → Check) (w k at : ℕ) (place : ℕ → ℕ) (t : (j : ℕ) → j < k → Tests (P j) number (place j) (f (at + j * w))) where
+  -- Where P holds all along, they answer nothing.
+  walk-fine : ((j : ℕ) → j < k → P j) → firstOf (walk f w k at) ≡ Fine
+  walk-fine h = none-of f w k at (λ j l. fine-where (t j l) (h j l))
+
+  -- Where they answer nothing, P holds all along.
+  walk-holds : firstOf (walk f w k at) ≡ Fine → (j : ℕ) → j < k → P j
+  walk-holds e j l = holds-where (t j l) (none-is f w k at e j l)
+
+  -- Where P first fails at j, the j-th refuses.
+  walk-refused : (j : ℕ) → j < k → ((i : ℕ) → i < j → P i) → ¬ (P j) → firstOf (walk f w k at) ≡ Refused number (atPlace (place j))
+  walk-refused j l h n =
+      first-of f w k at number (atPlace (place j))
+      (record { j = j; below = l; before = λ i m. fine-where (t i (omega arith)) (h i m); here = refused-where (t j l) n })
+
+  -- Where they refuse, it is by the row of the first at which P fails.
+  walk-row : (R : ℕ → Place → Type 0) {n : ℕ} {p : Place} → ((j : ℕ) → j < k → ((i : ℕ) → i < j → P i) → ¬ (P j) → R number (atPlace (place j)))
+      → firstOf (walk f w k at) ≡ Refused n p → R n p
+  walk-row R {n} {p} g e =
+      let r = first-is f w k at n p e in
+      let l : r .j < k = r .below in
+      row-where (t (r .j) l) R (g (r .j) l (λ i m. holds-where (t i (omega arith)) (r .before i m))) (r .here)
+
+-- ## Tags 01 and 02
+
+module _ (s : List ℕ) where
+  -- The card bytes along tag 01.
+  card-tests : (j : ℕ) → j < 3200 → Tests (¬ (getD s (3 + j) 0 ≡ 0)) 13 (3 + j) (cardCause s (3 + j * 1))
+  card-tests j l = rw (mul-one j) (test-card s (3 + j))
+
+  cards-fine : CardsRight s → cardsCauses s ≡ Fine
+  unfolding cardsCauses
+  cards-fine h =
+      then-second (fieldCause s 1 3200 0) _ (fine-where (test-field s 1 3200 0) (h .cards))
+      (walk-fine (λ j. ¬ (getD s (3 + j) 0 ≡ 0)) 13 (cardCause s) 1 3200 3 (λ j. 3 + j) card-tests (h .card-bytes))
+
+  cards-right : cardsCauses s ≡ Fine → CardsRight s
+  unfolding cardsCauses
+  cards-right e =
+      let a = then-fine (fieldCause s 1 3200 0) _ e in
+      record {
+        cards = holds-where (test-field s 1 3200 0) (a .0);
+        card-bytes = walk-holds (λ j. ¬ (getD s (3 + j) 0 ≡ 0)) 13 (cardCause s) 1 3200 3 (λ j. 3 + j) card-tests (a .1);
+      }
+
+  head-fine : HeadRight s → binaryCauses s ≡ Fine
+  unfolding binaryCauses
+  head-fine h =
+      then-second (fieldCause s 2 60 3203) _ (fine-where (test-field s 2 60 3203) (h .binary))
+      (then-second _ _ (fine-where (test-between 1 mostInterval (heldInterval s) 13 3222) (h .interval))
+      (then-second _ _ (fine-where (test-between 1 mostSamples (heldSamples s) 13 3226) (h .samples))
+      (then-second _ _ (fine-where (test-same (heldCode s) 0 13 3230) (h .code)) refl)))
+
+  head-right : CardsRight s → binaryCauses s ≡ Fine → HeadRight s
+  unfolding binaryCauses
+  head-right c e =
+      let d = then-fine (fieldCause s 2 60 3203) _ e in
+      let f = then-fine (refuseIf (not (within 1 mostInterval (heldInterval s))) 13 3222) _ (d .1) in
+      let g = then-fine (refuseIf (not (within 1 mostSamples (heldSamples s))) 13 3226) _ (f .1) in
+      let h = then-fine (refuseIf (not (eqb (heldCode s) 0)) 13 3230) _ (g .1) in
+      record {
+        front = c;
+        binary = holds-where (test-field s 2 60 3203) (d .0);
+        interval = holds-where (test-between 1 mostInterval (heldInterval s) 13 3222) (f .0);
+        samples = holds-where (test-between 1 mostSamples (heldSamples s) 13 3226) (g .0);
+        code = holds-where (test-same (heldCode s) 0 13 3230) (h .0);
+      }
+
+-- ## Traces
+
+-- The checks of the trace at a place, with the N and interval that the record holds.
+abbrev formAt : List ℕ → ℕ → Check
+formAt s at = traceForm s (heldSamples s) (heldInterval s) at
+
+module _ (s : List ℕ) (k : ℕ) where
+  -- The pairs along tag 04.
+  pair-tests : (j : ℕ) → j < heldSamples s → Tests (CanonicalAt s (pairPlace s k j)) 13 (pairPlace s k j) (pairCause s (tracePlace s k + 183 + 3 + j * pairLength))
+  pair-tests j l =
+      let e : tracePlace s k + 183 + 3 + j * pairLength ≡ pairPlace s k j = omega arith in
+      rw e (test-pair s (pairPlace s k j))
+
+  trace-fine : TraceRight s k → formAt s (tracePlace s k) ≡ Fine
+  unfolding traceForm samplesCauses
+  trace-fine h =
+      then-second _ _ (fine-where (test-field s 3 180 (tracePlace s k)) (h .header))
+      (then-second _ _ (fine-where (test-same (word s (tracePlace s k + 117)) (heldSamples s) 13 (tracePlace s k + 117)) (h .count))
+      (then-second _ _ (fine-where (test-same (word s (tracePlace s k + 119)) (heldInterval s) 13 (tracePlace s k + 119)) (h .interval))
+      (then-second _ _ (fine-where (test-field s 4 (6 * heldSamples s) (tracePlace s k + 183)) (h .samples))
+      (walk-fine (λ j. CanonicalAt s (pairPlace s k j)) 13 (pairCause s) pairLength (heldSamples s) (tracePlace s k + 183 + 3) (pairPlace s k) pair-tests (h .pairs)))))
+
+  trace-right : formAt s (tracePlace s k) ≡ Fine → TraceRight s k
+  unfolding traceForm samplesCauses
+  trace-right e =
+      let n = heldSamples s in
+      let i = heldInterval s in
+      let at = tracePlace s k in
+      let a = then-fine (fieldCause s 3 180 at) _ e in
+      let b = then-fine (refuseIf (not (eqb (word s (at + 117)) n)) 13 (at + 117)) _ (a .1) in
+      let c = then-fine (refuseIf (not (eqb (word s (at + 119)) i)) 13 (at + 119)) _ (b .1) in
+      let d = then-fine (fieldCause s 4 (pairLength * n) (at + 183)) _ (c .1) in
+      record {
+        header = holds-where (test-field s 3 180 at) (a .0);
+        count = holds-where (test-same (word s (at + 117)) n 13 (at + 117)) (b .0);
+        interval = holds-where (test-same (word s (at + 119)) i 13 (at + 119)) (c .0);
+        samples = holds-where (test-field s 4 (6 * n) (at + 183)) (d .0);
+        pairs = walk-holds (λ j. CanonicalAt s (pairPlace s k j)) 13 (pairCause s) pairLength n (at + 183 + 3) (pairPlace s k) pair-tests (d .1);
+      }
+
+-- ## How many traces there are
+
+-- k tags 03, w bytes apart, are counted before those behind them.
+tags-more : (most : ℕ) (s : List ℕ) (w at k : ℕ) → k ≤ most → ((j : ℕ) → j < k → getD s (at + j * w) 0 ≡ 3)
+    → tagsFrom most s w at ≡ k + tagsFrom (most - k) s w (at + k * w)
+unfolding tagsFrom
+tags-more most s w at zero h t =
+    let a : at + 0 * w ≡ at = rw (zero-mul, add-zero) in
+    let b : most - 0 ≡ most = omega arith in
+    rw (a, b) (omega arith)
+tags-more zero s w at (suc k) h t = absurd (not-suc-le-zero h)
+tags-more (suc most) s w at (suc k) h t =
+    let a : at + 0 * w ≡ at = rw (zero-mul, add-zero) in
+    let b : at + w + k * w ≡ at + suc k * w = rw suc-mul (omega arith) in
+    let c : suc most - suc k ≡ most - k = omega arith in
+    let here : getD s at 0 ≡ 3 = ap (λ (x : ℕ). getD s x 0) (sym a) ∙ t 0 (omega arith) in
+    let rest = tags-more most s w (at + w) k (omega arith) (λ j l. ap (λ (x : ℕ). getD s x 0) (next j) ∙ t (suc j) (omega arith)) in
+    rw (eq-eqb (getD s at 0) 3 here, c, sym b) (omega (arith, rest))
+  where
+    next : (j : ℕ) → at + w + j * w ≡ at + suc j * w
+    next j = rw suc-mul (omega arith)
+
+-- One tag 03 more is counted, where there is room for it.
+tags-next : (most : ℕ) (s : List ℕ) (w at : ℕ) → 0 < most → getD s at 0 ≡ 3 → 0 < tagsFrom most s w at
+unfolding tagsFrom
+tags-next zero s w at h t = absurd (not-suc-le-zero h)
+tags-next (suc most) s w at h t = rw (eq-eqb (getD s at 0) 3 t) (omega arith)
+
+-- None is counted where another byte stands, or there is no room.
+tags-none : (most : ℕ) (s : List ℕ) (w at : ℕ) → (most ≡ 0) ⊎ (¬ (getD s at 0 ≡ 3)) → tagsFrom most s w at ≡ 0
+unfolding tagsFrom
+tags-none zero s w at h = refl
+tags-none (suc most) s w at (inl e) = absurd (let z : suc most ≡ 0 = e in omega arith)
+tags-none (suc most) s w at (inr n) = rw (ne-eqb (getD s at 0) 3 n)
+
+-- Each tag that is counted is 03.
+tags-are : (most : ℕ) (s : List ℕ) (w at j : ℕ) → j < tagsFrom most s w at → getD s (at + j * w) 0 ≡ 3
+unfolding tagsFrom
+tags-are zero s w at j h = absurd (not-suc-le-zero h)
+tags-are (suc most) s w at j h = go (λ i l. tags-are most s w (at + w) i l) (eqb (getD s at 0) 3) refl j h
+  where
+    go : ((i : ℕ) → i < tagsFrom most s w (at + w) → getD s (at + w + i * w) 0 ≡ 3)
+        → (b : Bool) → eqb (getD s at 0) 3 ≡ b → (j : ℕ) → j < pick b (suc (tagsFrom most s w (at + w))) 0 → getD s (at + j * w) 0 ≡ 3
+    go rest false e j h = absurd (not-suc-le-zero h)
+    go rest true e zero h =
+        let a : at + 0 * w ≡ at = rw (zero-mul, add-zero) in
+        rw a (eqb-true (getD s at 0) 3 e)
+    go rest true e (suc j) h =
+        let b : at + suc j * w ≡ at + w + j * w = rw suc-mul (omega arith) in
+        rw b (rest j (omega arith))
+
+-- Behind the tags that are counted stands another byte, or there is no room for more.
+tags-end : (most : ℕ) (s : List ℕ) (w at : ℕ) → (tagsFrom most s w at ≡ most) ⊎ (¬ (getD s (at + tagsFrom most s w at * w) 0 ≡ 3))
+unfolding tagsFrom
+tags-end zero s w at = inl refl
+tags-end (suc most) s w at = go (eqb (getD s at 0) 3) refl (tags-end most s w (at + w))
+  where
+    c : ℕ
+    c = tagsFrom most s w (at + w)
+
+    go : (b : Bool) → eqb (getD s at 0) 3 ≡ b → (c ≡ most) ⊎ (¬ (getD s (at + w + c * w) 0 ≡ 3))
+        → (pick b (suc c) 0 ≡ suc most) ⊎ (¬ (getD s (at + pick b (suc c) 0 * w) 0 ≡ 3))
+    go true e (inl h) = inl (ap suc h)
+    go true e (inr h) =
+        let b : at + suc c * w ≡ at + w + c * w = rw suc-mul (omega arith) in
+        inr (λ q. h (ap (λ (x : ℕ). getD s x 0) (sym b) ∙ q))
+    go false e h =
+        let a : at + 0 * w ≡ at = rw (zero-mul, add-zero) in
+        inr (λ q. eqb-false (getD s at 0) 3 e (ap (λ (x : ℕ). getD s x 0) (sym a) ∙ q))
