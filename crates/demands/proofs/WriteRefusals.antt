@@ -448,3 +448,249 @@ tags-end (suc most) s w at = go (eqb (getD s at 0) 3) refl (tags-end most s w (a
     go false e h =
         let a : at + 0 * w ≡ at = rw (zero-mul, add-zero) in
         inr (λ q. eqb-false (getD s at 0) 3 e (ap (λ (x : ℕ). getD s x 0) (sym a) ∙ q))
+
+-- The traces that a record holds, by the tags 03 that follow each other.
+abbrev countIn : List ℕ → ℕ
+countIn s = heldTraces s (heldSamples s)
+
+module _ (s : List ℕ) where
+  -- The tags of the traces up to trace k are 03.
+  tags-until : (k : ℕ) → RightUntil s k → (j : ℕ) → j < k → getD s (tracePlace s j) 0 ≡ 3
+  tags-until k h j l = h .before j l .header .tag-is
+
+  -- Where another trace begins behind k traces, more than k are counted.
+  next-counted : (k : ℕ) → TraceNext s k → k < countIn s
+  next-counted k h =
+      let w = heldStride (heldSamples s) in
+      let few : k < mostTraces = h .few in
+      let all = tags-more mostTraces s w firstField k (omega arith) (tags-until k (h .until)) in
+      let one = tags-next (mostTraces - k) s w (tracePlace s k) (omega arith) (h .tag) in
+      omega arith
+
+  -- Where tag 05 should follow t traces, t are counted.
+  end-counted : (t : ℕ) → EndNext s t → countIn s ≡ t
+  end-counted t h =
+      let w = heldStride (heldSamples s) in
+      let few : t ≤ mostTraces = h .few in
+      let all = tags-more mostTraces s w firstField t (omega arith) (tags-until t (h .until)) in
+      let none = tags-none (mostTraces - t) s w (tracePlace s t) (⊎-elim (λ e. inl (full e)) (λ n. inr n) (h .end)) in
+      omega arith
+    where
+      full : t ≡ 100000 → mostTraces - t ≡ 0
+      full e = omega arith
+
+  -- The traces up to trace t are right, as far as they are looked at.
+  until-fine : (t : ℕ) → RightUntil s t → firstOf (walk (formAt s) (heldStride (heldSamples s)) t firstField) ≡ Fine
+  until-fine t h = none-of (formAt s) (heldStride (heldSamples s)) t firstField (λ j l. trace-fine s j (h .before j l))
+
+  -- Where the traces that are counted are all right, tag 05 should follow them.
+  end-next : HeadRight s → firstOf (walk (formAt s) (heldStride (heldSamples s)) (countIn s) firstField) ≡ Fine → EndNext s (countIn s)
+  end-next h e =
+      let w = heldStride (heldSamples s) in
+      record {
+        until = record { head = h; before = λ i l. trace-right s i (none-is (formAt s) w (countIn s) firstField e i l) };
+        few = tags-most mostTraces s w firstField;
+        end = tags-end mostTraces s w firstField;
+      }
+
+  -- A trace that is counted, behind traces that are all right.
+  trace-next : HeadRight s → (k : ℕ) → k < countIn s → ((i : ℕ) → i < k → formAt s (tracePlace s i) ≡ Fine) → TraceNext s k
+  trace-next h k l b =
+      let w = heldStride (heldSamples s) in
+      let most = tags-most mostTraces s w firstField in
+      record {
+        until = record { head = h; before = λ i m. trace-right s i (b i m) };
+        few = omega arith;
+        tag = tags-are mostTraces s w firstField k l;
+      }
+
+  -- ## The end
+
+  end-fine : (t : ℕ) → RecordRight s t → endCauses s t (tracePlace s t) ≡ Fine
+  end-fine t h =
+      then-second _ _ (fine-where (test-field s 5 4 (tracePlace s t)) (h .field))
+      (then-second _ _ (fine-where (test-same (number (bytesAt s (tracePlace s t + 3) 4)) t 12 (tracePlace s t)) (h .count))
+      (then-second _ _ (fine-where (test-room (tracePlace s t + 7) (length s) 12 (tracePlace s t + 7)) (h .last)) refl))
+
+  end-right : (t : ℕ) → EndNext s t → endCauses s t (tracePlace s t) ≡ Fine → RecordRight s t
+  end-right t h e =
+      let at = tracePlace s t in
+      let k = then-fine (fieldCause s 5 4 at) _ e in
+      let l = then-fine (refuseIf (not (eqb (number (bytesAt s (at + 3) 4)) t)) 12 at) _ (k .1) in
+      let m = then-fine (refuseIf (ltb (at + 7) (length s)) 12 (at + 7)) _ (l .1) in
+      record {
+        end = h;
+        field = holds-where (test-field s 5 4 at) (k .0);
+        count = holds-where (test-same (number (bytesAt s (at + 3) 4)) t 12 at) (l .0);
+        last = holds-where (test-room (at + 7) (length s) 12 (at + 7)) (m .0);
+      }
+
+  -- ## The whole record
+
+  body-end : (t : ℕ) → EndNext s t → {x : Check} → endCauses s t (tracePlace s t) ≡ x → bodyCauses s (heldSamples s) (heldInterval s) (countIn s) ≡ x
+  unfolding bodyCauses
+  body-end t h e = ap (bodyCauses s (heldSamples s) (heldInterval s)) (end-counted t h) ∙ then-second _ _ (until-fine t (h .until)) e
+
+  form-body : HeadRight s → {x : Check} → bodyCauses s (heldSamples s) (heldInterval s) (countIn s) ≡ x → formCauses s ≡ x
+  unfolding formCauses
+  form-body h e = then-second _ _ (cards-fine s (h .front)) (then-second _ _ (head-fine s h) e)
+
+  -- A valid record is refused by neither 12 nor 13.
+  pub record-fine : (t : ℕ) → RecordRight s t → formCauses s ≡ Fine
+  record-fine t h = form-body (h .end .until .head) (body-end t (h .end) (end-fine t h))
+
+  -- A record that neither refuses is valid, with the traces that are counted.
+  pub record-right : formCauses s ≡ Fine → RecordRight s (countIn s)
+  unfolding formCauses bodyCauses
+  record-right e =
+      let a = then-fine (cardsCauses s) _ e in
+      let b = then-fine (binaryCauses s) _ (a .1) in
+      let h = head-right s (cards-right s (a .0)) (b .0) in
+      let c = then-fine (firstOf (walk (formAt s) (heldStride (heldSamples s)) (countIn s) firstField)) _ (b .1) in
+      end-right (countIn s) (end-next h (c .0)) (c .1)
+
+-- ## From the rows to the causes
+
+module _ (s : List ℕ) (code room : ℕ) where
+  from-form : {n : ℕ} {p : Place} → Between 1 4 code → formCauses s ≡ Refused n p → writeCauses s code room ≡ Refused n p
+  unfolding targetCauses
+  from-form g e =
+      then-first (targetCauses s code) _ (then-second _ _ (fine-where (test-between 1 4 code 11 0) g) (then-first (formCauses s) _ e))
+
+  from-cards : {n : ℕ} {p : Place} → Between 1 4 code → cardsCauses s ≡ Refused n p → writeCauses s code room ≡ Refused n p
+  unfolding formCauses
+  from-cards g e = from-form g (then-first (cardsCauses s) _ e)
+
+  from-binary : {n : ℕ} {p : Place} → Between 1 4 code → CardsRight s → binaryCauses s ≡ Refused n p → writeCauses s code room ≡ Refused n p
+  unfolding formCauses
+  from-binary g h e = from-form g (then-second _ _ (cards-fine s h) (then-first (binaryCauses s) _ e))
+
+  from-trace : {n : ℕ} {p : Place} (k : ℕ) → Between 1 4 code → TraceNext s k → formAt s (tracePlace s k) ≡ Refused n p → writeCauses s code room ≡ Refused n p
+  unfolding bodyCauses
+  from-trace {n} {p} k g h e =
+      from-form g
+      (form-body s (h .until .head)
+      (then-first _ _ (first-of (formAt s) (heldStride (heldSamples s)) (countIn s) firstField n p (record { j = k; below = next-counted s k h; before = λ i l. trace-fine s i (h .until .before i l); here = e }))))
+
+  from-end : {n : ℕ} {p : Place} (t : ℕ) → Between 1 4 code → EndNext s t → endCauses s t (tracePlace s t) ≡ Refused n p → writeCauses s code room ≡ Refused n p
+  from-end t g h e = from-form g (form-body s (h .until .head) (body-end s t h e))
+
+  -- The samples of trace k of a valid record, by whether they fit.
+  fit-tests : (t k : ℕ) → Between 1 4 code → RecordRight s t → k < t → (j : ℕ) → j < heldSamples s
+      → Tests (Fits s code k j) 14 (pairPlace s k j) (fitCause s code (pairPlace s k j))
+  fit-tests t k g h l j m =
+      test-fit s code (pairPlace s k j) (and-both (leb 1 code) _ (le-leb 1 code (g .0)) (le-leb code 4 (g .1)))
+      (h .end .until .before k l .pairs j m)
+
+  trace-fits : (t k : ℕ) → Between 1 4 code → RecordRight s t → k < t → ((j : ℕ) → j < heldSamples s → Fits s code k j)
+      → traceFit s code (heldSamples s) (tracePlace s k) ≡ Fine
+  unfolding traceFit
+  trace-fits t k g h l f =
+      walk-fine (Fits s code k) 14 (fitCause s code) pairLength (heldSamples s) (tracePlace s k + 186) (pairPlace s k) (fit-tests t k g h l) f
+
+  fits-trace : (t k : ℕ) → Between 1 4 code → RecordRight s t → k < t → traceFit s code (heldSamples s) (tracePlace s k) ≡ Fine
+      → (j : ℕ) → j < heldSamples s → Fits s code k j
+  unfolding traceFit
+  fits-trace t k g h l e =
+      walk-holds (Fits s code k) 14 (fitCause s code) pairLength (heldSamples s) (tracePlace s k + 186) (pairPlace s k) (fit-tests t k g h l) e
+
+  -- The checks of 14 over t traces.
+  abbrev fitsOver : ℕ → Check
+  fitsOver t = fitCauses s code (heldSamples s) t
+
+  -- Where every sample of a valid record fits, 14 finds nothing.
+  all-fit : (t : ℕ) → Between 1 4 code → RecordRight s t → ((k j : ℕ) → k < t → j < heldSamples s → Fits s code k j) → fitsOver t ≡ Fine
+  unfolding fitCauses
+  all-fit t g h f =
+      none-of (traceFit s code (heldSamples s)) (heldStride (heldSamples s)) t firstField (λ k l. trace-fits t k g h l (λ j m. f k j l m))
+
+  fit-all : (t : ℕ) → Between 1 4 code → RecordRight s t → fitsOver t ≡ Fine → (k j : ℕ) → k < t → j < heldSamples s → Fits s code k j
+  unfolding fitCauses
+  fit-all t g h e k j l m =
+      fits-trace t k g h l (none-is (traceFit s code (heldSamples s)) (heldStride (heldSamples s)) t firstField e k l) j m
+
+  from-fits : {x : Check} (t : ℕ) → Between 1 4 code → RecordRight s t → fitsOver t ≡ x → targetCauses s code ≡ x
+  unfolding targetCauses
+  from-fits t g h e =
+      then-second _ _ (fine-where (test-between 1 4 code 11 0) g)
+      (then-second _ _ (record-fine s t h) (ap fitsOver (end-counted s t (h .end)) ∙ e))
+
+  from-unfit : (t k j : ℕ) → Between 1 4 code → RecordRight s t → k < t → j < heldSamples s
+      → ((h i : ℕ) → h < k → i < heldSamples s → Fits s code h i) → ((i : ℕ) → i < j → Fits s code k i) → ¬ (Fits s code k j)
+      → fitsOver t ≡ Refused 14 (atPlace (pairPlace s k j))
+  unfolding fitCauses traceFit
+  from-unfit t k j g h l m f b n =
+      let size = heldSamples s in
+      first-of (traceFit s code size) (heldStride size) t firstField 14 (atPlace (pairPlace s k j))
+      (record {
+        j = k;
+        below = l;
+        before = λ i q. trace-fits t i g h (omega arith) (λ y z. f i y q z);
+        here = walk-refused (Fits s code k) 14 (fitCause s code) pairLength size (tracePlace s k + 186) (pairPlace s k) (fit-tests t k g h l) j m b n;
+      })
+
+  -- Where tag 03's two numbers or a later part of trace k is refused, all before it in the trace is right.
+  from-row : {n : ℕ} {p : Place} → WriteRow s code room n p → writeCauses s code room ≡ Refused n p
+  unfolding targetCauses cardsCauses binaryCauses traceForm samplesCauses
+  from-row (bad-target h) = then-first (targetCauses s code) _ (then-first _ _ (refused-where (test-between 1 4 code 11 0) h))
+  from-row (no-cards g h) = from-cards g (then-first (fieldCause s 1 3200 0) _ (refused-where (test-field s 1 3200 0) h))
+  from-row (bad-card j g c l b z) =
+      from-cards g
+      (then-second _ _ (fine-where (test-field s 1 3200 0) c)
+      (walk-refused (λ i. ¬ (getD s (3 + i) 0 ≡ 0)) 13 (cardCause s) 1 3200 3 (λ i. 3 + i) (card-tests s) j l b (λ n. n z)))
+  from-row (no-binary g c h) = from-binary g c (then-first (fieldCause s 2 60 3203) _ (refused-where (test-field s 2 60 3203) h))
+  from-row (bad-interval g c f h) =
+      from-binary g c
+      (then-second _ _ (fine-where (test-field s 2 60 3203) f)
+      (then-first _ _ (refused-where (test-between 1 mostInterval (heldInterval s) 13 3222) h)))
+  from-row (bad-samples g c f i h) =
+      from-binary g c
+      (then-second _ _ (fine-where (test-field s 2 60 3203) f)
+      (then-second _ _ (fine-where (test-between 1 mostInterval (heldInterval s) 13 3222) i)
+      (then-first _ _ (refused-where (test-between 1 mostSamples (heldSamples s) 13 3226) h))))
+  from-row (bad-code g c f i m h) =
+      from-binary g c
+      (then-second _ _ (fine-where (test-field s 2 60 3203) f)
+      (then-second _ _ (fine-where (test-between 1 mostInterval (heldInterval s) 13 3222) i)
+      (then-second _ _ (fine-where (test-between 1 mostSamples (heldSamples s) 13 3226) m)
+      (then-first _ _ (refused-where (test-same (heldCode s) 0 13 3230) h)))))
+  from-row (no-header k g t h) = from-trace k g t (then-first _ _ (refused-where (test-field s 3 180 (tracePlace s k)) h))
+  from-row (bad-115 k g t f h) =
+      from-trace k g t
+      (then-second _ _ (fine-where (test-field s 3 180 (tracePlace s k)) f)
+      (then-first _ _ (refused-where (test-same (word s (tracePlace s k + 117)) (heldSamples s) 13 (tracePlace s k + 117)) h)))
+  from-row (bad-117 k g t f c h) =
+      from-trace k g t
+      (then-second _ _ (fine-where (test-field s 3 180 (tracePlace s k)) f)
+      (then-second _ _ (fine-where (test-same (word s (tracePlace s k + 117)) (heldSamples s) 13 (tracePlace s k + 117)) c)
+      (then-first _ _ (refused-where (test-same (word s (tracePlace s k + 119)) (heldInterval s) 13 (tracePlace s k + 119)) h))))
+  from-row (no-samples k g t f c i h) =
+      from-trace k g t
+      (then-second _ _ (fine-where (test-field s 3 180 (tracePlace s k)) f)
+      (then-second _ _ (fine-where (test-same (word s (tracePlace s k + 117)) (heldSamples s) 13 (tracePlace s k + 117)) c)
+      (then-second _ _ (fine-where (test-same (word s (tracePlace s k + 119)) (heldInterval s) 13 (tracePlace s k + 119)) i)
+      (then-first _ _ (refused-where (test-field s 4 (6 * heldSamples s) (tracePlace s k + 183)) h)))))
+  from-row (bad-pair k j g t f c i d l b h) =
+      from-trace k g t
+      (then-second _ _ (fine-where (test-field s 3 180 (tracePlace s k)) f)
+      (then-second _ _ (fine-where (test-same (word s (tracePlace s k + 117)) (heldSamples s) 13 (tracePlace s k + 117)) c)
+      (then-second _ _ (fine-where (test-same (word s (tracePlace s k + 119)) (heldInterval s) 13 (tracePlace s k + 119)) i)
+      (then-second _ _ (fine-where (test-field s 4 (6 * heldSamples s) (tracePlace s k + 183)) d)
+      (walk-refused (λ y. CanonicalAt s (pairPlace s k y)) 13 (pairCause s) pairLength (heldSamples s) (tracePlace s k + 183 + 3) (pairPlace s k) (pair-tests s k) j l b h)))))
+  from-row (no-end t g e h) = from-end t g e (then-first _ _ (refused-where (test-field s 5 4 (tracePlace s t)) h))
+  from-row (bad-count t g e f h) =
+      from-end t g e
+      (then-second _ _ (fine-where (test-field s 5 4 (tracePlace s t)) f)
+      (then-first _ _ (refused-where (test-same (number (bytesAt s (tracePlace s t + 3) 4)) t 12 (tracePlace s t)) h)))
+  from-row (after t g e f c h) =
+      from-end t g e
+      (then-second _ _ (fine-where (test-field s 5 4 (tracePlace s t)) f)
+      (then-second _ _ (fine-where (test-same (number (bytesAt s (tracePlace s t + 3) 4)) t 12 (tracePlace s t)) c)
+      (then-first _ _ (ap (λ (b : Bool). refuseIf b 12 (tracePlace s t + 7)) (lt-ltb (tracePlace s t + 7) (length s) h)))))
+  from-row (unfit t k j g h l m f b n) =
+      then-first (targetCauses s code) _ (from-fits t g h (from-unfit t k j g h l m f b n))
+  from-row (short t g h f l) =
+      let size = reelLength code t (heldSamples s) in
+      then-second _ _ (from-fits t g h (all-fit t g h f))
+      (ap (λ (x : ℕ). refuseIf (ltb room (reelLength code x (heldSamples s))) 10 (reelLength code x (heldSamples s))) (end-counted s t (h .end))
+      ∙ ap (λ (b : Bool). refuseIf b 10 size) (lt-ltb room size l))
