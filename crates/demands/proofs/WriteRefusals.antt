@@ -629,7 +629,7 @@ module _ (s : List ℕ) (code room : ℕ) where
         here = walk-refused (Fits s code k) 14 (fitCause s code) pairLength size (tracePlace s k + 186) (pairPlace s k) (fit-tests t k g h l) j m b n;
       })
 
-  -- Where tag 03's two numbers or a later part of trace k is refused, all before it in the trace is right.
+  -- Each row is the answer where it applies: all that comes before it finds nothing, and its own test refuses.
   from-row : {n : ℕ} {p : Place} → WriteRow s code room n p → writeCauses s code room ≡ Refused n p
   unfolding targetCauses cardsCauses binaryCauses traceForm samplesCauses
   from-row (bad-target h) = then-first (targetCauses s code) _ (then-first _ _ (refused-where (test-between 1 4 code 11 0) h))
@@ -694,3 +694,139 @@ module _ (s : List ℕ) (code room : ℕ) where
       then-second _ _ (from-fits t g h (all-fit t g h f))
       (ap (λ (x : ℕ). refuseIf (ltb room (reelLength code x (heldSamples s))) 10 (reelLength code x (heldSamples s))) (end-counted s t (h .end))
       ∙ ap (λ (b : Bool). refuseIf b 10 size) (lt-ltb room size l))
+
+-- ## From the causes to the rows
+
+-- A number that is not other than 0 is 0.
+not-other : (x : ℕ) → ¬ (¬ (x ≡ 0)) → x ≡ 0
+not-other zero h = refl
+not-other (suc x) h = absurd (h (λ e. absurd (let z : suc x ≡ 0 = e in omega arith)))
+
+-- A length that is not enough is shorter.
+not-enough : (room size : ℕ) → ¬ (size ≤ room) → room < size
+not-enough room size h = ⊎-elim (λ p. absurd (h p)) (λ p. p) (either (ltb room size) refl)
+  where
+    either : (b : Bool) → ltb room size ≡ b → (size ≤ room) ⊎ (room < size)
+    either true e = inr (ltb-true room size e)
+    either false e = inl (ltb-false room size e)
+
+module _ (s : List ℕ) (code room : ℕ) {n : ℕ} {p : Place} (g : Between 1 4 code) where
+  to-cards : cardsCauses s ≡ Refused n p → WriteRow s code room n p
+  unfolding cardsCauses
+  to-cards =
+      then-row (WriteRow s code room) (fieldCause s 1 3200 0) _ (row-where (test-field s 1 3200 0) (WriteRow s code room) (no-cards g))
+      (λ e. walk-row (λ j. ¬ (getD s (3 + j) 0 ≡ 0)) 13 (cardCause s) 1 3200 3 (λ j. 3 + j) (card-tests s) (WriteRow s code room)
+      (λ j l b h. bad-card j g (holds-where (test-field s 1 3200 0) e) l b (not-other (getD s (3 + j) 0) h)))
+
+  to-binary : CardsRight s → binaryCauses s ≡ Refused n p → WriteRow s code room n p
+  unfolding binaryCauses
+  to-binary c =
+      let i = test-between 1 mostInterval (heldInterval s) 13 3222 in
+      let m = test-between 1 mostSamples (heldSamples s) 13 3226 in
+      let z = test-same (heldCode s) 0 13 3230 in
+      let f = test-field s 2 60 3203 in
+      then-row (WriteRow s code room) (fieldCause s 2 60 3203) _ (row-where f (WriteRow s code room) (no-binary g c))
+      (λ e. let field = holds-where f e in
+      then-row (WriteRow s code room) (refuseIf (not (within 1 mostInterval (heldInterval s))) 13 3222) _ (row-where i (WriteRow s code room) (bad-interval g c field))
+      (λ q. let interval = holds-where i q in
+      then-row (WriteRow s code room) (refuseIf (not (within 1 mostSamples (heldSamples s))) 13 3226) _ (row-where m (WriteRow s code room) (bad-samples g c field interval))
+      (λ r. then-row (WriteRow s code room) (refuseIf (not (eqb (heldCode s) 0)) 13 3230) _ (row-where z (WriteRow s code room) (bad-code g c field interval (holds-where m r)))
+      (λ x y. absurd (not-fine (sym y))))))
+
+  to-trace : (k : ℕ) → TraceNext s k → formAt s (tracePlace s k) ≡ Refused n p → WriteRow s code room n p
+  unfolding traceForm samplesCauses
+  to-trace k t =
+      let at = tracePlace s k in
+      let size = heldSamples s in
+      let f = test-field s 3 180 at in
+      let c = test-same (word s (at + 117)) size 13 (at + 117) in
+      let i = test-same (word s (at + 119)) (heldInterval s) 13 (at + 119) in
+      let d = test-field s 4 (6 * size) (at + 183) in
+      then-row (WriteRow s code room) (fieldCause s 3 180 at) _ (row-where f (WriteRow s code room) (no-header k g t))
+      (λ e. let header = holds-where f e in
+      then-row (WriteRow s code room) (refuseIf (not (eqb (word s (at + 117)) size)) 13 (at + 117)) _ (row-where c (WriteRow s code room) (bad-115 k g t header))
+      (λ q. let count = holds-where c q in
+      then-row (WriteRow s code room) (refuseIf (not (eqb (word s (at + 119)) (heldInterval s))) 13 (at + 119)) _ (row-where i (WriteRow s code room) (bad-117 k g t header count))
+      (λ r. let interval = holds-where i r in
+      then-row (WriteRow s code room) (fieldCause s 4 (6 * size) (at + 183)) _ (row-where d (WriteRow s code room) (no-samples k g t header count interval))
+      (λ x. walk-row (λ j. CanonicalAt s (pairPlace s k j)) 13 (pairCause s) pairLength size (at + 183 + 3) (pairPlace s k) (pair-tests s k) (WriteRow s code room)
+      (λ j l b h. bad-pair k j g t header count interval (holds-where d x) l b h)))))
+
+  to-end : (t : ℕ) → EndNext s t → endCauses s t (tracePlace s t) ≡ Refused n p → WriteRow s code room n p
+  to-end t h =
+      let at = tracePlace s t in
+      let f = test-field s 5 4 at in
+      let c = test-same (number (bytesAt s (at + 3) 4)) t 12 at in
+      let l = test-room (at + 7) (length s) 12 (at + 7) in
+      then-row (WriteRow s code room) (fieldCause s 5 4 at) _ (row-where f (WriteRow s code room) (no-end t g h))
+      (λ e. let field = holds-where f e in
+      then-row (WriteRow s code room) (refuseIf (not (eqb (number (bytesAt s (at + 3) 4)) t)) 12 at) _ (row-where c (WriteRow s code room) (bad-count t g h field))
+      (λ q. then-row (WriteRow s code room) (refuseIf (ltb (at + 7) (length s)) 12 (at + 7)) _ (row-where l (WriteRow s code room) (λ m. after t g h field (holds-where c q) (not-enough (at + 7) (length s) m)))
+      (λ x y. absurd (not-fine (sym y)))))
+
+  to-body : HeadRight s → bodyCauses s (heldSamples s) (heldInterval s) (countIn s) ≡ Refused n p → WriteRow s code room n p
+  unfolding bodyCauses
+  to-body h =
+      let w = heldStride (heldSamples s) in
+      then-row (WriteRow s code room) (firstOf (walk (formAt s) w (countIn s) firstField)) _
+      (λ e. let r = first-is (formAt s) w (countIn s) firstField n p e in
+      to-trace (r .j) (trace-next s h (r .j) (r .below) (r .before)) (r .here))
+      (λ e. to-end (countIn s) (end-next s h e))
+
+  to-form : formCauses s ≡ Refused n p → WriteRow s code room n p
+  unfolding formCauses
+  to-form =
+      then-row (WriteRow s code room) (cardsCauses s) _ to-cards
+      (λ e. let c = cards-right s e in
+      then-row (WriteRow s code room) (binaryCauses s) _ (to-binary c) (λ q. to-body (head-right s c q)))
+
+  to-fits : (t : ℕ) → RecordRight s t → fitsOver s code room t ≡ Refused n p → WriteRow s code room n p
+  unfolding fitCauses traceFit
+  to-fits t h e =
+      let size = heldSamples s in
+      let r = first-is (traceFit s code size) (heldStride size) t firstField n p e in
+      let k = r .j in
+      let l : k < t = r .below in
+      walk-row (Fits s code k) 14 (fitCause s code) pairLength size (tracePlace s k + 186) (pairPlace s k) (fit-tests s code room t k g h l) (WriteRow s code room)
+      (λ j m b x. unfit t k j g h l m (λ y z u v. fits-trace s code room t y g h (omega arith) (r .before y u) z v) b x) (r .here)
+
+module _ (s : List ℕ) (code room : ℕ) where
+  to-row : {n : ℕ} {p : Place} → writeCauses s code room ≡ Refused n p → WriteRow s code room n p
+  unfolding targetCauses
+  to-row {n} {p} =
+      let row = WriteRow s code room in
+      let target = test-between 1 4 code 11 0 in
+      let size = reelLength code (countIn s) (heldSamples s) in
+      then-row row (targetCauses s code) _
+      (then-row row (refuseIf (not (isCode code)) 11 0) _ (row-where target row bad-target)
+      (λ e. let g = holds-where target e in
+      then-row row (formCauses s) _ (to-form s code room g) (λ q. to-fits s code room g (countIn s) (record-right s q))))
+      (λ e. let a = then-fine (refuseIf (not (isCode code)) 11 0) _ e in
+      let b = then-fine (formCauses s) _ (a .1) in
+      let g = holds-where target (a .0) in
+      let h = record-right s (b .0) in
+      row-where (test-room room size 10 size) row (λ m. short (countIn s) g h (fit-all s code room (countIn s) g h (b .1)) (not-enough room size m)))
+
+-- THEOREM. Writing is refused by a number, with what stands beside it, exactly when that row of the table applies.
+pub exact-writing : (s : List ℕ) (code room number : ℕ) (place : Place) → Iff (writeCauses s code room ≡ Refused number place) (WriteRow s code room number place)
+exact-writing s code room number place = (to-row s code room, from-row s code room)
+
+-- THEOREM. Writing has no cause against it exactly when no row of the table applies.
+pub no-writing-cause : (s : List ℕ) (code room : ℕ) → Iff (writeCauses s code room ≡ Fine) ((number : ℕ) (place : Place) → ¬ (WriteRow s code room number place))
+no-writing-cause s code room = (none, fine (writeCauses s code room) refl)
+  where
+    none : writeCauses s code room ≡ Fine → (number : ℕ) (place : Place) → ¬ (WriteRow s code room number place)
+    none e number place r = not-fine (sym (from-row s code room r) ∙ e)
+
+    fine : (c : Check) → writeCauses s code room ≡ c → ((number : ℕ) (place : Place) → ¬ (WriteRow s code room number place)) → writeCauses s code room ≡ Fine
+    fine Fine e h = e
+    fine (Refused number place) e h = absurd (h number place (to-row s code room e))
+
+-- THEOREM. Where 100,000 traces stand and are right, and trace 100,001 follows them, writing is refused by 12 at the place of its tag.
+pub trace-beyond : (s : List ℕ) (code room : ℕ) → Between 1 4 code → RightUntil s 100000 → getD s (tracePlace s 100000) 0 ≡ 3
+    → writeCauses s code room ≡ Refused 12 (atPlace (tracePlace s 100000))
+trace-beyond s code room g h tag =
+    from-row s code room (no-end 100000 g (record { until = h; few = omega arith; end = inl refl }) (λ f. other (f .tag-is)))
+  where
+    other : getD s (tracePlace s 100000) 0 ≡ 5 → ⊥
+    other e = let z : _≡_ {A = ℕ} 3 5 = sym tag ∙ e in omega arith
