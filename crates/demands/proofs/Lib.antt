@@ -3,4 +3,5 @@ pub mod Valid
 pub mod Again
 pub mod ProperLaws
 pub mod Fitting
+pub mod WrittenSize
 pub mod WriteRefusals
