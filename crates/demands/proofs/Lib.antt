@@ -4,4 +4,5 @@ pub mod Again
 pub mod ProperLaws
 pub mod Fitting
 pub mod WrittenSize
+pub mod TestLaws
 pub mod WriteRefusals
