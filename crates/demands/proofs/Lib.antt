@@ -6,3 +6,4 @@ pub mod Fitting
 pub mod WrittenSize
 pub mod TestLaws
 pub mod WriteRefusals
+pub mod Demand1
