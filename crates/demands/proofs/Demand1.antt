@@ -10,9 +10,9 @@ use mathlib.Core.Path.{_≡_, refl, sym, ap, _∙_, subst}
 use mathlib.Core.List.{List, [], _∷_, _++_}
 use mathlib.Core.Logic.{inl, inr}
 use mathlib.Core.Bool.{Bool, true, false, not}
-use Prim.Native.Nat.{ℕ, zero, suc, _+_, _-_, _*_, _≤_, _<_}
+use Prim.Native.Nat.{ℕ, _+_, _-_, _*_, _^_, _≤_, _<_}
 use native.Mathlib.Omega.{arith}
-use borrow.Author.Tests.{lt-ltb, eq-eqb, ne-eqb, eqb-true, eqb-false, not-true}
+use borrow.Author.Tests.{lt-ltb, le-leb, eq-eqb, ne-eqb, eqb-true, eqb-false, not-true}
 use lib.Dec.{T, leb, ltb, eqb}
 use lib.ListN.{length, getD, drop, length-append, length-drop}
 use lib.Seq.{drop-at}
@@ -28,10 +28,10 @@ use Rattle.numbers.specs.declared.Check.the-variants.{Fine, Refused}
 use Rattle.numbers.proofs.WalkLaws.{All}
 use Rattle.numbers.proofs.ByteLaws.{Bytes}
 use Rattle.numbers.proofs.CauseLaws.{not-fine, then-fine, at-most}
-use Rattle.sample.specs.Value.{exactValue}
+use Rattle.sample.specs.Value.{denominatorPower, exactValue}
 use Rattle.sample.specs.Pair.{valueOf, pairOf, isCanonical}
 use Rattle.sample.specs.Reading.{isCode, badGain, pairTaken, readWord}
-use Rattle.sample.specs.Writing.{wordOf, writePair}
+use Rattle.sample.specs.Writing.{first, ibmFits, ibmAt, ibmWord, holds, wholeWord, gainFits, gainAt, gainWord, wordOf, writePair}
 use Rattle.sample.specs.Calls.{pairIn}
 use Rattle.sample.specs.Calls as calls
 use Rattle.sample.specs.declared.Sample.{Sample}
@@ -381,3 +381,102 @@ module _ (code : ℕ) (w : List ℕ) where
       go : (r : Sample) → calls.readSaid r .said ≡ refused number place → calls.readSaid r .bytes ≡ 0 ∷ 0 ∷ 0 ∷ 0 ∷ 0 ∷ 0 ∷ []
       go (sample.Taken x m) e = absurd (not-taken (sym e))
       go (sample.Refused n) e = refl
+
+-- Where there is no word, the number is 14.
+abbrev Fourteen : Written → Type 0
+Fourteen (written.Word n) = Unit {0}
+Fourteen (written.Refused number) = number ≡ 14
+
+-- A word or 14, by a truth value.
+or-14 : (b : Bool) (n : ℕ) → Fourteen (pick b (written.Word n) (written.Refused 14))
+or-14 true n = tt
+or-14 false n = refl
+
+-- A choice between two such answers is such an answer.
+either-14 : (b : Bool) (x y : Written) → Fourteen x → Fourteen y → Fourteen (pick b x y)
+either-14 true x y p q = p
+either-14 false x y p q = q
+
+-- Under every code.
+only-14 : (code : ℕ) (v : ℤ) → Fourteen (wordOf code v)
+only-14 code v =
+    either-14 (eqb code 1) (ibmWord v) _ (ibm (first (ibmFits v) 128 0))
+    (either-14 (eqb code 2) (wholeWord 32 1 v) _ (or-14 (holds 32 (2 ^ denominatorPower) v) _)
+    (either-14 (eqb code 3) (wholeWord 16 (2 ^ 16) v) (gainWord v) (or-14 (holds 16 (2 ^ denominatorPower) v) _) (gain (first (gainFits v) 256 0))))
+  where
+    ibm : (c : ℕ) → Fourteen (ibmAt v c)
+    ibm c = or-14 (ltb c 128) _
+
+    gain : (g : ℕ) → Fourteen (gainAt v g)
+    gain g = or-14 (ltb g 256) _
+
+module _ (code : ℕ) (b : List ℕ) where
+  -- The checks of a single pair.
+  pairChecks : Check
+  pairChecks =
+      then (refuseIf (not (isCode code)) 11 0)
+      (then (refuseIf (not (isCanonical (pairIn b))) 13 0) (refuseIf (isUnfit (wordOf code (valueOf (pairIn b)))) 14 0))
+
+  pair-says : calls.writeOutcome code b .said ≡ says pairChecks
+  unfolding pairChecks says
+  pair-says = go (isCode code) (isCanonical (pairIn b)) (wordOf code (valueOf (pairIn b))) (only-14 code (valueOf (pairIn b)))
+    where
+      go : (a c : Bool) (r : Written) → Fourteen r → calls.writeSaid (pick a (pick c r (written.Refused 13)) (written.Refused 11)) .said
+          ≡ says (then (refuseIf (not a) 11 0) (then (refuseIf (not c) 13 0) (refuseIf (isUnfit r) 14 0)))
+      go true true (written.Word n) h = refl
+      go true true (written.Refused n) h = ap (λ (x : ℕ). refused x 0) h
+      go true false r h = refl
+      go false c r h = refl
+
+  -- A canonical pair has no word just where no word of the code has its value.
+  unfit-is : Between 1 4 code → isCanonical (pairIn b) ≡ true → Iff (isUnfit (wordOf code (valueOf (pairIn b))) ≡ false) (HasWord code (valueOf (pairIn b)))
+  unfit-is g c =
+      fits-is code (valueOf (pairIn b)) (and-both (leb 1 code) _ (le-leb 1 code (g .0)) (le-leb code 4 (g .1)))
+      (ap isCanonical (value-pair-back (pairIn b) c) ∙ c)
+
+  -- Its causes are the rows.
+  pair-exact : (number place : ℕ) → Iff (pairChecks ≡ Refused number (atPlace place)) (PairRow code b number place)
+  unfolding pairChecks
+  pair-exact number place = (there, back)
+    where
+      there : pairChecks ≡ Refused number (atPlace place) → PairRow code b number place
+      there =
+          let row : ℕ → Place → Type 0 = λ n p. PairRow code b n (placeNo p) in
+          let canonical = test-by (isCanonical (pairIn b) ≡ true) (isCanonical (pairIn b)) 13 0 (λ e. e) (λ e. e) in
+          then-row row (refuseIf (not (isCode code)) 11 0) _ (row-where (test-between 1 4 code 11 0) row bad-target)
+          (λ e. let g = holds-where (test-between 1 4 code 11 0) e in
+          then-row row (refuseIf (not (isCanonical (pairIn b))) 13 0) _ (row-where canonical row (bad-pair g))
+          (λ q. let c = holds-where canonical q in
+          row-where (test-flag (isUnfit (wordOf code (valueOf (pairIn b)))) 14 0) row (λ m. unfit g c (λ h. m (unfit-is g c .1 h)))))
+
+      back : {number place : ℕ} → PairRow code b number place → pairChecks ≡ Refused number (atPlace place)
+      back (bad-target h) = then-first _ _ (refused-where (test-between 1 4 code 11 0) h)
+      back (bad-pair g h) =
+          let canonical = test-by (isCanonical (pairIn b) ≡ true) (isCanonical (pairIn b)) 13 0 (λ e. e) (λ e. e) in
+          then-second _ _ (fine-where (test-between 1 4 code 11 0) g) (then-first _ _ (refused-where canonical h))
+      back (unfit g c h) =
+          let canonical = test-by (isCanonical (pairIn b) ≡ true) (isCanonical (pairIn b)) 13 0 (λ e. e) (λ e. e) in
+          then-second _ _ (fine-where (test-between 1 4 code 11 0) g)
+          (then-second _ _ (fine-where canonical c)
+          (refused-where (test-flag (isUnfit (wordOf code (valueOf (pairIn b)))) 14 0) (λ e. h (unfit-is g c .0 e))))
+
+  -- THEOREM. "A single pair is refused by 11, 13, 14; the place is 0": exactly when that row applies.
+  pub pair-refused : (number place : ℕ) → Iff (calls.writeOutcome code b .said ≡ refused number place) (PairRow code b number place)
+  unfolding says
+  pair-refused number place =
+      both (λ e. sym pair-says ∙ e, λ e. pair-says ∙ e) (both (says-refused says [] refl (λ n p. refl) pairChecks number place) (pair-exact number place))
+
+  -- THEOREM. And it is taken exactly when no row applies. Rules out a call that declines every pair.
+  pub pair-taken : Iff (calls.writeOutcome code b .said ≡ taken []) ((number place : ℕ) → ¬ (PairRow code b number place))
+  unfolding says
+  pair-taken =
+      both (λ e. sym pair-says ∙ e, λ e. pair-says ∙ e)
+      (both (says-taken says [] refl (λ n p. refl) pairChecks) (fine-none (PairRow code b) pairChecks pair-exact))
+
+  -- THEOREM. Beside a refusal the four bytes handed out are all 00.
+  pub pair-zero : (number place : ℕ) → calls.writeOutcome code b .said ≡ refused number place → calls.writeOutcome code b .bytes ≡ 0 ∷ 0 ∷ 0 ∷ 0 ∷ []
+  pair-zero number place e = go (writePair code (pairIn b)) e
+    where
+      go : (r : Written) → calls.writeSaid r .said ≡ refused number place → calls.writeSaid r .bytes ≡ 0 ∷ 0 ∷ 0 ∷ 0 ∷ []
+      go (written.Word n) e = absurd (not-taken (sym e))
+      go (written.Refused n) e = refl
