@@ -10,16 +10,16 @@ use mathlib.Core.Path.{_≡_, refl, sym, ap, _∙_, subst}
 use mathlib.Core.List.{List, [], _∷_, _++_}
 use mathlib.Core.Logic.{inl, inr}
 use mathlib.Core.Bool.{Bool, true, false, not}
-use Prim.Native.Nat.{ℕ, _+_, _-_, _*_, _^_, _≤_, _<_}
+use Prim.Native.Nat.{ℕ, _+_, _*_, _^_, _≤_, _<_}
 use native.Mathlib.Omega.{arith}
 use borrow.Author.Tests.{lt-ltb, le-leb, eq-eqb, ne-eqb, eqb-true, eqb-false, not-true}
-use lib.Dec.{T, leb, ltb, eqb}
+use lib.Dec.{leb, ltb, eqb}
 use lib.ListN.{length, getD, drop, length-append, length-drop}
 use lib.Seq.{drop-at}
 use lib.IntN.{ℤ, pos}
 use Rattle.numbers.specs.Walk.{pick}
 use Rattle.numbers.specs.Cause.{refuseIf, then}
-use Rattle.numbers.specs.Outcome.{Said, taken, refused, Outcome}
+use Rattle.numbers.specs.Outcome.{Said, taken, refused}
 use Rattle.numbers.specs.Places.{placeNo, byteNo}
 use Rattle.numbers.specs.declared.Place.{Place}
 use Rattle.numbers.specs.declared.ByteNo.{ByteNo}
@@ -29,7 +29,7 @@ use Rattle.numbers.proofs.WalkLaws.{All}
 use Rattle.numbers.proofs.ByteLaws.{Bytes}
 use Rattle.numbers.proofs.CauseLaws.{not-fine, then-fine, at-most}
 use Rattle.sample.specs.Value.{denominatorPower, exactValue}
-use Rattle.sample.specs.Pair.{valueOf, pairOf, isCanonical}
+use Rattle.sample.specs.Pair.{valueOf, isCanonical}
 use Rattle.sample.specs.Reading.{isCode, badGain, pairTaken, readWord}
 use Rattle.sample.specs.Writing.{first, ibmFits, ibmAt, ibmWord, holds, wholeWord, gainFits, gainAt, gainWord, wordOf, writePair}
 use Rattle.sample.specs.Calls.{pairIn}
@@ -49,7 +49,7 @@ use Rattle.record.specs.Target.{isUnfit, targetCauses}
 use Rattle.transcribe.specs.Reading.{readCauses, readEnd, readOutcome}
 use Rattle.write_reel.specs.Reel.{reelOf, reelLength}
 use Rattle.write_reel.specs.Writing.{lengthOf, writeCauses, writeEnd, writeOutcome}
-use Rattle.look_up.specs.LookUp.{Found, found, isNone, fieldIn, fieldAt, foundNumber, lookUpCauses, numberSaid, lookUpOutcome}
+use Rattle.look_up.specs.LookUp.{found, isNone, fieldIn, fieldAt, foundNumber, lookUpCauses, numberSaid, lookUpOutcome}
 use Rattle.reel_theorems.proofs.Refusals.{Row, exact-causes, no-cause}
 use Rattle.reel_theorems.proofs.Same.{record-size}
 use Rattle.reel_theorems.proofs.Output.{not-taken}

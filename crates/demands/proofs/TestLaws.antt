@@ -16,7 +16,7 @@ use Rattle.numbers.specs.declared.Check.the-variants.{Fine, Refused}
 use Rattle.numbers.proofs.CauseLaws.{not-fine}
 use Rattle.sample_theorems.proofs.Held.{and-true}
 use Rattle.reel.specs.Causes.{within}
-use Rattle.reel_theorems.proofs.Refusals.{First, first-is, first-of, none-is, none-of}
+use Rattle.reel_theorems.proofs.Refusals.{first-is, first-of, none-is, none-of}
 
 -- ## Terms
 

@@ -3,19 +3,19 @@
 -- The causes against writing a record as a reel, as a table: 11; then the record front to back, each field first by 12, then by 13; then
 -- 14, first sample first; then 10. Each row says in which case it applies, and what stands beside it. Writing is refused by a number with
 -- a place exactly when that row of the table applies, and it has no cause exactly when no row does. Assumes nothing.
-use mathlib.Core.Path.{_≡_, refl, sym, ap, _∙_, subst}
+use mathlib.Core.Path.{_≡_, refl, sym, ap, _∙_}
 use mathlib.Core.List.{List}
 use mathlib.Core.Logic.{_⊎_, inl, inr, ⊎-elim}
-use mathlib.Core.Bool.{Bool, true, false, not, _&&_}
+use mathlib.Core.Bool.{Bool, true, false, not}
 use Prim.Native.Nat.{ℕ, zero, suc, _+_, _-_, _*_, _≤_, _<_}
 use native.Mathlib.Nat.{add-zero, zero-mul, suc-mul, mul-one, not-suc-le-zero}
 use native.Mathlib.Omega.{arith}
-use borrow.Author.Tests.{lt-ltb, le-ltb, le-leb, eq-eqb, ne-eqb, leb-true, ltb-true, ltb-false, eqb-true, eqb-false}
-use lib.Dec.{T, leb, ltb, eqb}
+use borrow.Author.Tests.{lt-ltb, le-leb, eq-eqb, ne-eqb, leb-true, eqb-true, eqb-false}
+use lib.Dec.{leb, ltb, eqb}
 use lib.ListN.{length, getD}
 use Rattle.numbers.specs.Walk.{pick, walk, bytesAt}
 use Rattle.numbers.specs.BigEndian.{number}
-use Rattle.numbers.specs.Cause.{refuseIf, then, firstOf}
+use Rattle.numbers.specs.Cause.{refuseIf, firstOf}
 use Rattle.numbers.specs.declared.Place.{Place}
 use Rattle.numbers.specs.declared.Check.{Check}
 use Rattle.numbers.specs.declared.Check.the-variants.{Fine, Refused}
@@ -26,14 +26,14 @@ use Rattle.sample.specs.Writing.{wordOf}
 use Rattle.sample.specs.Calls.{pairLength, pairIn}
 use Rattle.sample_theorems.proofs.Held.{and-true}
 use Rattle.sample_theorems.proofs.Pairs.{Iff}
-use Rattle.reel.specs.Layout.{cardBytes, word}
+use Rattle.reel.specs.Layout.{word}
 use Rattle.reel.specs.Causes.{mostSamples, mostTraces, mostInterval, within}
-use Rattle.record.specs.Form.{isField, fieldCause, cardCause, cardsCauses, heldInterval, heldSamples, heldCode, numberCauses, binaryCauses, firstField, heldStride, pairCause, samplesCauses, traceForm, tagsFrom, heldTraces, endCauses, bodyCauses, formCauses}
+use Rattle.record.specs.Form.{isField, fieldCause, cardCause, cardsCauses, heldInterval, heldSamples, heldCode, binaryCauses, firstField, heldStride, pairCause, samplesCauses, traceForm, tagsFrom, heldTraces, endCauses, bodyCauses, formCauses}
 use Rattle.record.specs.Held.{heldValue}
 use Rattle.record.specs.Target.{isUnfit, fitCause, traceFit, fitCauses, targetCauses}
 use Rattle.write_reel.specs.Reel.{reelLength}
 use Rattle.write_reel.specs.Writing.{writeCauses}
-use Rattle.reel_theorems.proofs.Refusals.{First, first-is, first-of, none-is, none-of}
+use Rattle.reel_theorems.proofs.Refusals.{first-is, first-of, none-is, none-of}
 use Rattle.demands.proofs.TestLaws.{atPlace, Between, Tests, apart, test-by, fine-where, refused-where, holds-where, row-where, then-row, then-first, then-second, and-both, test-between, test-same, test-room, not-enough, walk-fine, walk-holds, walk-refused, walk-row}
 use Rattle.demands.proofs.Valid.{Stands, CanonicalAt}
 use Rattle.demands.proofs.ProperLaws.{value-held, tags-most}
