@@ -77,11 +77,12 @@ module _ (say : Check → Said) (values : List ℕ) (fine : say Fine ≡ taken v
       there Fine e = absurd (not-taken (sym e ∙ fine))
       there (Refused m q) e = same m number q (sym (row m q) ∙ e)
 
-  -- It says that it took just where they find nothing, and then its values are those set.
+  -- Where it says that it took, they find nothing.
   says-fine : (c : Check) (numbers : List ℕ) → say c ≡ taken numbers → c ≡ Fine
   says-fine Fine numbers e = refl
   says-fine (Refused m q) numbers e = absurd (not-taken (sym (row m q) ∙ e))
 
+  -- So it took, with those values, just where they find nothing.
   says-taken : (c : Check) → Iff (say c ≡ taken values) (c ≡ Fine)
   says-taken c = (says-fine c values, λ e. ap say e ∙ fine)
 
@@ -325,6 +326,7 @@ module _ (code : ℕ) (w : List ℕ) where
   wordChecks : Check
   wordChecks = then (refuseIf (not (isCode code)) 2 0) (refuseIf (badGain code w) 9 0)
 
+  -- What the call says is what they answer.
   word-says : calls.readOutcome code w .said ≡ says wordChecks
   unfolding wordChecks says
   word-says = go (isCode code) (badGain code w)
@@ -339,6 +341,7 @@ module _ (code : ℕ) (w : List ℕ) where
   gain-true : code ≡ 4 → ¬ (getD w 0 0 ≡ 0) → badGain code w ≡ true
   gain-true c h = and-both (eqb code 4) _ (eq-eqb code 4 c) (ap not (ne-eqb (getD w 0 0) 0 h))
 
+  -- And the other way round.
   true-gain : badGain code w ≡ true → (code ≡ 4) × (¬ (getD w 0 0 ≡ 0))
   true-gain e =
       let h = and-true (eqb code 4) _ e in
@@ -417,6 +420,7 @@ module _ (code : ℕ) (b : List ℕ) where
       then (refuseIf (not (isCode code)) 11 0)
       (then (refuseIf (not (isCanonical (pairIn b))) 13 0) (refuseIf (isUnfit (wordOf code (valueOf (pairIn b)))) 14 0))
 
+  -- What the call says is what they answer.
   pair-says : calls.writeOutcome code b .said ≡ says pairChecks
   unfolding pairChecks says
   pair-says = go (isCode code) (isCanonical (pairIn b)) (wordOf code (valueOf (pairIn b))) (only-14 code (valueOf (pairIn b)))

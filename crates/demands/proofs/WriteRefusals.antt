@@ -41,10 +41,11 @@ use Rattle.demands.proofs.Fitting.{HasWord, fits-is}
 
 -- ## The terms of the table
 
--- The place of trace k in a record, counted from 0, and the place of its pair j. Behind the last trace it is the place of tag 05.
+-- The place of trace k in a record, counted from 0; behind the last trace it is the place of tag 05.
 abbrev pub tracePlace : List ℕ → ℕ → ℕ
 tracePlace s k = firstField + k * heldStride (heldSamples s)
 
+-- The place of pair j of trace k, behind tag 03 with its 180 bytes and tag 04 with its length.
 abbrev pub pairPlace : List ℕ → ℕ → ℕ → ℕ
 pairPlace s k j = tracePlace s k + 186 + j * pairLength
 
@@ -99,48 +100,57 @@ Fits s code k j = HasWord code (heldValue s (pairPlace s k j))
 
 -- ## The table
 
--- The rows: number, and what stands beside it. A field is refused by 12 where it doesn't stand whole at its place with its tag and length.
+-- The rows, in document 01's order: in which case each applies, its number, and what stands beside it. Traces k and pairs j are counted from 0.
 pub data WriteRow (s : List ℕ) (code room : ℕ) : ℕ → Place → Type 0 where
-  -- target code not 1 to 4
+  -- 11: the target code is not 1 to 4
   bad-target : ¬ (Between 1 4 code) → WriteRow s code room 11 (atPlace 0)
-  -- tag 01, and a card byte 00
+  -- 12: tag 01 doesn't stand at the front, whole and with its 3,200 bytes
   no-cards : Between 1 4 code → ¬ (Stands s 1 3200 0) → WriteRow s code room 12 (atPlace 0)
+  -- 13: a card byte is 00, the first such
   bad-card : (j : ℕ) → Between 1 4 code → Stands s 1 3200 0 → j < 3200 → ((i : ℕ) → i < j → ¬ (getD s (3 + i) 0 ≡ 0)) → getD s (3 + j) 0 ≡ 0
       → WriteRow s code room 13 (atPlace (3 + j))
-  -- tag 02, and in it the interval, N and the format code
+  -- 12: tag 02 doesn't stand behind it, whole and with its 60 bytes
   no-binary : Between 1 4 code → CardsRight s → ¬ (Stands s 2 60 3203) → WriteRow s code room 12 (atPlace 3203)
+  -- 13: in tag 02, first an interval that is not 1 to 32,767
   bad-interval : Between 1 4 code → CardsRight s → Stands s 2 60 3203 → ¬ (Between 1 32767 (heldInterval s)) → WriteRow s code room 13 (atPlace 3222)
+  -- 13: then N that is not 1 to 8,000
   bad-samples : Between 1 4 code → CardsRight s → Stands s 2 60 3203 → Between 1 32767 (heldInterval s) → ¬ (Between 1 8000 (heldSamples s))
       → WriteRow s code room 13 (atPlace 3226)
+  -- 13: then a format code other than 0
   bad-code : Between 1 4 code → CardsRight s → Stands s 2 60 3203 → Between 1 32767 (heldInterval s) → Between 1 8000 (heldSamples s) → ¬ (heldCode s ≡ 0)
       → WriteRow s code room 13 (atPlace 3230)
-  -- tag 03 of trace k, and in it fields 115 and 117
+  -- 12: tag 03 of trace k is cut short or has a wrong length
   no-header : (k : ℕ) → Between 1 4 code → TraceNext s k → ¬ (Stands s 3 180 (tracePlace s k)) → WriteRow s code room 12 (atPlace (tracePlace s k))
+  -- 13: its field 115 is not N
   bad-115 : (k : ℕ) → Between 1 4 code → TraceNext s k → Stands s 3 180 (tracePlace s k) → ¬ (word s (tracePlace s k + 117) ≡ heldSamples s)
       → WriteRow s code room 13 (atPlace (tracePlace s k + 117))
+  -- 13: its field 117 is not the interval
   bad-117 : (k : ℕ) → Between 1 4 code → TraceNext s k → Stands s 3 180 (tracePlace s k) → word s (tracePlace s k + 117) ≡ heldSamples s
       → ¬ (word s (tracePlace s k + 119) ≡ heldInterval s)
       → WriteRow s code room 13 (atPlace (tracePlace s k + 119))
-  -- tag 04 of trace k, and in it pair j
+  -- 12: tag 04 of trace k doesn't stand behind it, whole and with its 6N bytes
   no-samples : (k : ℕ) → Between 1 4 code → TraceNext s k → Stands s 3 180 (tracePlace s k) → word s (tracePlace s k + 117) ≡ heldSamples s
       → word s (tracePlace s k + 119) ≡ heldInterval s → ¬ (Stands s 4 (6 * heldSamples s) (tracePlace s k + 183))
       → WriteRow s code room 12 (atPlace (tracePlace s k + 183))
+  -- 13: a pair of it isn't canonical, the first such
   bad-pair : (k j : ℕ) → Between 1 4 code → TraceNext s k → Stands s 3 180 (tracePlace s k) → word s (tracePlace s k + 117) ≡ heldSamples s
       → word s (tracePlace s k + 119) ≡ heldInterval s → Stands s 4 (6 * heldSamples s) (tracePlace s k + 183)
       → j < heldSamples s → ((i : ℕ) → i < j → CanonicalAt s (pairPlace s k i)) → ¬ (CanonicalAt s (pairPlace s k j))
       → WriteRow s code room 13 (atPlace (pairPlace s k j))
-  -- tag 05 behind t traces, a wrong count in it, and bytes after it
+  -- 12: tag 05 doesn't stand behind t traces, whole and with its 4 bytes: another tag, trace 100,001, a wrong length, cut short or missing
   no-end : (t : ℕ) → Between 1 4 code → EndNext s t → ¬ (Stands s 5 4 (tracePlace s t)) → WriteRow s code room 12 (atPlace (tracePlace s t))
+  -- 12: the count in tag 05 is not t, at its tag
   bad-count : (t : ℕ) → Between 1 4 code → EndNext s t → Stands s 5 4 (tracePlace s t) → ¬ (number (bytesAt s (tracePlace s t + 3) 4) ≡ t)
       → WriteRow s code room 12 (atPlace (tracePlace s t))
+  -- 12: bytes come after tag 05, at the first of them
   after : (t : ℕ) → Between 1 4 code → EndNext s t → Stands s 5 4 (tracePlace s t) → number (bytesAt s (tracePlace s t + 3) 4) ≡ t
       → tracePlace s t + 7 < length s
       → WriteRow s code room 12 (atPlace (tracePlace s t + 7))
-  -- sample j of trace k doesn't fit the target
+  -- 14: a sample doesn't fit the target, the first such, at its pair
   unfit : (t k j : ℕ) → Between 1 4 code → RecordRight s t → k < t → j < heldSamples s → ((h i : ℕ) → h < k → i < heldSamples s → Fits s code h i)
       → ((i : ℕ) → i < j → Fits s code k i) → ¬ (Fits s code k j)
       → WriteRow s code room 14 (atPlace (pairPlace s k j))
-  -- the output is too short for the reel
+  -- 10: the output is too short for the reel, with the reel's length
   short : (t : ℕ) → Between 1 4 code → RecordRight s t → ((k j : ℕ) → k < t → j < heldSamples s → Fits s code k j)
       → room < reelLength code t (heldSamples s)
       → WriteRow s code room 10 (atPlace (reelLength code t (heldSamples s)))
@@ -193,12 +203,14 @@ module _ (s : List ℕ) where
   card-tests : (j : ℕ) → j < 3200 → Tests (¬ (getD s (3 + j) 0 ≡ 0)) 13 (3 + j) (cardCause s (3 + j * 1))
   card-tests j l = rw (mul-one j) (test-card s (3 + j))
 
+  -- Where tag 01 is right, 12 and 13 find nothing in it.
   cards-fine : CardsRight s → cardsCauses s ≡ Fine
   unfolding cardsCauses
   cards-fine h =
       then-second (fieldCause s 1 3200 0) _ (fine-where (test-field s 1 3200 0) (h .cards))
       (walk-fine (λ j. ¬ (getD s (3 + j) 0 ≡ 0)) 13 (cardCause s) 1 3200 3 (λ j. 3 + j) card-tests (h .card-bytes))
 
+  -- And where they find nothing in it, it is right.
   cards-right : cardsCauses s ≡ Fine → CardsRight s
   unfolding cardsCauses
   cards-right e =
@@ -208,6 +220,7 @@ module _ (s : List ℕ) where
         card-bytes = walk-holds (λ j. ¬ (getD s (3 + j) 0 ≡ 0)) 13 (cardCause s) 1 3200 3 (λ j. 3 + j) card-tests (a .1);
       }
 
+  -- Where tag 02 is right, 12 and 13 find nothing in it.
   head-fine : HeadRight s → binaryCauses s ≡ Fine
   unfolding binaryCauses
   head-fine h =
@@ -216,6 +229,7 @@ module _ (s : List ℕ) where
       (then-second _ _ (fine-where (test-between 1 mostSamples (heldSamples s) 13 3226) (h .samples))
       (then-second _ _ (fine-where (test-same (heldCode s) 0 13 3230) (h .code)) refl)))
 
+  -- And where they find nothing in it, it is right.
   head-right : CardsRight s → binaryCauses s ≡ Fine → HeadRight s
   unfolding binaryCauses
   head-right c e =
@@ -244,6 +258,7 @@ module _ (s : List ℕ) (k : ℕ) where
       let e : tracePlace s k + 183 + 3 + j * pairLength ≡ pairPlace s k j = omega arith in
       rw e (test-pair s (pairPlace s k j))
 
+  -- Where a trace is right, 12 and 13 find nothing in it.
   trace-fine : TraceRight s k → formAt s (tracePlace s k) ≡ Fine
   unfolding traceForm samplesCauses
   trace-fine h =
@@ -253,6 +268,7 @@ module _ (s : List ℕ) (k : ℕ) where
       (then-second _ _ (fine-where (test-field s 4 (6 * heldSamples s) (tracePlace s k + 183)) (h .samples))
       (walk-fine (λ j. CanonicalAt s (pairPlace s k j)) 13 (pairCause s) pairLength (heldSamples s) (tracePlace s k + 183 + 3) (pairPlace s k) pair-tests (h .pairs)))))
 
+  -- And where they find nothing in it, it is right.
   trace-right : formAt s (tracePlace s k) ≡ Fine → TraceRight s k
   unfolding traceForm samplesCauses
   trace-right e =
@@ -398,12 +414,14 @@ module _ (s : List ℕ) where
 
   -- ## The end
 
+  -- At the end of a valid record 12 finds nothing.
   end-fine : (t : ℕ) → RecordRight s t → endCauses s t (tracePlace s t) ≡ Fine
   end-fine t h =
       then-second _ _ (fine-where (test-field s 5 4 (tracePlace s t)) (h .field))
       (then-second _ _ (fine-where (test-same (number (bytesAt s (tracePlace s t + 3) 4)) t 12 (tracePlace s t)) (h .count))
       (then-second _ _ (fine-where (test-room (tracePlace s t + 7) (length s) 12 (tracePlace s t + 7)) (h .last)) refl))
 
+  -- And where it finds nothing at the end, the record is valid.
   end-right : (t : ℕ) → EndNext s t → endCauses s t (tracePlace s t) ≡ Fine → RecordRight s t
   end-right t h e =
       let at = tracePlace s t in
@@ -419,10 +437,12 @@ module _ (s : List ℕ) where
 
   -- ## The whole record
 
+  -- Behind traces that are all right, the answer is that of the end.
   body-end : (t : ℕ) → EndNext s t → {x : Check} → endCauses s t (tracePlace s t) ≡ x → bodyCauses s (heldSamples s) (heldInterval s) (countIn s) ≡ x
   unfolding bodyCauses
   body-end t h e = ap (bodyCauses s (heldSamples s) (heldInterval s)) (end-counted t h) ∙ then-second _ _ (until-fine t (h .until)) e
 
+  -- Behind tags 01 and 02 that are right, the answer is that of the traces and the end.
   form-body : HeadRight s → {x : Check} → bodyCauses s (heldSamples s) (heldInterval s) (countIn s) ≡ x → formCauses s ≡ x
   unfolding formCauses
   form-body h e = then-second _ _ (cards-fine s (h .front)) (then-second _ _ (head-fine s h) e)
@@ -444,19 +464,23 @@ module _ (s : List ℕ) where
 -- ## From the rows to the causes
 
 module _ (s : List ℕ) (code room : ℕ) where
+  -- Under a target code of 1 to 4, what 12 or 13 refuses is refused.
   from-form : {n : ℕ} {p : Place} → Between 1 4 code → formCauses s ≡ Refused n p → writeCauses s code room ≡ Refused n p
   unfolding targetCauses
   from-form g e =
       then-first (targetCauses s code) _ (then-second _ _ (fine-where (test-between 1 4 code 11 0) g) (then-first (formCauses s) _ e))
 
+  -- So for tag 01.
   from-cards : {n : ℕ} {p : Place} → Between 1 4 code → cardsCauses s ≡ Refused n p → writeCauses s code room ≡ Refused n p
   unfolding formCauses
   from-cards g e = from-form g (then-first (cardsCauses s) _ e)
 
+  -- So for tag 02, where tag 01 is right.
   from-binary : {n : ℕ} {p : Place} → Between 1 4 code → CardsRight s → binaryCauses s ≡ Refused n p → writeCauses s code room ≡ Refused n p
   unfolding formCauses
   from-binary g h e = from-form g (then-second _ _ (cards-fine s h) (then-first (binaryCauses s) _ e))
 
+  -- So for trace k, where all is right up to it.
   from-trace : {n : ℕ} {p : Place} (k : ℕ) → Between 1 4 code → TraceNext s k → formAt s (tracePlace s k) ≡ Refused n p → writeCauses s code room ≡ Refused n p
   unfolding bodyCauses
   from-trace {n} {p} k g h e =
@@ -464,6 +488,7 @@ module _ (s : List ℕ) (code room : ℕ) where
       (form-body s (h .until .head)
       (then-first _ _ (first-of (formAt s) (heldStride (heldSamples s)) (countIn s) firstField n p (record { j = k; below = next-counted s k h; before = λ i l. trace-fine s i (h .until .before i l); here = e }))))
 
+  -- So for the end, where all is right up to it.
   from-end : {n : ℕ} {p : Place} (t : ℕ) → Between 1 4 code → EndNext s t → endCauses s t (tracePlace s t) ≡ Refused n p → writeCauses s code room ≡ Refused n p
   from-end t g h e = from-form g (form-body s (h .until .head) (body-end s t h e))
 
@@ -474,12 +499,14 @@ module _ (s : List ℕ) (code room : ℕ) where
       test-fit s code (pairPlace s k j) (and-both (leb 1 code) _ (le-leb 1 code (g .0)) (le-leb code 4 (g .1)))
       (h .end .until .before k l .pairs j m)
 
+  -- Where every sample of a trace fits, 14 finds nothing in it.
   trace-fits : (t k : ℕ) → Between 1 4 code → RecordRight s t → k < t → ((j : ℕ) → j < heldSamples s → Fits s code k j)
       → traceFit s code (heldSamples s) (tracePlace s k) ≡ Fine
   unfolding traceFit
   trace-fits t k g h l f =
       walk-fine (Fits s code k) 14 (fitCause s code) pairLength (heldSamples s) (tracePlace s k + 186) (pairPlace s k) (fit-tests t k g h l) f
 
+  -- And where it finds nothing in it, every sample fits.
   fits-trace : (t k : ℕ) → Between 1 4 code → RecordRight s t → k < t → traceFit s code (heldSamples s) (tracePlace s k) ≡ Fine
       → (j : ℕ) → j < heldSamples s → Fits s code k j
   unfolding traceFit
@@ -496,17 +523,20 @@ module _ (s : List ℕ) (code room : ℕ) where
   all-fit t g h f =
       none-of (traceFit s code (heldSamples s)) (heldStride (heldSamples s)) t firstField (λ k l. trace-fits t k g h l (λ j m. f k j l m))
 
+  -- And where it finds nothing in a valid record, every sample fits.
   fit-all : (t : ℕ) → Between 1 4 code → RecordRight s t → fitsOver t ≡ Fine → (k j : ℕ) → k < t → j < heldSamples s → Fits s code k j
   unfolding fitCauses
   fit-all t g h e k j l m =
       fits-trace t k g h l (none-is (traceFit s code (heldSamples s)) (heldStride (heldSamples s)) t firstField e k l) j m
 
+  -- Of a valid record, the answer before the output's length is that of 14.
   from-fits : {x : Check} (t : ℕ) → Between 1 4 code → RecordRight s t → fitsOver t ≡ x → targetCauses s code ≡ x
   unfolding targetCauses
   from-fits t g h e =
       then-second _ _ (fine-where (test-between 1 4 code 11 0) g)
       (then-second _ _ (record-fine s t h) (ap fitsOver (end-counted s t (h .end)) ∙ e))
 
+  -- The first sample that doesn't fit is refused by 14.
   from-unfit : (t k j : ℕ) → Between 1 4 code → RecordRight s t → k < t → j < heldSamples s
       → ((h i : ℕ) → h < k → i < heldSamples s → Fits s code h i) → ((i : ℕ) → i < j → Fits s code k i) → ¬ (Fits s code k j)
       → fitsOver t ≡ Refused 14 (atPlace (pairPlace s k j))
@@ -595,6 +625,7 @@ not-other zero h = refl
 not-other (suc x) h = absurd (h (λ e. absurd (let z : suc x ≡ 0 = e in omega arith)))
 
 module _ (s : List ℕ) (code room : ℕ) {n : ℕ} {p : Place} (g : Between 1 4 code) where
+  -- What is refused in tag 01 has its row.
   to-cards : cardsCauses s ≡ Refused n p → WriteRow s code room n p
   unfolding cardsCauses
   to-cards =
@@ -602,6 +633,7 @@ module _ (s : List ℕ) (code room : ℕ) {n : ℕ} {p : Place} (g : Between 1 4
       (λ e. walk-row (λ j. ¬ (getD s (3 + j) 0 ≡ 0)) 13 (cardCause s) 1 3200 3 (λ j. 3 + j) (card-tests s) (WriteRow s code room)
       (λ j l b h. bad-card j g (holds-where (test-field s 1 3200 0) e) l b (not-other (getD s (3 + j) 0) h)))
 
+  -- What is refused in tag 02 has its row, where tag 01 is right.
   to-binary : CardsRight s → binaryCauses s ≡ Refused n p → WriteRow s code room n p
   unfolding binaryCauses
   to-binary c =
@@ -617,6 +649,7 @@ module _ (s : List ℕ) (code room : ℕ) {n : ℕ} {p : Place} (g : Between 1 4
       (λ r. then-row (WriteRow s code room) (refuseIf (not (eqb (heldCode s) 0)) 13 3230) _ (row-where z (WriteRow s code room) (bad-code g c field interval (holds-where m r)))
       (λ x y. absurd (not-fine (sym y))))))
 
+  -- What is refused in trace k has its row, where all is right up to it.
   to-trace : (k : ℕ) → TraceNext s k → formAt s (tracePlace s k) ≡ Refused n p → WriteRow s code room n p
   unfolding traceForm samplesCauses
   to-trace k t =
@@ -636,6 +669,7 @@ module _ (s : List ℕ) (code room : ℕ) {n : ℕ} {p : Place} (g : Between 1 4
       (λ x. walk-row (λ j. CanonicalAt s (pairPlace s k j)) 13 (pairCause s) pairLength size (at + 183 + 3) (pairPlace s k) (pair-tests s k) (WriteRow s code room)
       (λ j l b h. bad-pair k j g t header count interval (holds-where d x) l b h)))))
 
+  -- What is refused at the end has its row, where all is right up to it.
   to-end : (t : ℕ) → EndNext s t → endCauses s t (tracePlace s t) ≡ Refused n p → WriteRow s code room n p
   to-end t h =
       let at = tracePlace s t in
@@ -648,6 +682,7 @@ module _ (s : List ℕ) (code room : ℕ) {n : ℕ} {p : Place} (g : Between 1 4
       (λ q. then-row (WriteRow s code room) (refuseIf (ltb (at + 7) (length s)) 12 (at + 7)) _ (row-where l (WriteRow s code room) (λ m. after t g h field (holds-where c q) (not-enough (at + 7) (length s) m)))
       (λ x y. absurd (not-fine (sym y)))))
 
+  -- What is refused behind tags 01 and 02 has its row, where these are right.
   to-body : HeadRight s → bodyCauses s (heldSamples s) (heldInterval s) (countIn s) ≡ Refused n p → WriteRow s code room n p
   unfolding bodyCauses
   to-body h =
@@ -657,6 +692,7 @@ module _ (s : List ℕ) (code room : ℕ) {n : ℕ} {p : Place} (g : Between 1 4
       to-trace (r .j) (trace-next s h (r .j) (r .below) (r .before)) (r .here))
       (λ e. to-end (countIn s) (end-next s h e))
 
+  -- What 12 or 13 refuses has its row.
   to-form : formCauses s ≡ Refused n p → WriteRow s code room n p
   unfolding formCauses
   to-form =
@@ -664,6 +700,7 @@ module _ (s : List ℕ) (code room : ℕ) {n : ℕ} {p : Place} (g : Between 1 4
       (λ e. let c = cards-right s e in
       then-row (WriteRow s code room) (binaryCauses s) _ (to-binary c) (λ q. to-body (head-right s c q)))
 
+  -- What 14 refuses in a valid record has its row.
   to-fits : (t : ℕ) → RecordRight s t → fitsOver s code room t ≡ Refused n p → WriteRow s code room n p
   unfolding fitCauses traceFit
   to-fits t h e =
@@ -675,6 +712,7 @@ module _ (s : List ℕ) (code room : ℕ) {n : ℕ} {p : Place} (g : Between 1 4
       (λ j m b x. unfit t k j g h l m (λ y z u v. fits-trace s code room t y g h (omega arith) (r .before y u) z v) b x) (r .here)
 
 module _ (s : List ℕ) (code room : ℕ) where
+  -- What is refused has its row: the first that applies.
   to-row : {n : ℕ} {p : Place} → writeCauses s code room ≡ Refused n p → WriteRow s code room n p
   unfolding targetCauses
   to-row {n} {p} =

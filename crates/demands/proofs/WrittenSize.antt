@@ -34,11 +34,12 @@ numbers-size (w ∷ ws) (z ∷ zs) e =
     length-append (bytesOf w (bitsOf (8 * w) z)) (numberBytes ws zs)
     ∙ ap₂ (λ (x y : ℕ). x + y) (length-bytes w (bitsOf (8 * w) z)) (numbers-size ws zs (omega arith))
 
--- There are as many binary numbers as binary fields, and as many numbers of a trace as trace fields.
+-- There are as many binary numbers, with the format code, as binary fields.
 binary-count : (s : List ℕ) (code : ℕ) → length binaryWidths ≡ length (withCode code (map (fieldNumber s 6) (otherThan 3225 binaryFields)))
 unfolding binaryFields binaryWidths
 binary-count s code = refl
 
+-- There are as many numbers of a trace as trace fields.
 fields-count : (s : List ℕ) (at : ℕ) → length traceWidths ≡ length (map (fieldNumber s at) traceFields)
 unfolding traceFields traceWidths
 fields-count s at = refl
