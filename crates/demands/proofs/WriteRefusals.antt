@@ -137,7 +137,7 @@ pub data WriteRow (s : List ℕ) (code room : ℕ) : ℕ → Place → Type 0 wh
       → word s (tracePlace s k + 119) ≡ heldInterval s → Stands s 4 (6 * heldSamples s) (tracePlace s k + 183)
       → j < heldSamples s → ((i : ℕ) → i < j → CanonicalAt s (pairPlace s k i)) → ¬ (CanonicalAt s (pairPlace s k j))
       → WriteRow s code room 13 (atPlace (pairPlace s k j))
-  -- 12: tag 05 doesn't stand behind t traces, whole and with its 4 bytes: another tag, trace 100,001, a wrong length, cut short or missing
+  -- 12: tag 05 does not stand behind t traces, whole and with its 4 bytes; another tag, so also that of trace 100,001, may stand there
   no-end : (t : ℕ) → Between 1 4 code → EndNext s t → ¬ (Stands s 5 4 (tracePlace s t)) → WriteRow s code room 12 (atPlace (tracePlace s t))
   -- 12: the count in tag 05 is not t, at its tag
   bad-count : (t : ℕ) → Between 1 4 code → EndNext s t → Stands s 5 4 (tracePlace s t) → ¬ (number (bytesAt s (tracePlace s t + 3) 4) ≡ t)

@@ -30,7 +30,7 @@ not-taken p =
     omega arith
 
 -- a reading that is taken has no cause of 1 to 10
-pub taken-fine : (s out numbers : List ℕ) → readOutcome s out .said ≡ taken numbers → readCauses s (length out) ≡ Fine
+taken-fine : (s out numbers : List ℕ) → readOutcome s out .said ≡ taken numbers → readCauses s (length out) ≡ Fine
 taken-fine s out numbers e = go (readCauses s (length out)) refl e
   where
     go : (c : Check) → readCauses s (length out) ≡ c → readEnd s out c .said ≡ taken numbers → readCauses s (length out) ≡ Fine
@@ -38,11 +38,11 @@ taken-fine s out numbers e = go (readCauses s (length out)) refl e
     go (Refused number place) q e = absurd (not-taken e)
 
 -- the reel of a reading that is taken has no cause of 1 to 9
-pub taken-reel : (s out numbers : List ℕ) → readOutcome s out .said ≡ taken numbers → causesOf s ≡ Fine
+taken-reel : (s out numbers : List ℕ) → readOutcome s out .said ≡ taken numbers → causesOf s ≡ Fine
 taken-reel s out numbers e = then-fine (causesOf s) _ (taken-fine s out numbers e) .0
 
 -- what a reading that is taken says and leaves in its output
-pub taken-outcome : (s out numbers : List ℕ) → readOutcome s out .said ≡ taken numbers → readOutcome s out ≡ readEnd s out Fine
+taken-outcome : (s out numbers : List ℕ) → readOutcome s out .said ≡ taken numbers → readOutcome s out ≡ readEnd s out Fine
 taken-outcome s out numbers e = ap (readEnd s out) (taken-fine s out numbers e)
 
 -- THEOREM. Where the reading of a reel is taken, the numbers returned are T, N and 3273 + T × (186 + 6N).
@@ -51,7 +51,7 @@ pub taken-numbers : (s out numbers : List ℕ) → readOutcome s out .said ≡ t
 taken-numbers s out numbers e = ap (λ (o : Outcome). o .said) (taken-outcome s out numbers e)
 
 -- the length returned is that of the reel's record
-pub taken-length : (s out : List ℕ) (t n l : ℕ) → readOutcome s out .said ≡ taken (t ∷ n ∷ l ∷ []) → lengthOf s ≡ l
+taken-length : (s out : List ℕ) (t n l : ℕ) → readOutcome s out .said ≡ taken (t ∷ n ∷ l ∷ []) → lengthOf s ≡ l
 taken-length s out t n l e =
     let same : taken (tracesOf s ∷ samplesOf s ∷ lengthOf s ∷ []) ≡ taken (t ∷ n ∷ l ∷ []) = sym (taken-numbers s out (t ∷ n ∷ l ∷ []) e) ∙ e in
     cc
