@@ -1,3 +1,4 @@
+-- The theorems that answer the user's three demands, and the laws that they rest on.
 pub mod Proper
 pub mod Valid
 pub mod Again
@@ -7,7 +8,11 @@ pub mod From
 pub mod Headers
 pub mod ReelBack
 pub mod RecordBack
+pub mod WrittenSize
+pub mod TestLaws
 pub mod Taken
+pub mod WriteRefusals
+pub mod Demand1
 pub mod Demand2
-pub mod Determined
 pub mod Demand3
+pub mod Determined

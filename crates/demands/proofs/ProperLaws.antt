@@ -59,7 +59,7 @@ all-both P Q (x ∷ l) p q = ((p .0, q .0), all-both P Q l (p .1) (q .1))
 -- ## What a record holds
 
 -- No more tags are counted than the most.
-tags-most : (most : ℕ) (s : List ℕ) (w at : ℕ) → tagsFrom most s w at ≤ most
+pub tags-most : (most : ℕ) (s : List ℕ) (w at : ℕ) → tagsFrom most s w at ≤ most
 unfolding tagsFrom
 tags-most zero s w at = omega arith
 tags-most (suc most) s w at = go (eqb (getD s at 0) 3) (tags-most most s w (at + w))
@@ -69,7 +69,7 @@ tags-most (suc most) s w at = go (eqb (getD s at 0) 3) (tags-most most s w (at +
     go false h = omega arith
 
 -- A canonical pair's value has a canonical pair.
-value-held : (s : List ℕ) (at : ℕ) → CanonicalAt s at → isCanonical (pairOf (heldValue s at)) ≡ true
+pub value-held : (s : List ℕ) (at : ℕ) → CanonicalAt s at → isCanonical (pairOf (heldValue s at)) ≡ true
 value-held s at c = ap isCanonical (value-pair-back (pairIn (bytesAt s at pairLength)) c) ∙ c
 
 -- The numbers of fields 115 and 117 in a record's trace.

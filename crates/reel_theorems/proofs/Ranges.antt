@@ -30,6 +30,7 @@ fit-append [] us (z ∷ zs) ys p q = absurd p
 fit-append (w ∷ ws) us [] ys p q = absurd p
 fit-append (w ∷ ws) us (z ∷ zs) ys p q = (p .0, p .1, fit-append ws us zs ys (p .2) q)
 
+-- k bytes of a number are k bytes
 pub length-bytes : (k n : ℕ) → length (bytesOf k n) ≡ k
 length-bytes zero n = refl
 length-bytes (suc k) n = ap suc (length-bytes k n)

@@ -39,7 +39,8 @@ at-zero at w = rw (zero-mul, add-zero)
 at-suc : (at w j : ℕ) → at + suc j * w ≡ at + w + j * w
 at-suc at w j = rw suc-mul (omega arith)
 
-first-is : (f : ℕ → Check) (w k at number : ℕ) (place : Place) → firstOf (walk f w k at) ≡ Refused number place → First f w k at number place
+-- where a walk refuses, the first of its checks that refuses is the one that the answer comes from
+pub first-is : (f : ℕ → Check) (w k at number : ℕ) (place : Place) → firstOf (walk f w k at) ≡ Refused number place → First f w k at number place
 first-is f w zero at number place e = absurd (not-fine (sym e))
 first-is f w (suc k) at number place e = go (λ h. first-is f w k (at + w) number place h) (f at) refl e
   where
@@ -60,7 +61,8 @@ first-is f w (suc k) at number place e = go (λ h. first-is f w k (at + w) numbe
     go rest (Refused m p) q e =
         record { j = 0; below = omega arith; before = λ i l. absurd (not-suc-le-zero l); here = ap f (at-zero at w) ∙ q ∙ e }
 
-first-of : (f : ℕ → Check) (w k at number : ℕ) (place : Place) → First f w k at number place → firstOf (walk f w k at) ≡ Refused number place
+-- and the first of the checks that refuses is the answer
+pub first-of : (f : ℕ → Check) (w k at number : ℕ) (place : Place) → First f w k at number place → firstOf (walk f w k at) ≡ Refused number place
 first-of f w k at number place r = go k at (r .j) (r .below) (r .before) (r .here)
   where
     go : (k at j : ℕ) → j < k → ((i : ℕ) → i < j → f (at + i * w) ≡ Fine) → f (at + j * w) ≡ Refused number place → firstOf (walk f w k at) ≡ Refused number place
@@ -71,13 +73,13 @@ first-of f w k at number place r = go k at (r .j) (r .below) (r .before) (r .her
         ∙ go k (at + w) j (omega arith) (λ i m. sym (ap f (at-suc at w i)) ∙ b (suc i) (omega arith)) (sym (ap f (at-suc at w j)) ∙ h)
 
 -- where the first of k checks along a walk refuses nothing, none of them does
-none-is : (f : ℕ → Check) (w k at : ℕ) → firstOf (walk f w k at) ≡ Fine → (j : ℕ) → j < k → f (at + j * w) ≡ Fine
+pub none-is : (f : ℕ → Check) (w k at : ℕ) → firstOf (walk f w k at) ≡ Fine → (j : ℕ) → j < k → f (at + j * w) ≡ Fine
 none-is f w zero at e j l = absurd (not-suc-le-zero l)
 none-is f w (suc k) at e zero l = ap f (at-zero at w) ∙ then-fine (f at) _ e .0
 none-is f w (suc k) at e (suc j) l = ap f (at-suc at w j) ∙ none-is f w k (at + w) (then-fine (f at) _ e .1) j (omega arith)
 
 -- and where none of them does, the first refuses nothing
-none-of : (f : ℕ → Check) (w k at : ℕ) → ((j : ℕ) → j < k → f (at + j * w) ≡ Fine) → firstOf (walk f w k at) ≡ Fine
+pub none-of : (f : ℕ → Check) (w k at : ℕ) → ((j : ℕ) → j < k → f (at + j * w) ≡ Fine) → firstOf (walk f w k at) ≡ Fine
 none-of f w zero at h = refl
 none-of f w (suc k) at h =
     ap (λ c. then c (firstOf (walk f w k (at + w)))) (sym (ap f (at-zero at w)) ∙ h 0 (omega arith))

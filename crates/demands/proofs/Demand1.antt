@@ -1,0 +1,486 @@
+-- # Demand 1
+--
+-- "Every call ends, on every input, with no access outside the lent buffers and no number that loses bits. Each refusal has the number and
+-- place that document 01 sets, in just the cases set there. A refused call changes no byte of its output."
+--
+-- The first sentence is the checker's own claim for every function that it proves: each ends, stays within its buffers and loses no bits,
+-- and no public call asks anything of its input. The other two are shown here for each public call, over the outcome that its contract
+-- gives: what it says, and each byte that it hands out or leaves in its output.
+use mathlib.Core.Path.{_≡_, refl, sym, ap, _∙_, subst}
+use mathlib.Core.List.{List, [], _∷_, _++_}
+use mathlib.Core.Logic.{inl, inr}
+use mathlib.Core.Bool.{Bool, true, false, not}
+use Prim.Native.Nat.{ℕ, _+_, _*_, _^_, _≤_, _<_}
+use native.Mathlib.Omega.{arith}
+use borrow.Author.Tests.{lt-ltb, le-leb, eq-eqb, ne-eqb, eqb-true, eqb-false, not-true}
+use lib.Dec.{leb, ltb, eqb}
+use lib.ListN.{length, getD, drop, length-append, length-drop}
+use lib.Seq.{drop-at}
+use lib.IntN.{ℤ, pos}
+use Rattle.numbers.specs.Walk.{pick}
+use Rattle.numbers.specs.Cause.{refuseIf, then}
+use Rattle.numbers.specs.Outcome.{Said, taken, refused}
+use Rattle.numbers.specs.Places.{placeNo, byteNo}
+use Rattle.numbers.specs.declared.Place.{Place}
+use Rattle.numbers.specs.declared.ByteNo.{ByteNo}
+use Rattle.numbers.specs.declared.Check.{Check}
+use Rattle.numbers.specs.declared.Check.the-variants.{Fine, Refused}
+use Rattle.numbers.proofs.WalkLaws.{All}
+use Rattle.numbers.proofs.ByteLaws.{Bytes}
+use Rattle.numbers.proofs.CauseLaws.{not-fine, then-fine, at-most}
+use Rattle.sample.specs.Value.{denominatorPower, exactValue}
+use Rattle.sample.specs.Pair.{valueOf, isCanonical}
+use Rattle.sample.specs.Reading.{isCode, badGain, pairTaken, readWord}
+use Rattle.sample.specs.Writing.{first, ibmFits, ibmAt, ibmWord, holds, wholeWord, gainFits, gainAt, gainWord, wordOf, writePair}
+use Rattle.sample.specs.Calls.{pairIn}
+use Rattle.sample.specs.Calls as calls
+use Rattle.sample.specs.declared.Sample.{Sample}
+use Rattle.sample.specs.declared.Sample.the-variants as sample
+use Rattle.sample.specs.declared.Written.{Written}
+use Rattle.sample.specs.declared.Written.the-variants as written
+use Rattle.sample_theorems.proofs.Held.{and-true}
+use Rattle.sample_theorems.proofs.Pairs.{Iff, value-pair-back}
+use Rattle.reel.specs.Layout.{Field, binaryFields, traceFields, samplesOf, tracesOf}
+use Rattle.reel.specs.Causes.{causesOf}
+use Rattle.record.specs.Record.{reelRecord}
+use Rattle.record.specs.Form.{heldSamples, heldTraces}
+use Rattle.record.specs.Held.{heldBy}
+use Rattle.record.specs.Target.{isUnfit, targetCauses}
+use Rattle.transcribe.specs.Reading.{readCauses, readEnd, readOutcome}
+use Rattle.write_reel.specs.Reel.{reelOf, reelLength}
+use Rattle.write_reel.specs.Writing.{lengthOf, writeCauses, writeEnd, writeOutcome}
+use Rattle.look_up.specs.LookUp.{found, isNone, fieldIn, fieldAt, foundNumber, lookUpCauses, numberSaid, lookUpOutcome}
+use Rattle.reel_theorems.proofs.Refusals.{Row, exact-causes, no-cause}
+use Rattle.reel_theorems.proofs.Same.{record-size}
+use Rattle.reel_theorems.proofs.Output.{not-taken}
+use Rattle.demands.proofs.TestLaws.{atPlace, Between, Tests, apart, fine-where, refused-where, holds-where, row-where, then-row, then-first, then-second, and-both, test-between, test-room, test-by, not-enough}
+use Rattle.demands.proofs.Fitting.{HasWord, fits-is}
+use Rattle.demands.proofs.WriteRefusals.{WriteRow, exact-writing, no-writing-cause}
+use Rattle.demands.proofs.WrittenSize.{reel-size}
+
+-- ## What a call says
+
+-- A call says what its checks answer: taken with its values where they find nothing, else the number and place that they refuse with.
+module _ (say : Check → Said) (values : List ℕ) (fine : say Fine ≡ taken values) (row : (number : ℕ) (place : Place) → say (Refused number place) ≡ refused number (placeNo place)) where
+  -- It says that it refused, by a number with a place, just where its checks refuse so.
+  says-refused : (c : Check) (number place : ℕ) → Iff (say c ≡ refused number place) (c ≡ Refused number (atPlace place))
+  says-refused c number place = (there c, λ e. ap say e ∙ row number (atPlace place))
+    where
+      same : (m n : ℕ) (q : Place) → refused m (placeNo q) ≡ refused n place → Refused m q ≡ Refused n (atPlace place)
+      same m n q e =
+          let a : m ≡ n = cc in
+          let b : placeNo q ≡ place = cc in
+          let r : q ≡ atPlace place = ap atPlace b in
+          cc
+
+      there : (c : Check) → say c ≡ refused number place → c ≡ Refused number (atPlace place)
+      there Fine e = absurd (not-taken (sym e ∙ fine))
+      there (Refused m q) e = same m number q (sym (row m q) ∙ e)
+
+  -- Where it says that it took, they find nothing.
+  says-fine : (c : Check) (numbers : List ℕ) → say c ≡ taken numbers → c ≡ Fine
+  says-fine Fine numbers e = refl
+  says-fine (Refused m q) numbers e = absurd (not-taken (sym (row m q) ∙ e))
+
+  -- So it took, with those values, just where they find nothing.
+  says-taken : (c : Check) → Iff (say c ≡ taken values) (c ≡ Fine)
+  says-taken c = (says-fine c values, λ e. ap say e ∙ fine)
+
+-- Where the rows against a call are exact, its checks find nothing just where no row applies.
+fine-none : (R : ℕ → ℕ → Type 0) (c : Check) → ((number place : ℕ) → Iff (c ≡ Refused number (atPlace place)) (R number place))
+    → Iff (c ≡ Fine) ((number place : ℕ) → ¬ (R number place))
+fine-none R c exact = (λ e number place r. not-fine (sym (exact number place .1 r) ∙ e), there c exact)
+  where
+    there : (c : Check) → ((number place : ℕ) → Iff (c ≡ Refused number (atPlace place)) (R number place)) → ((number place : ℕ) → ¬ (R number place)) → c ≡ Fine
+    there Fine exact h = refl
+    there (Refused number place) exact h = absurd (h number (placeNo place) (exact number (placeNo place) .0 refl))
+
+-- What holds in the same cases as something else does so in the same cases as a third.
+both : {A B C : Type 0} → Iff A B → Iff B C → Iff A C
+both p q = (λ a. q .0 (p .0 a), λ c. p .1 (q .1 c))
+
+-- Bytes at an output's front, l of them, leave its length and the bytes behind them as they were.
+behind : (front out : List ℕ) (l : ℕ) → length front ≡ l → l ≤ length out
+    → (length (front ++ drop l out) ≡ length out) × (drop l (front ++ drop l out) ≡ drop l out)
+behind front out l e h = (omega (arith, length-append front (drop l out), length-drop l out), drop-at front (drop l out) l e)
+
+-- ## Reading a reel
+
+-- The length of a reel's record: 3273 + T × (186 + 6N).
+abbrev pub recordSize : List ℕ → ℕ
+recordSize s = 3273 + tracesOf s * (186 + 6 * samplesOf s)
+
+-- The rows of reading into an output of `room` bytes: those of 1 to 9; then 10, where none of them applies and the output is shorter than
+-- the record, with the record's length.
+pub data ReadRow (s : List ℕ) (room : ℕ) : ℕ → ℕ → Type 0 where
+  by-reel : {number place : ℕ} → Row s number place → ReadRow s room number place
+  short : ((number place : ℕ) → ¬ (Row s number place)) → room < recordSize s → ReadRow s room 10 (recordSize s)
+
+-- The causes of reading are these rows.
+read-exact : (s : List ℕ) (room number place : ℕ) → Iff (readCauses s room ≡ Refused number (atPlace place)) (ReadRow s room number place)
+read-exact s room number place = (there, back)
+  where
+    there : readCauses s room ≡ Refused number (atPlace place) → ReadRow s room number place
+    there =
+        then-row (λ n p. ReadRow s room n (placeNo p)) (causesOf s) _ (λ e. by-reel (exact-causes s number place .0 e))
+        (λ e. row-where (test-room room (recordSize s) 10 (recordSize s)) (λ n p. ReadRow s room n (placeNo p)) (λ m. short (no-cause s .0 e) (not-enough room (recordSize s) m)))
+
+    back : {number place : ℕ} → ReadRow s room number place → readCauses s room ≡ Refused number (atPlace place)
+    back {number} {place} (by-reel r) = then-first (causesOf s) _ (exact-causes s number place .1 r)
+    back (short h l) =
+        then-second _ _ (no-cause s .1 h) (ap (λ (b : Bool). refuseIf b 10 (recordSize s)) (lt-ltb room (recordSize s) l))
+
+module _ (s out : List ℕ) where
+  -- What reading says, by what its checks answer.
+  readSays : Check → Said
+  readSays c = readEnd s out c .said
+
+  -- THEOREM. "Each refusal has the number and place that document 01 sets, in just the cases set there": reading is refused exactly when a
+  -- row applies, by its number and place. Rules out a reader that says output too short before working out the length: 10 needs that no
+  -- row of 1 to 9 applies and that the output is shorter than the record, and has the record's length beside it.
+  pub read-refused : (number place : ℕ) → Iff (readOutcome s out .said ≡ refused number place) (ReadRow s (length out) number place)
+  unfolding readSays
+  read-refused number place =
+      both (says-refused readSays (tracesOf s ∷ samplesOf s ∷ recordSize s ∷ []) refl (λ n p. refl) (readCauses s (length out)) number place)
+      (read-exact s (length out) number place)
+
+  -- THEOREM. And it is taken, with T, N and the record's length, exactly when no row applies. Rules out a reader that declines every reel.
+  pub read-taken : Iff (readOutcome s out .said ≡ taken (tracesOf s ∷ samplesOf s ∷ recordSize s ∷ [])) ((number place : ℕ) → ¬ (ReadRow s (length out) number place))
+  unfolding readSays
+  read-taken =
+      both (says-taken readSays (tracesOf s ∷ samplesOf s ∷ recordSize s ∷ []) refl (λ n p. refl) (readCauses s (length out)))
+      (fine-none (ReadRow s (length out)) (readCauses s (length out)) (read-exact s (length out)))
+
+  -- THEOREM. "A refused call changes no byte of its output."
+  pub read-keeps : (number place : ℕ) → readOutcome s out .said ≡ refused number place → readOutcome s out .bytes ≡ out
+  unfolding readSays
+  read-keeps number place e =
+      ap (λ (c : Check). readEnd s out c .bytes)
+      (says-refused readSays (tracesOf s ∷ samplesOf s ∷ recordSize s ∷ []) refl (λ n p. refl) (readCauses s (length out)) number place .0 e)
+
+  -- THEOREM. A taken call leaves the output's length, and each byte behind the length returned, as they were.
+  pub read-rest : (t n l : ℕ) → Bytes s → readOutcome s out .said ≡ taken (t ∷ n ∷ l ∷ [])
+      → (length (readOutcome s out .bytes) ≡ length out) × (drop l (readOutcome s out .bytes) ≡ drop l out)
+  unfolding readSays
+  read-rest t n l b e =
+      let q : readCauses s (length out) ≡ Fine = says-fine readSays (tracesOf s ∷ samplesOf s ∷ recordSize s ∷ []) refl (λ n p. refl) (readCauses s (length out)) (t ∷ n ∷ l ∷ []) e in
+      let f = then-fine (causesOf s) _ q in
+      let same : taken (tracesOf s ∷ samplesOf s ∷ recordSize s ∷ []) ≡ taken (t ∷ n ∷ l ∷ []) = sym (ap readSays q) ∙ e in
+      let size : recordSize s ≡ l = cc in
+      let r = behind (reelRecord s) out (recordSize s) (record-size s b (f .0)) (at-most (length out) (recordSize s) 10 (recordSize s) (f .1)) in
+      subst (λ (x : ℕ). (length (readOutcome s out .bytes) ≡ length out) × (drop x (readOutcome s out .bytes) ≡ drop x out)) size
+      (subst (λ (c : Check). (length (readEnd s out c .bytes) ≡ length out) × (drop (recordSize s) (readEnd s out c .bytes) ≡ drop (recordSize s) out)) (sym q) r)
+
+-- ## Writing a reel
+
+-- T and N as the record holds them, and the reel's length: 3600 + T × (240 + N × the bytes of a sample).
+abbrev pub writtenNumbers : List ℕ → ℕ → List ℕ
+writtenNumbers s code = heldTraces s (heldSamples s) ∷ heldSamples s ∷ reelLength code (heldTraces s (heldSamples s)) (heldSamples s) ∷ []
+
+module _ (s : List ℕ) (code : ℕ) (out : List ℕ) where
+  -- What writing says, by what its checks answer.
+  writeSays : Check → Said
+  writeSays c = writeEnd s code out c .said
+
+  -- THEOREM. "Each refusal has the number and place that document 01 sets, in just the cases set there": writing is refused exactly when a
+  -- row applies, by its number and place. Rules out a writer that looks at the samples before the form, or says output too short before
+  -- working out the length: 10 needs a valid record whose samples all fit, and has the reel's length beside it.
+  pub write-refused : (number place : ℕ) → Iff (writeOutcome s code out .said ≡ refused number place) (WriteRow s code (length out) number (atPlace place))
+  unfolding writeSays
+  write-refused number place =
+      both (says-refused writeSays (writtenNumbers s code) refl (λ n p. refl) (writeCauses s code (length out)) number place)
+      (exact-writing s code (length out) number (atPlace place))
+
+  -- THEOREM. And it is taken, with T, N and the reel's length, exactly when no row applies. Rules out a writer that declines every record.
+  pub write-taken : Iff (writeOutcome s code out .said ≡ taken (writtenNumbers s code)) ((number : ℕ) (place : Place) → ¬ (WriteRow s code (length out) number place))
+  unfolding writeSays
+  write-taken =
+      both (says-taken writeSays (writtenNumbers s code) refl (λ n p. refl) (writeCauses s code (length out))) (no-writing-cause s code (length out))
+
+  -- THEOREM. "A refused call changes no byte of its output."
+  pub write-keeps : (number place : ℕ) → writeOutcome s code out .said ≡ refused number place → writeOutcome s code out .bytes ≡ out
+  unfolding writeSays
+  write-keeps number place e =
+      ap (λ (c : Check). writeEnd s code out c .bytes)
+      (says-refused writeSays (writtenNumbers s code) refl (λ n p. refl) (writeCauses s code (length out)) number place .0 e)
+
+  -- THEOREM. A taken call leaves the output's length, and each byte behind the length returned, as they were.
+  pub write-rest : (t n l : ℕ) → writeOutcome s code out .said ≡ taken (t ∷ n ∷ l ∷ [])
+      → (length (writeOutcome s code out .bytes) ≡ length out) × (drop l (writeOutcome s code out .bytes) ≡ drop l out)
+  unfolding writeSays
+  write-rest t n l e =
+      let size = lengthOf s code in
+      let q : writeCauses s code (length out) ≡ Fine = says-fine writeSays (writtenNumbers s code) refl (λ n p. refl) (writeCauses s code (length out)) (t ∷ n ∷ l ∷ []) e in
+      let f = then-fine (targetCauses s code) _ q in
+      let same : taken (heldTraces s (heldSamples s) ∷ heldSamples s ∷ size ∷ []) ≡ taken (t ∷ n ∷ l ∷ []) = sym (ap writeSays q) ∙ e in
+      let is : size ≡ l = cc in
+      let r = behind (reelOf code (heldBy s)) out size (reel-size s code) (at-most (length out) size 10 size (f .1)) in
+      subst (λ (x : ℕ). (length (writeOutcome s code out .bytes) ≡ length out) × (drop x (writeOutcome s code out .bytes) ≡ drop x out)) is
+      (subst (λ (c : Check). (length (writeEnd s code out c .bytes) ≡ length out) × (drop size (writeEnd s code out c .bytes) ≡ drop size out)) (sym q) r)
+
+-- ## Looking up a field
+
+-- The assigned fields of header k: of the binary header for 0, of a trace's from 1 on.
+abbrev pub headerFields : ℕ → List Field
+headerFields k = pick (eqb k 0) binaryFields traceFields
+
+-- No assigned field of header k begins at byte number b.
+abbrev pub NoField : ℕ → ByteNo → Type 0
+NoField k b = All (λ f. ¬ (f .byteNo ≡ byteNo b)) (headerFields k)
+
+-- The rows of looking up byte number b of header k: those of 1 to 9; then 15, where the reel has no trace k; then 16, where no assigned
+-- field of that header begins there.
+pub data LookUpRow (s : List ℕ) (k : ℕ) (b : ByteNo) : ℕ → ℕ → Type 0 where
+  by-reel : {number place : ℕ} → Row s number place → LookUpRow s k b number place
+  no-trace : ((number place : ℕ) → ¬ (Row s number place)) → tracesOf s < k → LookUpRow s k b 15 0
+  no-field : ((number place : ℕ) → ¬ (Row s number place)) → k ≤ tracesOf s → NoField k b → LookUpRow s k b 16 0
+
+-- No field is found just where none begins at the byte number.
+none-found : (b : ℕ) (fs : List Field) → Iff (isNone (fieldIn b fs) ≡ true) (All (λ f. ¬ (f .byteNo ≡ b)) fs)
+unfolding fieldIn
+none-found b [] = (λ e. tt, λ h. refl)
+none-found b (f ∷ fs) = go (eqb (f .byteNo) b) refl (none-found b fs)
+  where
+    go : (c : Bool) → eqb (f .byteNo) b ≡ c → Iff (isNone (fieldIn b fs) ≡ true) (All (λ g. ¬ (g .byteNo ≡ b)) fs)
+        → Iff (isNone (pick c (found f) (fieldIn b fs)) ≡ true) ((¬ (f .byteNo ≡ b)) × All (λ g. ¬ (g .byteNo ≡ b)) fs)
+    go true e r = (λ q. absurd (apart q), λ h. absurd (h .0 (eqb-true (f .byteNo) b e)))
+    go false e r = (λ q. (eqb-false (f .byteNo) b e, r .0 q), λ h. r .1 (h .1))
+
+-- A test that refuses where a truth value is true.
+test-flag : (b : Bool) (number at : ℕ) → Tests (b ≡ false) number at (refuseIf b number at)
+test-flag true number at = inr (λ e. apart (sym e), refl)
+test-flag false number at = inl (refl, refl)
+
+-- What is not false is true.
+not-no : (b : Bool) → ¬ (b ≡ false) → b ≡ true
+not-no true h = refl
+not-no false h = absurd (h refl)
+
+module _ (s : List ℕ) (k : ℕ) (b : ByteNo) where
+  -- The causes of looking up are these rows.
+  look-up-exact : (number place : ℕ) → Iff (lookUpCauses s k b ≡ Refused number (atPlace place)) (LookUpRow s k b number place)
+  look-up-exact number place = (there, back)
+    where
+      there : lookUpCauses s k b ≡ Refused number (atPlace place) → LookUpRow s k b number place
+      there =
+          then-row (λ n p. LookUpRow s k b n (placeNo p)) (causesOf s) _ (λ e. by-reel (exact-causes s number place .0 e))
+          (λ e. then-row (λ n p. LookUpRow s k b n (placeNo p)) (refuseIf (ltb (tracesOf s) k) 15 0) _
+          (row-where (test-room (tracesOf s) k 15 0) (λ n p. LookUpRow s k b n (placeNo p)) (λ m. no-trace (no-cause s .0 e) (not-enough (tracesOf s) k m)))
+          (λ q. then-row (λ n p. LookUpRow s k b n (placeNo p)) (refuseIf (isNone (fieldAt k b)) 16 0) _
+          (row-where (test-flag (isNone (fieldAt k b)) 16 0) (λ n p. LookUpRow s k b n (placeNo p)) (λ m. no-field (no-cause s .0 e) (holds-where (test-room (tracesOf s) k 15 0) q) (none-found (byteNo b) (headerFields k) .0 (not-no _ m))))
+          (λ x y. absurd (not-fine (sym y)))))
+
+      back : {number place : ℕ} → LookUpRow s k b number place → lookUpCauses s k b ≡ Refused number (atPlace place)
+      back {number} {place} (by-reel r) = then-first (causesOf s) _ (exact-causes s number place .1 r)
+      back (no-trace h l) =
+          then-second _ _ (no-cause s .1 h) (then-first _ _ (ap (λ (x : Bool). refuseIf x 15 0) (lt-ltb (tracesOf s) k l)))
+      back (no-field h l f) =
+          then-second _ _ (no-cause s .1 h)
+          (then-second _ _ (fine-where (test-room (tracesOf s) k 15 0) l)
+          (then-first _ _ (ap (λ (x : Bool). refuseIf x 16 0) (none-found (byteNo b) (headerFields k) .1 f))))
+
+  -- What looking up says, by what its checks answer.
+  lookUpSays : Check → Said
+  lookUpSays c = numberSaid c (foundNumber s k (fieldAt k b)) .said
+
+  -- THEOREM. "Each refusal has the number and place that document 01 sets, in just the cases set there": looking up is refused exactly when
+  -- a row applies, by its number and place.
+  pub look-up-refused : (number place : ℕ) → Iff (lookUpOutcome s k b .said ≡ refused number place) (LookUpRow s k b number place)
+  unfolding lookUpSays lookUpOutcome
+  look-up-refused number place =
+      both (says-refused lookUpSays [] refl (λ n p. refl) (lookUpCauses s k b) number place) (look-up-exact number place)
+
+  -- THEOREM. And it is taken exactly when no row applies. Rules out a look-up that declines every reel.
+  pub look-up-taken : Iff (lookUpOutcome s k b .said ≡ taken []) ((number place : ℕ) → ¬ (LookUpRow s k b number place))
+  unfolding lookUpSays lookUpOutcome
+  look-up-taken =
+      both (says-taken lookUpSays [] refl (λ n p. refl) (lookUpCauses s k b)) (fine-none (LookUpRow s k b) (lookUpCauses s k b) look-up-exact)
+
+  -- THEOREM. Beside a refusal the number is 0.
+  pub look-up-zero : (number place : ℕ) → lookUpOutcome s k b .said ≡ refused number place → lookUpOutcome s k b .number ≡ pos 0
+  unfolding lookUpSays lookUpOutcome
+  look-up-zero number place e =
+      ap (λ (c : Check). numberSaid c (foundNumber s k (fieldAt k b)) .number)
+      (says-refused lookUpSays [] refl (λ n p. refl) (lookUpCauses s k b) number place .0 e)
+
+-- ## Single samples
+
+-- What a single-sample call says, by what its checks answer.
+says : Check → Said
+says Fine = taken []
+says (Refused number place) = refused number (placeNo place)
+
+-- The rows of a single word: 2, then 9, with the place 0.
+pub data WordRow (code : ℕ) (w : List ℕ) : ℕ → ℕ → Type 0 where
+  bad-code : ¬ (Between 1 4 code) → WordRow code w 2 0
+  bad-gain : Between 1 4 code → code ≡ 4 → ¬ (getD w 0 0 ≡ 0) → WordRow code w 9 0
+
+-- The rows of a single pair: 11, 13, 14, with the place 0. A pair doesn't fit where no word of the code has its value.
+pub data PairRow (code : ℕ) (b : List ℕ) : ℕ → ℕ → Type 0 where
+  bad-target : ¬ (Between 1 4 code) → PairRow code b 11 0
+  bad-pair : Between 1 4 code → ¬ (isCanonical (pairIn b) ≡ true) → PairRow code b 13 0
+  unfit : Between 1 4 code → isCanonical (pairIn b) ≡ true → ¬ (HasWord code (valueOf (pairIn b))) → PairRow code b 14 0
+
+module _ (code : ℕ) (w : List ℕ) where
+  -- The checks of a single word.
+  wordChecks : Check
+  wordChecks = then (refuseIf (not (isCode code)) 2 0) (refuseIf (badGain code w) 9 0)
+
+  -- What the call says is what they answer.
+  word-says : calls.readOutcome code w .said ≡ says wordChecks
+  unfolding wordChecks says
+  word-says = go (isCode code) (badGain code w)
+    where
+      go : (a g : Bool) → calls.readSaid (pick a (pick g (sample.Refused 9) (pairTaken (exactValue code w))) (sample.Refused 2)) .said
+          ≡ says (then (refuseIf (not a) 2 0) (refuseIf g 9 0))
+      go true true = refl
+      go true false = refl
+      go false g = refl
+
+  -- A gain word whose first byte is not 00.
+  gain-true : code ≡ 4 → ¬ (getD w 0 0 ≡ 0) → badGain code w ≡ true
+  gain-true c h = and-both (eqb code 4) _ (eq-eqb code 4 c) (ap not (ne-eqb (getD w 0 0) 0 h))
+
+  -- And the other way round.
+  true-gain : badGain code w ≡ true → (code ≡ 4) × (¬ (getD w 0 0 ≡ 0))
+  true-gain e =
+      let h = and-true (eqb code 4) _ e in
+      (eqb-true code 4 (h .0), eqb-false (getD w 0 0) 0 (not-true (eqb (getD w 0 0) 0) (h .1)))
+
+  -- Its causes are the rows.
+  word-exact : (number place : ℕ) → Iff (wordChecks ≡ Refused number (atPlace place)) (WordRow code w number place)
+  unfolding wordChecks
+  word-exact number place = (there, back)
+    where
+      there : then (refuseIf (not (isCode code)) 2 0) (refuseIf (badGain code w) 9 0) ≡ Refused number (atPlace place) → WordRow code w number place
+      there =
+          then-row (λ n p. WordRow code w n (placeNo p)) (refuseIf (not (isCode code)) 2 0) _
+          (row-where (test-between 1 4 code 2 0) (λ n p. WordRow code w n (placeNo p)) bad-code)
+          (λ e. row-where (test-flag (badGain code w) 9 0) (λ n p. WordRow code w n (placeNo p))
+          (λ m. let g = true-gain (not-no _ m) in bad-gain (holds-where (test-between 1 4 code 2 0) e) (g .0) (g .1)))
+
+      back : {number place : ℕ} → WordRow code w number place → then (refuseIf (not (isCode code)) 2 0) (refuseIf (badGain code w) 9 0) ≡ Refused number (atPlace place)
+      back (bad-code h) = then-first _ _ (refused-where (test-between 1 4 code 2 0) h)
+      back (bad-gain g c h) =
+          then-second _ _ (fine-where (test-between 1 4 code 2 0) g) (ap (λ (x : Bool). refuseIf x 9 0) (gain-true c h))
+
+  -- THEOREM. "A single word is refused by 2, then 9; the place is 0": exactly when that row applies.
+  pub word-refused : (number place : ℕ) → Iff (calls.readOutcome code w .said ≡ refused number place) (WordRow code w number place)
+  unfolding says
+  word-refused number place =
+      both (λ e. sym word-says ∙ e, λ e. word-says ∙ e) (both (says-refused says [] refl (λ n p. refl) wordChecks number place) (word-exact number place))
+
+  -- THEOREM. And it is taken exactly when no row applies. Rules out a call that declines every word.
+  pub word-taken : Iff (calls.readOutcome code w .said ≡ taken []) ((number place : ℕ) → ¬ (WordRow code w number place))
+  unfolding says
+  word-taken =
+      both (λ e. sym word-says ∙ e, λ e. word-says ∙ e)
+      (both (says-taken says [] refl (λ n p. refl) wordChecks) (fine-none (WordRow code w) wordChecks word-exact))
+
+  -- THEOREM. Beside a refusal the six bytes handed out are all 00.
+  pub word-zero : (number place : ℕ) → calls.readOutcome code w .said ≡ refused number place → calls.readOutcome code w .bytes ≡ 0 ∷ 0 ∷ 0 ∷ 0 ∷ 0 ∷ 0 ∷ []
+  word-zero number place e = go (readWord code w) e
+    where
+      go : (r : Sample) → calls.readSaid r .said ≡ refused number place → calls.readSaid r .bytes ≡ 0 ∷ 0 ∷ 0 ∷ 0 ∷ 0 ∷ 0 ∷ []
+      go (sample.Taken x m) e = absurd (not-taken (sym e))
+      go (sample.Refused n) e = refl
+
+-- Where there is no word, the number is 14.
+abbrev Fourteen : Written → Type 0
+Fourteen (written.Word n) = Unit {0}
+Fourteen (written.Refused number) = number ≡ 14
+
+-- A word or 14, by a truth value.
+or-14 : (b : Bool) (n : ℕ) → Fourteen (pick b (written.Word n) (written.Refused 14))
+or-14 true n = tt
+or-14 false n = refl
+
+-- A choice between two such answers is such an answer.
+either-14 : (b : Bool) (x y : Written) → Fourteen x → Fourteen y → Fourteen (pick b x y)
+either-14 true x y p q = p
+either-14 false x y p q = q
+
+-- Under every code.
+only-14 : (code : ℕ) (v : ℤ) → Fourteen (wordOf code v)
+only-14 code v =
+    either-14 (eqb code 1) (ibmWord v) _ (ibm (first (ibmFits v) 128 0))
+    (either-14 (eqb code 2) (wholeWord 32 1 v) _ (or-14 (holds 32 (2 ^ denominatorPower) v) _)
+    (either-14 (eqb code 3) (wholeWord 16 (2 ^ 16) v) (gainWord v) (or-14 (holds 16 (2 ^ denominatorPower) v) _) (gain (first (gainFits v) 256 0))))
+  where
+    ibm : (c : ℕ) → Fourteen (ibmAt v c)
+    ibm c = or-14 (ltb c 128) _
+
+    gain : (g : ℕ) → Fourteen (gainAt v g)
+    gain g = or-14 (ltb g 256) _
+
+module _ (code : ℕ) (b : List ℕ) where
+  -- The checks of a single pair.
+  pairChecks : Check
+  pairChecks =
+      then (refuseIf (not (isCode code)) 11 0)
+      (then (refuseIf (not (isCanonical (pairIn b))) 13 0) (refuseIf (isUnfit (wordOf code (valueOf (pairIn b)))) 14 0))
+
+  -- What the call says is what they answer.
+  pair-says : calls.writeOutcome code b .said ≡ says pairChecks
+  unfolding pairChecks says
+  pair-says = go (isCode code) (isCanonical (pairIn b)) (wordOf code (valueOf (pairIn b))) (only-14 code (valueOf (pairIn b)))
+    where
+      go : (a c : Bool) (r : Written) → Fourteen r → calls.writeSaid (pick a (pick c r (written.Refused 13)) (written.Refused 11)) .said
+          ≡ says (then (refuseIf (not a) 11 0) (then (refuseIf (not c) 13 0) (refuseIf (isUnfit r) 14 0)))
+      go true true (written.Word n) h = refl
+      go true true (written.Refused n) h = ap (λ (x : ℕ). refused x 0) h
+      go true false r h = refl
+      go false c r h = refl
+
+  -- A canonical pair has no word just where no word of the code has its value.
+  unfit-is : Between 1 4 code → isCanonical (pairIn b) ≡ true → Iff (isUnfit (wordOf code (valueOf (pairIn b))) ≡ false) (HasWord code (valueOf (pairIn b)))
+  unfit-is g c =
+      fits-is code (valueOf (pairIn b)) (and-both (leb 1 code) _ (le-leb 1 code (g .0)) (le-leb code 4 (g .1)))
+      (ap isCanonical (value-pair-back (pairIn b) c) ∙ c)
+
+  -- Its causes are the rows.
+  pair-exact : (number place : ℕ) → Iff (pairChecks ≡ Refused number (atPlace place)) (PairRow code b number place)
+  unfolding pairChecks
+  pair-exact number place = (there, back)
+    where
+      there : pairChecks ≡ Refused number (atPlace place) → PairRow code b number place
+      there =
+          let row : ℕ → Place → Type 0 = λ n p. PairRow code b n (placeNo p) in
+          let canonical = test-by (isCanonical (pairIn b) ≡ true) (isCanonical (pairIn b)) 13 0 (λ e. e) (λ e. e) in
+          then-row row (refuseIf (not (isCode code)) 11 0) _ (row-where (test-between 1 4 code 11 0) row bad-target)
+          (λ e. let g = holds-where (test-between 1 4 code 11 0) e in
+          then-row row (refuseIf (not (isCanonical (pairIn b))) 13 0) _ (row-where canonical row (bad-pair g))
+          (λ q. let c = holds-where canonical q in
+          row-where (test-flag (isUnfit (wordOf code (valueOf (pairIn b)))) 14 0) row (λ m. unfit g c (λ h. m (unfit-is g c .1 h)))))
+
+      back : {number place : ℕ} → PairRow code b number place → pairChecks ≡ Refused number (atPlace place)
+      back (bad-target h) = then-first _ _ (refused-where (test-between 1 4 code 11 0) h)
+      back (bad-pair g h) =
+          let canonical = test-by (isCanonical (pairIn b) ≡ true) (isCanonical (pairIn b)) 13 0 (λ e. e) (λ e. e) in
+          then-second _ _ (fine-where (test-between 1 4 code 11 0) g) (then-first _ _ (refused-where canonical h))
+      back (unfit g c h) =
+          let canonical = test-by (isCanonical (pairIn b) ≡ true) (isCanonical (pairIn b)) 13 0 (λ e. e) (λ e. e) in
+          then-second _ _ (fine-where (test-between 1 4 code 11 0) g)
+          (then-second _ _ (fine-where canonical c)
+          (refused-where (test-flag (isUnfit (wordOf code (valueOf (pairIn b)))) 14 0) (λ e. h (unfit-is g c .0 e))))
+
+  -- THEOREM. "A single pair is refused by 11, 13, 14; the place is 0": exactly when that row applies.
+  pub pair-refused : (number place : ℕ) → Iff (calls.writeOutcome code b .said ≡ refused number place) (PairRow code b number place)
+  unfolding says
+  pair-refused number place =
+      both (λ e. sym pair-says ∙ e, λ e. pair-says ∙ e) (both (says-refused says [] refl (λ n p. refl) pairChecks number place) (pair-exact number place))
+
+  -- THEOREM. And it is taken exactly when no row applies. Rules out a call that declines every pair.
+  pub pair-taken : Iff (calls.writeOutcome code b .said ≡ taken []) ((number place : ℕ) → ¬ (PairRow code b number place))
+  unfolding says
+  pair-taken =
+      both (λ e. sym pair-says ∙ e, λ e. pair-says ∙ e)
+      (both (says-taken says [] refl (λ n p. refl) pairChecks) (fine-none (PairRow code b) pairChecks pair-exact))
+
+  -- THEOREM. Beside a refusal the four bytes handed out are all 00.
+  pub pair-zero : (number place : ℕ) → calls.writeOutcome code b .said ≡ refused number place → calls.writeOutcome code b .bytes ≡ 0 ∷ 0 ∷ 0 ∷ 0 ∷ []
+  pair-zero number place e = go (writePair code (pairIn b)) e
+    where
+      go : (r : Written) → calls.writeSaid r .said ≡ refused number place → calls.writeSaid r .bytes ≡ 0 ∷ 0 ∷ 0 ∷ 0 ∷ []
+      go (written.Word n) e = absurd (not-taken (sym e))
+      go (written.Refused n) e = refl

@@ -1,0 +1,89 @@
+-- The length of a written reel: 3600 + T × (240 + N × the bytes of a sample), whatever the record holds. Assumes nothing.
+use mathlib.Core.Path.{_≡_, refl, ap₂, _∙_}
+use mathlib.Core.List.{List, [], _∷_, _++_, map}
+use mathlib.Core.Bool.{Bool, true, false}
+use Prim.Native.Nat.{ℕ, suc, _+_, _*_}
+use native.Mathlib.Omega.{arith}
+use lib.Dec.{eqb}
+use lib.ListN.{length, take, replicate, length-append}
+use lib.IntN.{ℤ}
+use Rattle.numbers.specs.Walk.{pick, walk, flat, bytesAt}
+use Rattle.numbers.specs.BigEndian.{bytesOf}
+use Rattle.numbers.specs.TwosComplement.{bitsOf}
+use Rattle.numbers.proofs.WalkLaws.{flat-length, size-bytes}
+use Rattle.sample.specs.Calls.{pairLength}
+use Rattle.sample.specs.Writing.{wordOf}
+use Rattle.sample.specs.declared.Written.{Written}
+use Rattle.sample.specs.declared.Written.the-variants.{Word, Refused}
+use Rattle.reel.specs.Layout.{binaryWidths, binaryFields, traceWidths, traceFields, cardBytes, fieldNumber, sampleBytes, stride}
+use Rattle.reel.specs.Meaning.{otherThan}
+use Rattle.record.specs.Record.{numberBytes, withCode, binaryBytes}
+use Rattle.record.specs.Form.{firstField, heldSamples, heldStride, heldTraces}
+use Rattle.record.specs.Held.{heldValue, heldTrace, heldBy}
+use Rattle.record.proofs.NumberLaws.{total}
+use Rattle.record.proofs.HeaderLaws.{counts}
+use Rattle.reel_theorems.proofs.Ranges.{length-bytes}
+use Rattle.write_reel.specs.Reel.{wordContent, sampleWritten, traceWritten, reelOf}
+use Rattle.write_reel.specs.Writing.{lengthOf}
+
+-- As many numbers as there are fields take the bytes of the fields.
+numbers-size : (ws : List ℕ) (zs : List ℤ) → length ws ≡ length zs → length (numberBytes ws zs) ≡ total ws
+numbers-size [] zs e = refl
+numbers-size (w ∷ ws) [] e = absurd (let z : suc (length ws) ≡ 0 = e in omega arith)
+numbers-size (w ∷ ws) (z ∷ zs) e =
+    length-append (bytesOf w (bitsOf (8 * w) z)) (numberBytes ws zs)
+    ∙ ap₂ (λ (x y : ℕ). x + y) (length-bytes w (bitsOf (8 * w) z)) (numbers-size ws zs (omega arith))
+
+-- There are as many binary numbers, with the format code, as binary fields.
+binary-count : (s : List ℕ) (code : ℕ) → length binaryWidths ≡ length (withCode code (map (fieldNumber s 6) (otherThan 3225 binaryFields)))
+unfolding binaryFields binaryWidths
+binary-count s code = refl
+
+-- There are as many numbers of a trace as trace fields.
+fields-count : (s : List ℕ) (at : ℕ) → length traceWidths ≡ length (map (fieldNumber s at) traceFields)
+unfolding traceFields traceWidths
+fields-count s at = refl
+
+-- The binary fields are 60 bytes.
+binary-size : (s : List ℕ) (code : ℕ) → length (binaryBytes code (map (fieldNumber s 6) (otherThan 3225 binaryFields))) ≡ 60
+unfolding binaryBytes
+binary-size s code = numbers-size binaryWidths _ (binary-count s code) ∙ counts .1
+
+-- A trace's fields are 180 bytes.
+fields-size : (s : List ℕ) (at : ℕ) → length (numberBytes traceWidths (map (fieldNumber s at) traceFields)) ≡ 180
+fields-size s at = numbers-size traceWidths _ (fields-count s at) ∙ counts .3
+
+-- A sample takes the bytes of a sample under the code.
+sample-size : (code : ℕ) (v : ℤ) → length (sampleWritten code v) ≡ sampleBytes code
+sample-size code v = go (eqb code 3) (wordOf code v)
+  where
+    go : (b : Bool) (w : Written) → length (take (pick b 2 4) (wordContent w)) ≡ pick b 2 4
+    go true (Word n) = refl
+    go true (Refused number) = refl
+    go false (Word n) = refl
+    go false (Refused number) = refl
+
+-- A trace takes 240 bytes and those of its n samples.
+trace-size : (s : List ℕ) (code n at : ℕ) → length (traceWritten code (heldTrace s n at)) ≡ stride n (sampleBytes code)
+unfolding traceWritten heldTrace
+trace-size s code n at =
+    let values = flat (map (sampleWritten code) (walk (heldValue s) pairLength n (at + 186))) in
+    let a = length-append (numberBytes traceWidths (map (fieldNumber s (at + 3)) traceFields)) (replicate 60 0 ++ values) in
+    let b = length-append (replicate 60 0) values in
+    let c = flat-length (sampleWritten code) (heldValue s) (sampleBytes code) (λ p. sample-size code (heldValue s p)) pairLength n (at + 186) in
+    let d : length {A = ℕ} (replicate 60 0) ≡ 60 = refl in
+    omega (arith, a, b, c, d, fields-size s (at + 3))
+
+-- THEOREM. The reel that is written is as long as the length returned: 3600 + T × (240 + N × the bytes of a sample).
+pub reel-size : (s : List ℕ) (code : ℕ) → length (reelOf code (heldBy s)) ≡ lengthOf s code
+unfolding reelOf heldBy
+reel-size s code =
+    let n = heldSamples s in
+    let binary = binaryBytes code (map (fieldNumber s 6) (otherThan 3225 binaryFields)) in
+    let traces = flat (map (traceWritten code) (walk (heldTrace s n) (heldStride n) (heldTraces s n) firstField)) in
+    let a = length-append (bytesAt s 3 cardBytes) (binary ++ (replicate 340 0 ++ traces)) in
+    let b = length-append binary (replicate 340 0 ++ traces) in
+    let c = length-append (replicate 340 0) traces in
+    let d : length {A = ℕ} (replicate 340 0) ≡ 340 = refl in
+    let e = flat-length (traceWritten code) (heldTrace s n) (stride n (sampleBytes code)) (λ p. trace-size s code n p) (heldStride n) (heldTraces s n) firstField in
+    omega (arith, a, b, c, d, e, binary-size s code, size-bytes s 3 cardBytes)
