@@ -1,0 +1,578 @@
+"""Test vectors for writing reels, worked out from document 01 alone.
+
+Run from the root of the repository:  python3 tools/vectors/write_vectors.py [--check | --list]
+It rewrites crates/write_vectors/stdin and crates/write_vectors/stdout; with
+--check it compares them with what it would write, and with --list it prints
+what each case is about beside its line, and neither writes anything.
+
+The rules are those of tools/vectors/records.py. Beside them nearly every case
+has its answer worked out by hand, and both must agree. Each written reel is
+read by the rules of tools/vectors/reels.py, and its record must come back.
+
+stdin is a row of cases without anything between them, at most 1,000,000 bytes:
+    1 byte     target code
+    4 bytes    room, the length of the output, big-endian, at most 60,000
+    4 bytes    length of the record, big-endian, at most 60,000
+    the record
+
+The output holds bytes A5 before each call. stdout has a line for each case:
+    taken T N LENGTH DIGEST AGAIN
+    refused NUMBER BESIDE DIGEST
+DIGEST is that of the whole output after the call, all its room. AGAIN is the
+digest of the record that reading the written reel gives. A digest is 0 at
+first, and each byte b makes (digest * 31 + b) mod 2^32 of it. All numbers are
+decimal.
+
+Trace 100,001 can't be reached here: 100,000 traces take more than 19 million
+bytes. records.py checks the rules there.
+"""
+
+import random
+import sys
+from collections import Counter
+from pathlib import Path
+
+sys.path.insert(0, str(Path(__file__).resolve().parent))
+sys.dont_write_bytecode = True
+
+from reels import (  # noqa: E402
+    BINARY_FIELDS, TRACE_FIELDS, example, pair_of_word, read_reel, record_length, sample_size,
+    some_bytes, trace_size, whole16,
+)
+from records import (  # noqa: E402
+    make_fields, make_record, place_of_card, place_of_end, place_of_field, place_of_pair,
+    place_of_samples, place_of_trace, reel_length, refilled, relengthed, retagged, some_fields,
+    some_traces, with_bytes, write_into,
+)
+from samples import pair_bytes  # noqa: E402
+
+FOLDER = Path(__file__).resolve().parents[2] / "crates" / "write_vectors"
+
+CODES = (1, 2, 3, 4)
+MOST = 60000  # of room and of a record
+MOST_STDIN = 900000
+FILLING = b"\xA5"
+
+
+def digest(some):
+    d = 0
+    for b in some:
+        d = (d * 31 + b) % 2 ** 32
+    return d
+
+
+def check_written(record, said):
+    """The written reel gives the record again, and carries nothing else but its code."""
+    _, t, n, length, reel = said
+    code = reel[3225]
+    assert length == len(reel) == 3600 + t * (240 + n * sample_size(code))
+    assert read_reel(reel, len(record)) == (("taken", t, n, len(record)), record)
+    assert not any(reel[3260:3600])
+    for start in range(3600, length, trace_size(code, n)):
+        assert not any(reel[start + 180 : start + 240])
+
+
+class Cases:
+    def __init__(self):
+        self.all = []  # what it is in words, the bytes of the case, its line
+        self.seen = set()
+        self.kinds = Counter()
+
+    def put(self, what, record, code, room, by_hand=None):
+        """A case; the line's beginning where it was worked out by hand."""
+        assert code <= 255 and room <= MOST and len(record) <= MOST
+        said, output = write_into(record, code, FILLING * room)
+        line = " ".join(str(item) for item in said[:4])
+        assert by_hand in (None, line), (what, by_hand, line)
+        line += f" {digest(output)}"
+        if said[0] == "taken":
+            check_written(record, said)
+            line += f" {digest(read_reel(said[4], len(record))[1])}"
+            self.kinds[f"taken, code {code}"] += 1
+        else:
+            assert output == FILLING * room
+            self.kinds[f"refused by {said[1]}"] += 1
+        case = bytes([code]) + room.to_bytes(4, "big") + len(record).to_bytes(4, "big") + record
+        assert case not in self.seen, what
+        self.seen.add(case)
+        self.all.append((what, case, line))
+
+    def taken(self, what, record, code, t, n, more=0):
+        """A record that is taken; the room is what the reel needs, and so much more."""
+        length = 3600 + t * (240 + n * sample_size(code))
+        self.put(what, record, code, length + more, f"taken {t} {n} {length}")
+
+    def refused(self, what, record, number, beside, code=None, room=None):
+        """A record that is refused, by any code and with any room if none is named."""
+        turn = len(self.all)
+        if code is None:
+            code = CODES[turn % 4]
+        if room is None:
+            room = (4600, 0, 5000, 3600, 4096)[turn % 5]
+        self.put(what, record, code, room, f"refused {number} {beside}")
+
+
+def pairs(some):
+    return [pair_bytes(e, m) for e, m in some]
+
+
+def whole(*numbers):
+    """The pairs of whole numbers of 16 bits, which fit every code."""
+    return [pair_of_word(3, whole16(number)) for number in numbers]
+
+
+def joined(fields):
+    return b"".join(fields)
+
+
+# ------------------------------------------------------------------- taken
+
+
+def good_records(x, rnd):
+    record = read_reel(example(), 3471)[1]
+    x.taken("the paper's example, exact room", record, 1, 1, 2)
+    x.refused("the paper's example, one byte short", record, 10, 3848, 1, 3847)
+    x.taken("the paper's example, code 4", record, 4, 1, 2, 152)
+    x.refused("the paper's example, code 3, no room", record, 14, 3458, 3, 0)
+    # random headers and samples
+    for code in CODES:
+        for t, n, more in ((1, 40, 1), (2, 17, 0), (4, 6, 300)):
+            record = joined(some_fields(rnd, some_traces(rnd, code, n, t), 1 + rnd.getrandbits(14)))
+            x.taken(f"any record of {t} traces of {n} samples, code {code}", record, code, t, n, more)
+    # whole numbers of 16 bits under every code
+    numbers = (0, 1, -1, 2, 127, 128, 255, 256, -256, 32767, -32767, 16384, -16384, -32768)
+    record = joined(some_fields(rnd, [whole(*numbers), whole(*numbers[::-1])], 32767))
+    for code in CODES:
+        x.taken(f"whole numbers of 16 bits, code {code}", record, code, 2, len(numbers))
+    # all FF, then all 00, in every field that is free, with N and interval 1
+    record = make_record(1, 1, [whole(-1), whole(0)], b"\xFF" * 3200, rest=b"\xFF" * 60,
+                         trace_rest=[b"\xFF" * 180, bytes(180)])
+    x.taken("fields all FF, then all 00", record, 2, 2, 1)
+    # every field has a number of its own
+    binary = {b: b for b in BINARY_FIELDS if b not in (3217, 3221, 3225)}
+    header = {b: 256 * i - b for i, b in enumerate(TRACE_FIELDS) if b not in (115, 117)}
+    record = make_record(500, 3, [whole(1, 2, 3), whole(4, 5, 6)], fields=binary, trace_fields={1: header})
+    x.taken("every field of its own", record, 1, 2, 3)
+
+
+def no_traces(x, rnd):
+    every = bytes(1 + i % 255 for i in range(3200))  # every card byte but 00
+    for code, interval, n, more in ((1, 1, 1, 0), (2, 32767, 8000, 1), (3, 256, 255, 400), (4, 255, 256, 0)):
+        record = make_record(interval, n, [], every[code:] + every[:code], rest=some_bytes(rnd, 60))
+        x.taken(f"no traces, code {code}", record, code, 0, n, more)
+    x.refused("no traces, one byte short", record, 10, 3600, 4, 3599)
+    record = make_record()
+    x.refused("no traces, no room", record, 10, 3600, 1, 0)
+    x.taken("no traces, the longest room", record, 2, 0, 2, MOST - 3600)
+
+
+def long_records(x, rnd):
+    # 6N is 48,000, which needs all 16 bits of a field's length
+    record = joined(some_fields(rnd, some_traces(rnd, 3, 8000, 1)))
+    x.taken("8,000 samples", record, 3, 1, 8000)
+    # the count of traces takes two bytes; the reel is longer than any room here
+    record = make_record(9, 1, [whole(i - 128) for i in range(257)])
+    x.refused("257 traces", record, 10, 3600 + 257 * 244, 1, MOST)
+
+
+# Pairs (e, m) that fit a code, and such as don't, at the edges of what it holds.
+FITS = {
+    1: [
+        (0, 0), (0, 1), (0, -1), (-3, -949),
+        (-280, 1), (-280, -1), (-280, 15), (-280, 0xFFFFF), (-280, 0x100001), (-280, 0xFFFFFF),
+        (-279, 1), (-279, 0x7FFFFF), (-278, -0x3FFFFF), (-277, 0x1FFFFF), (-276, 0xFFFFF), (-276, 0xFFFFFF),
+        (-276, 1), (-261, 1), (-260, 1), (-257, -1), (-256, 1), (-256, 0xFFFFF), (-255, 1),
+        (251, 1), (251, -1), (250, 3), (249, 7), (248, 15), (247, 31), (232, 0xFFFFF), (231, 0x1FFFFF),
+        (228, 0xFFFFFF), (228, -0xFFFFFF), (228, 1), (229, 0x7FFFFF), (230, -0x3FFFFF),
+        (0, 0xFFFFFF), (0, -0xFFFFFF), (4, 2097151), (4, -2097151), (1, 0x7FFFFF), (2, 0x3FFFFF),
+        (3, 0x1FFFFF), (-1, 0x1FFFFF), (-2, 0x3FFFFF), (-3, 0x7FFFFF), (-4, 0xFFFFFF), (31, -1),
+    ],
+    2: [
+        (0, 0), (0, 1), (0, -1), (0, 2 ** 31 - 1), (0, -(2 ** 31 - 1)), (31, -1), (30, 1), (30, -1),
+        (1, 2 ** 30 - 1), (1, -(2 ** 30 - 1)), (29, 3), (29, -3), (16, 32767), (16, -32767),
+        (0, 16777217), (15, 1), (15, -1), (1, 1),
+    ],
+    3: [
+        (0, 0), (0, 1), (0, -1), (0, 32767), (0, -32767), (15, -1), (14, 1), (14, -1),
+        (1, 16383), (1, -16383), (13, 3), (13, -3), (8, 127), (8, -127), (7, 255), (1, 1),
+    ],
+    4: [
+        (0, 0), (0, 1), (0, -1), (0, 32767), (0, -32767), (15, -1), (14, 1), (14, -1),
+        (1, 16383), (1, -16383), (13, 3), (-1, 1), (-1, -32767), (-1, 32767), (-3, -949), (-15, -1),
+        (-16, 1), (-240, -1), (-254, 32767), (-255, 1), (-255, -1), (-255, 32767), (-255, -32767),
+    ],
+}
+DOESNT_FIT = {
+    1: [
+        (0, 16777217), (1, 16777215), (2, -0x7FFFFF), (3, 0x3FFFFF), (-279, 0xFFFFFF), (-280, 16777217),
+        (251, 3), (229, -0xFFFFFF),
+    ],
+    2: [(31, 1), (32, -1), (-1, -1), (1, 2 ** 30 + 1), (30, -3)],
+    3: [(15, 1), (16, -1), (0, 32769), (0, -32769), (-1, 1)],
+    4: [(15, 1), (16, -1), (0, 32769), (0, -32769), (-256, 1), (-255, 32769), (-280, -1)],
+}
+
+
+def edges(x, rnd):
+    for code in CODES:
+        fit = pairs(FITS[code])
+        half = len(fit) // 2
+        n = len(fit) - half
+        traces = [fit[:n], fit[half:]]
+        x.taken(f"pairs at the edges, code {code}", joined(some_fields(rnd, traces)), code, 2, n)
+        # one that doesn't fit among others that do, now here, now there; room for the reel or none
+        for turn, bad in enumerate(DOESNT_FIT[code]):
+            t, n, i, k = (
+                (1, 1, 1, 1), (2, 3, 1, 3), (2, 3, 2, 1), (3, 2, 3, 2), (2, 5, 2, 3), (1, 9, 1, 9),
+            )[(turn + code) % 6]
+            traces = [[fit[rnd.getrandbits(16) % len(fit)] for _ in range(n)] for _ in range(t)]
+            traces[i - 1][k - 1] = pair_bytes(*bad)
+            x.refused(f"e {bad[0]}, m {bad[1]} doesn't fit code {code}", joined(some_fields(rnd, traces)),
+                      14, place_of_pair(i, n, k), code, reel_length(t, n, code) * (turn % 3 != 0))
+    # the same record fits one code and not another
+    traces = [whole(1, 2), pairs([(0, 5), (0, 32769)]), pairs([(-1, 1), (0, 3)])]
+    record = joined(some_fields(rnd, traces))
+    x.taken("fits code 1 alone", record, 1, 3, 2, 7)
+    x.refused("fits code 1 and not 2", record, 14, place_of_pair(3, 2, 1), 2)
+    x.refused("fits code 1 and not 4", record, 14, place_of_pair(2, 2, 2), 4)
+
+
+def room(x, rnd):
+    for code, t, n in ((2, 1, 3), (3, 3, 4), (4, 2, 2)):
+        record = joined(some_fields(rnd, some_traces(rnd, code, n, t)))
+        length = reel_length(t, n, code)
+        x.refused(f"code {code}, one byte short", record, 10, length, code, length - 1)
+    record = joined(some_fields(rnd, [whole(*range(30)), whole(*range(-30, 0))]))
+    x.refused("room for code 3, but code 2", record, 10, 4320, 2, 4200)
+    x.taken("room for code 3", record, 3, 2, 30, 120)
+    record = joined(some_fields(rnd, some_traces(rnd, 1, 4, 1)))
+    x.refused("room for the record, but not for the reel", record, 10, 3856, 1, record_length(1, 4))
+
+
+# ------------------------------------------------------------ target codes
+
+
+def bad_codes(x, rnd):
+    for code in (0, 5, 6, 7, 8, 16, 64, 127, 128, 129, 132, 254, 255):
+        x.refused(f"code {code}, an empty record", b"", 11, 0, code, code)
+    x.refused("code 5, a good record", make_record(traces=[whole(1, 2)]), 11, 0, 5, 4000)
+
+
+# ---------------------------------------------------------- the form: 12
+
+
+def wrong_tags(x, rnd):
+    # fields 0 and 1, then two for each trace, then the last
+    for traces, k, tags in (
+        (0, 0, (0x02, 0x81)), (0, 1, (0x03, 0x05)), (0, 2, (0x06,)), (1, 2, (0x04,)), (2, 4, (0x13,)),
+        (1, 3, (0x03, 0x05)), (2, 5, (0x44,)), (1, 4, (0x03, 0x85)),
+    ):
+        for tag in tags:
+            fields = some_fields(rnd, some_traces(rnd, 3, 1, traces), n=1)
+            was, place = fields[k][0], len(joined(fields[:k]))
+            fields[k] = retagged(fields[k], tag)
+            x.refused(f"tag {tag:02X} for {was:02X}, {traces} traces", joined(fields), 12, place)
+
+
+def wrong_lengths(x, rnd):
+    for traces, k, lengths in (
+        (0, 0, (0x0C81, 0x8C80)), (0, 1, (0x003B, 0x013C)), (1, 2, (0x00B5, 0x01B4)),
+        (1, 3, (0x010C, 0x0006)), (2, 5, (0x0012,)), (0, 2, (0x0005,)), (1, 4, (0x0104,)),
+    ):
+        for length in lengths:
+            fields = some_fields(rnd, some_traces(rnd, 3, 2, traces), n=2)
+            place = len(joined(fields[:k]))
+            tag = fields[k][0]
+            fields[k] = relengthed(fields[k], length)
+            x.refused(f"length {length:04X} in tag {tag:02X}", joined(fields), 12, place)
+    # the content follows the length
+    for traces, k, lengths in (
+        (0, 0, (0, 3280)), (0, 1, (62,)), (1, 2, (240,)), (1, 3, (6, 18)), (2, 5, (0,)), (0, 2, (2,)),
+        (1, 4, (8,)),
+    ):
+        for length in lengths:
+            fields = some_fields(rnd, some_traces(rnd, 3, 2, traces), n=2)
+            place = len(joined(fields[:k]))
+            filling = (fields[k][3:] + fields[k][-6:] * 40)[:length]
+            tag = fields[k][0]
+            fields[k] = refilled(fields[k], filling)
+            assert len(fields[k]) == 3 + length
+            x.refused(f"length and content {length} in tag {tag:02X}", joined(fields), 12, place)
+
+
+def cut_short(x, rnd):
+    for traces, k, kept in (
+        (0, 0, (0, 1, 2, 3, 4, 100, 3202)), (0, 1, (0, 1, 3, 62)), (1, 2, (1, 3, 182)), (2, 4, (2,)),
+        (1, 3, (0, 2, 14)), (2, 5, (9,)), (0, 2, (0, 2, 6)), (2, 6, (0, 6)),
+    ):
+        for some in kept:
+            fields = some_fields(rnd, some_traces(rnd, 3, 2, traces), n=2)
+            front, field = joined(fields[:k]), fields[k]
+            assert some < len(field)
+            what = f"cut after {some} bytes of tag {field[0]:02X}" if some else f"no tag {field[0]:02X}"
+            x.refused(f"{what}, {traces} traces", front + field[:some], 12, len(front))
+
+
+def missing_and_twice(x, rnd):
+    def fields(t):
+        return some_fields(rnd, some_traces(rnd, 3, 1, t), n=1)
+
+    a = fields(0)
+    x.refused("no tag 01, the rest follows", joined(a[1:]), 12, 0)
+    x.refused("no tag 02, the rest follows", a[0] + a[2], 12, 3203)
+    x.refused("tag 01 twice", a[0] + joined(a), 12, 3203)
+    x.refused("tag 02 twice", joined(a[:2]) + joined(a[1:]), 12, 3266)
+    a = fields(1)
+    x.refused("no tag 03, its samples follow", joined(a[:2] + a[3:]), 12, 3266)
+    x.refused("tag 03 twice", joined(a[:3] + a[2:]), 12, place_of_samples(1, 1))
+    x.refused("no tag 04, tag 05 follows", joined(a[:3] + a[4:]), 12, place_of_samples(1, 1))
+    x.refused("tag 04 twice", joined(a[:4] + a[3:]), 12, place_of_trace(2, 1))
+    x.refused("tag 05 before the trace", joined(a[:2] + a[4:] + a[2:4]), 12, 3266)
+    a = fields(2)
+    x.refused("no tag 04 in trace 1, trace 2 follows", joined(a[:3] + a[4:]), 12, place_of_samples(1, 1))
+
+
+def counts_and_more(x, rnd):
+    for t, count in ((0, 1), (1, 0), (2, 1), (2, 0x102), (1, 0x01010001), (1, 0x80000001)):
+        fields = some_fields(rnd, some_traces(rnd, 3, 1, t), n=1)
+        fields[-1] = refilled(fields[-1], count.to_bytes(4, "big"))
+        x.refused(f"count {count} with {t} traces", joined(fields), 12, place_of_end(t, 1))
+    for t, more in ((0, b"\x00"), (2, b"\x05")):
+        record = joined(some_fields(rnd, some_traces(rnd, 3, 1, t), n=1))
+        x.refused(f"one byte {more.hex()} after {t} traces", record + more, 12, len(record))
+    fields = some_fields(rnd, some_traces(rnd, 3, 1, 1))
+    record = joined(fields)
+    x.refused("tag 05 twice", record + fields[-1], 12, len(record))
+    x.refused("a trace after tag 05", record + joined(fields[2:4]), 12, len(record))
+    x.refused("a whole record, then a trace and its count",
+              joined(fields[:2]) + make_fields()[-1] + joined(fields[2:]), 12, 3273)
+
+
+# ------------------------------------------------------ the numbers: 13
+
+
+def wrong_numbers(x, rnd):
+    good = make_record()
+    for places in ((0,), (1600,), (3199,), (79, 80, 1000)):
+        record = good
+        for i in places:
+            record = with_bytes(record, place_of_card(i), b"\x00")
+        x.refused(f"00 at card bytes {places}", record, 13, place_of_card(places[0]))
+    # tag 02: interval at 3222, N at 3226, code at 3230; without traces and with one laid out for N 2
+    for number, t in ((0, 0), (32768, 1)):
+        x.refused(f"interval {number}", joined(some_fields(
+            rnd, [whole(1, 2)] * t, n=2, fields={3217: number}, trace_fields={1: {117: number}})), 13, 3222)
+    for number, t in ((8001, 0), (32768, 1), (65535, 0)):
+        x.refused(f"N {number}", joined(some_fields(
+            rnd, [whole(1, 2)] * t, n=2, fields={3221: number}, trace_fields={1: {115: number}})), 13, 3226)
+    x.refused("N 0, and traces without samples", joined(some_fields(rnd, [[]], n=0)), 13, 3226)
+    for number, t in ((3, 1), (256, 0)):
+        x.refused(f"code {number} in the record", joined(some_fields(
+            rnd, [whole(1, 2)] * t, n=2, fields={3225: number})), 13, 3230, code=3)
+    for what, place in (
+        ({3217: 0, 3221: 0}, 3222), ({3217: 40000, 3225: 1}, 3222), ({3221: 9000, 3225: 2}, 3226),
+        ({3217: 0, 3221: 0, 3225: 4}, 3222),
+    ):
+        x.refused(f"binary fields {what}", joined(some_fields(rnd, [], n=2, fields=what)), 13, place)
+    # fields beside them may be anything
+    fields = {3213: 0, 3215: 0, 3219: -1, 3223: 0, 3227: 3, 3229: -1}
+    x.taken(f"binary fields {fields}", joined(some_fields(rnd, [], n=2, fields=fields)), 3, 0, 2)
+
+
+def wrong_trace_numbers(x, rnd):
+    # N is 3, the interval 770 = 0302
+    def record(t, faults):
+        return joined(some_fields(rnd, [whole(i, 2, 3) for i in range(t)], 770, trace_fields=faults))
+
+    for t, i, number in ((1, 1, 0), (2, 2, 2), (1, 1, 259), (3, 3, 4)):
+        x.refused(f"field 115 {number} in trace {i} of {t}, N 3", record(t, {i: {115: number}}),
+                  13, place_of_field(i, 3, 115))
+    for t, i, number in ((1, 1, 0), (2, 2, 771), (1, 1, 2), (3, 3, 769)):
+        x.refused(f"field 117 {number} in trace {i} of {t}, interval 770", record(t, {i: {117: number}}),
+                  13, place_of_field(i, 3, 117))
+    for faults, i, b in (
+        ({1: {115: 0, 117: 0}}, 1, 115), ({2: {115: 770, 117: 3}}, 2, 115),
+        ({2: {117: 0}, 3: {115: 0}}, 2, 117),
+    ):
+        x.refused(f"trace fields {faults}", record(3, faults), 13, place_of_field(i, 3, b))
+    faults = {1: {113: 0, 119: 0}, 2: {111: 3, 113: 770, 119: 3, 121: 770}}
+    x.taken(f"trace fields {faults}", record(2, faults), 2, 2, 3)
+
+
+def wrong_pairs(x, rnd):
+    places = ((1, 1, 1, 1), (1, 4, 1, 4), (2, 3, 2, 2), (2, 3, 1, 3), (3, 2, 3, 2), (2, 4, 2, 1))
+    for turn, (e, m) in enumerate((
+        (0, 2), (-280, 2 ** 30), (251, -6), (0, -(2 ** 31)),  # m even
+        (-281, 1), (252, -1), (-32768, 1), (32767, 1),  # e out of range
+        (1, 0), (-1, 0), (256, 0),  # m 0 and e not 0
+    )):
+        t, n, i, k = places[turn % len(places)]
+        traces = some_traces(rnd, 1, n, t)
+        traces[i - 1][k - 1] = pair_bytes(e, m)
+        x.refused(f"e {e}, m {m} isn't canonical", joined(some_fields(rnd, traces)), 13,
+                  place_of_pair(i, n, k), code=1)
+    traces = some_traces(rnd, 2, 3, 2)
+    traces[0][2] = traces[1][0] = pair_bytes(0, 4)
+    x.refused("two pairs that aren't canonical", joined(some_fields(rnd, traces)), 13, place_of_pair(1, 3, 3))
+
+
+# -------------------------------------------------------------- the order
+
+
+def order(x, rnd):
+    """Several causes at once. N is 2 and the interval 2000 where nothing else is said."""
+    even, unfit = pair_bytes(0, 2), pair_bytes(251, 3)
+
+    def fields(*traces, **named):
+        return some_fields(rnd, [list(trace) for trace in traces], n=2, **named)
+
+    one = whole(1, -2)
+    # 12 before 13 within a field
+    a = fields()
+    x.refused("tag 01 wrong, its first card byte 00",
+              joined([retagged(with_bytes(a[0], 3, b"\x00"), 9)] + a[1:]), 12, 0)
+    x.refused("tag 01 cut short, its first card byte 00", b"\x01\x0C\x80\x00", 12, 0)
+    a = fields(fields={3217: 0})
+    x.refused("tag 02 of wrong length, its interval 0", joined([a[0], relengthed(a[1], 61), a[2]]), 12, 3203)
+    x.refused("tag 02 cut short, its interval 0", joined(a[:2])[:-1], 12, 3203)
+    a = fields(one, trace_fields={1: {115: 3}})
+    x.refused("tag 03 of wrong length, its field 115 wrong", joined(a[:2] + [relengthed(a[2], 181)] + a[3:]),
+              12, 3266)
+    x.refused("tag 03 cut short, its field 115 wrong", joined(a[:3])[:-1], 12, 3266)
+    a = fields([even, one[0]])
+    x.refused("tag 04 of wrong length, its first pair even", joined(a[:3] + [relengthed(a[3], 6)] + a[4:]),
+              12, place_of_samples(1, 2))
+    x.refused("tag 04 cut short, its first pair even", joined(a[:4])[:-1], 12, place_of_samples(1, 2))
+    # 13 in an earlier field before 12 in a later one
+    a = fields(one)
+    bad = with_bytes(a[0], 3202, b"\x00")
+    x.refused("last card byte 00, tag 02 wrong", joined([bad, retagged(a[1], 3)] + a[2:]), 13, 3202)
+    a = fields(one, fields={3225: 1})
+    x.refused("code 1 in tag 02, tag 03 wrong", joined(a[:2] + [retagged(a[2], 4)] + a[3:]), 13, 3230)
+    a = fields(one, trace_fields={1: {117: 0}})
+    x.refused("field 117 wrong, nothing follows", joined(a[:3]), 13, place_of_field(1, 2, 117))
+    a = fields([one[0]], trace_fields={1: {115: 1}})
+    x.refused("field 115 and the samples of 1, N 2", joined(a), 13, place_of_field(1, 2, 115))
+    a = fields([one[0], even], one)
+    x.refused("the last pair of trace 1 even, tag 03 of trace 2 wrong",
+              joined(a[:4] + [retagged(a[4], 6)] + a[5:]), 13, place_of_pair(1, 2, 2))
+    x.refused("the last pair even, no tag 05", joined(a[:4]), 13, place_of_pair(1, 2, 2))
+    x.refused("the last pair even, bytes after the record",
+              joined(fields(one, [one[0], even])) + b"\x00", 13, place_of_pair(2, 2, 2))
+    # 12 in an earlier field before 13 in a later one
+    a = fields([even, even], fields={3217: 0}, trace_fields={1: {115: 0}})
+    x.refused("tag 02 wrong, all else too", joined([a[0], retagged(a[1], 1)] + a[2:]), 12, 3203)
+    a = fields(one, [even, even], trace_fields={2: {115: 0}})
+    x.refused("tag 04 wrong in trace 1, all wrong in trace 2", joined(a[:3] + [retagged(a[3], 5)] + a[4:]),
+              12, place_of_samples(1, 2))
+    # 13 before 13, front to back
+    a = fields([even, even], fields={3217: 0, 3221: 0}, trace_fields={1: {115: 0, 117: 0}})
+    x.refused("a card byte 00, all numbers wrong", joined([with_bytes(a[0], 2000, b"\x00")] + a[1:]), 13, 2000)
+    a = fields([even, even], fields={3221: 8001}, trace_fields={1: {115: 0, 117: 0}})
+    x.refused("N wrong, and all numbers of trace 1", joined(a), 13, 3226)
+    a = fields([even, even], one, trace_fields={1: {117: 1999}, 2: {115: 3}})
+    x.refused("field 117 and the pairs of trace 1, field 115 of trace 2", joined(a),
+              13, place_of_field(1, 2, 117))
+    a = fields([one[0], even], one, trace_fields={2: {115: 3}})
+    x.refused("a pair of trace 1, field 115 of trace 2", joined(a), 13, place_of_pair(1, 2, 2))
+    # the count before what stands after it
+    a = fields(one)
+    x.refused("a wrong count and bytes after it", joined(a[:-1]) + bytes.fromhex("050004 00000002 00"),
+              12, place_of_end(1, 2))
+    # 12 and 13 before 14
+    a = fields([unfit, one[0]], one)
+    x.refused("14 in trace 1, bytes after the record", joined(a) + b"\x05", 12, place_of_end(2, 2) + 7)
+    x.refused("14 in trace 1, a wrong count", joined(a[:-1]) + bytes.fromhex("050004 00000001"),
+              12, place_of_end(2, 2))
+    x.refused("14 in trace 1, trace 2 cut short", joined(a[:6])[:-1], 12, place_of_samples(2, 2))
+    a = fields([unfit, one[0]], [one[0], even])
+    x.refused("14 in trace 1, 13 in the last pair of trace 2", joined(a), 13, place_of_pair(2, 2, 2))
+    a = fields([unfit, one[0]], one, trace_fields={2: {117: 0}})
+    x.refused("14 in trace 1, 13 in field 117 of trace 2", joined(a), 13, place_of_field(2, 2, 117))
+    a = fields([unfit, even])
+    x.refused("14, then 13 in the next pair", joined(a), 13, place_of_pair(1, 2, 2))
+    # 14, first sample first, before 10
+    record = joined(fields([one[0], unfit], [unfit, one[0]]))
+    for code, some in ((1, 4096), (2, 0), (3, 4087), (4, 4095)):
+        x.refused(f"14 in traces 1 and 2, room {some}", record, 14, place_of_pair(1, 2, 2), code, some)
+    # 12 and 13 before 10
+    a = fields(one)
+    x.refused("no room, bytes after the record", joined(a) + b"\x00", 12, len(joined(a)), 2, 0)
+    x.refused("one byte short, an even pair", joined(fields([one[0], even])),
+              13, place_of_pair(1, 2, 2), 3, 3843)
+    # 11 before all
+    a = fields([unfit, even], fields={3217: 0})
+    x.refused("11, 12, 13, 14 and 10", joined([retagged(a[0], 0)] + a[1:]), 11, 0, 0, 0)
+    x.refused("11, 14 and 10", joined(fields([unfit, unfit])), 11, 0, 6, 3600)
+    x.refused("11 and 10", joined(fields(one)), 11, 0, 5, 3847)
+
+
+# ----------------------------------------------------------- small changes
+
+
+def small_changes(x, rnd):
+    """Good records with a byte changed where it counts, or cut, or with bytes added."""
+    for turn in range(8):
+        code, n, t = 1 + rnd.getrandbits(2), 1 + rnd.getrandbits(2), 1 + rnd.getrandbits(1)
+        record = bytearray(joined(some_fields(rnd, some_traces(rnd, code, n, t))))
+        i, k = 1 + rnd.getrandbits(16) % t, 1 + rnd.getrandbits(16) % n
+        first, span = (
+            (0, len(record)), (3203, 3), (3222, 10), (place_of_trace(i, n), 3),
+            (place_of_field(i, n, 113), 8), (place_of_samples(i, n), 3), (place_of_pair(i, n, k), 6),
+            (place_of_end(t, n), 7),
+        )[turn]
+        place = first + rnd.getrandbits(16) % span
+        record[place] ^= 1 << rnd.getrandbits(3)
+        x.put(f"code {code}, N {n}, T {t}, the byte at place {place} changed to {record[place]:02X}",
+              bytes(record), code, reel_length(t, n, code))
+
+
+def any_bytes(x, rnd):
+    """Short input of any bytes, and short input that begins well."""
+    for code in CODES:
+        for front in ("00", "01", "0500040000 0000", "010C8040404040"):
+            record = bytes.fromhex(front) + some_bytes(rnd, rnd.getrandbits(5))
+            x.refused(f"some {len(record)} bytes, code {code}", record, 12, 0, code, 1 + rnd.getrandbits(9))
+    for _ in range(8):
+        record, code = some_bytes(rnd, rnd.getrandbits(6)), rnd.getrandbits(8) | 8
+        x.refused(f"any {len(record)} bytes, code {code}", record, 11, 0, code, rnd.getrandbits(9))
+
+
+PARTS = (
+    good_records, no_traces, long_records, edges, room, bad_codes, wrong_tags, wrong_lengths, cut_short,
+    missing_and_twice, counts_and_more, wrong_numbers, wrong_trace_numbers, wrong_pairs, order,
+    small_changes, any_bytes,
+)
+
+
+def all_cases():
+    x = Cases()
+    for seed, part in enumerate(PARTS):
+        part(x, random.Random(1975 + seed))
+    return x
+
+
+def main():
+    x = all_cases()
+    text_out = "".join(line + "\n" for _, _, line in x.all)
+    files = {"stdin": b"".join(case for _, case, _ in x.all), "stdout": text_out.encode("ascii")}
+    assert len(files["stdin"]) < MOST_STDIN
+    if sys.argv[1:] == ["--check"]:
+        for name, content in files.items():
+            if (FOLDER / name).read_bytes() != content:
+                sys.exit(f"write_vectors.py: {FOLDER.name}/{name} isn't what the rules give")
+        print(f"write_vectors.py: {len(x.all)} vectors are what the rules give")
+        return
+    if sys.argv[1:] == ["--list"]:
+        for turn, (what, _, line) in enumerate(x.all, 1):
+            print(f"{turn:5d}  {line}  ({what})")
+        return
+    for name, content in files.items():
+        (FOLDER / name).write_bytes(content)
+    for kind in sorted(x.kinds):
+        print(f"{x.kinds[kind]:5d}  {kind}")
+    print(f"{len(x.all):5d}  cases, {len(files['stdin'])} bytes")
+
+
+if __name__ == "__main__":
+    main()
