@@ -76,6 +76,11 @@ byte-at [] h i = omega arith
 byte-at (b ∷ s) h zero = h .0
 byte-at (b ∷ s) h (suc i) = byte-at s (h .1) i
 
+-- and where it has one at every offset, it is a list of bytes
+pub all-bytes : (s : List ℕ) → ((i : ℕ) → getD s i 0 < 256) → Bytes s
+all-bytes [] h = tt
+all-bytes (b ∷ s) h = (h 0, all-bytes s (λ i. h (suc i)))
+
 pub bytes-at : (s : List ℕ) → Bytes s → (at k : ℕ) → Bytes (bytesAt s at k)
 unfolding bytesAt
 bytes-at s h at k = all-at (λ b. b < 256) (λ a. getD s a 0) (byte-at s h) 1 k at

@@ -25,6 +25,16 @@ then-stop c d e = e ∙ ap (λ x. then x d) (sym e)
 pub then-next : (c d : Check) → c ≡ Fine → d ≡ then c d
 then-next c d e = ap (λ x. then x d) (sym e)
 
+-- Checks one after the other, however they are grouped.
+pub then-assoc : (a b c : Check) → then (then a b) c ≡ then a (then b c)
+then-assoc Fine b c = refl
+then-assoc (Refused number place) b c = refl
+
+-- A check before none.
+pub then-last : (c : Check) → then c Fine ≡ c
+then-last Fine = refl
+then-last (Refused number place) = refl
+
 -- A walk of no step finds nothing.
 pub first-none : (f : ℕ → Check) (w k at : ℕ) → k ≤ 0 → Fine ≡ firstOf (walk f w k at)
 first-none f w zero at h = refl

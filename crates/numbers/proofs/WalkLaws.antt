@@ -152,6 +152,17 @@ four-bytes s at =
     let a : at + 1 + 1 ≡ at + 2 = omega arith in
     rw (b, a)
 
+-- the six bytes from an offset on, one by one
+pub six-bytes : (s : List ℕ) (at : ℕ)
+    → bytesAt s at 6 ≡ getD s at 0 ∷ getD s (at + 1) 0 ∷ getD s (at + 2) 0 ∷ getD s (at + 3) 0 ∷ getD s (at + 4) 0 ∷ getD s (at + 5) 0 ∷ []
+unfolding bytesAt
+six-bytes s at =
+    let d : at + 1 + 1 + 1 + 1 + 1 ≡ at + 5 = omega arith in
+    let c : at + 1 + 1 + 1 + 1 ≡ at + 4 = omega arith in
+    let b : at + 1 + 1 + 1 ≡ at + 3 = omega arith in
+    let a : at + 1 + 1 ≡ at + 2 = omega arith in
+    rw (d, c, b, a)
+
 -- a slice copied into another of the same length
 pub copied : (src out : List ℕ) {ys : List ℕ} → ys ≡ copyOf src out → length out ≡ length src → ys ≡ src
 unfolding copyOf

@@ -1,6 +1,6 @@
 -- What the checks of a record find, and what follows where they find nothing. Assumes nothing.
 use mathlib.Core.Path.{_≡_, refl, sym, ap, ap₂, _∙_, subst}
-use mathlib.Core.List.{List, [], _∷_}
+use mathlib.Core.List.{List}
 use mathlib.Core.Bool.{Bool, true, false, not, _&&_}
 use Prim.Native.Nat.{ℕ, zero, suc, _+_, _-_, _*_, _/_, _^_, _≤_, _<_}
 use native.Mathlib.Nat.{add-zero, zero-add, zero-mul, suc-mul, not-suc-le-zero, mul-div-cancel, mul-comm}
@@ -14,7 +14,7 @@ use Rattle.numbers.specs.Cause.{refuseIf, then, firstOf}
 use Rattle.numbers.specs.declared.Place.{Place}
 use Rattle.numbers.specs.declared.Check.{Check}
 use Rattle.numbers.specs.declared.Check.the-variants.{Fine, Refused}
-use Rattle.numbers.proofs.CauseLaws.{not-fine, passed, then-fine}
+use Rattle.numbers.proofs.CauseLaws.{then-assoc, not-fine, passed, then-fine}
 use Rattle.numbers.proofs.WalkLaws.{walk-more}
 use lib.IntN.{ℤ, natAbs}
 use Rattle.numbers.specs.TwosComplement.{bitsOf}
@@ -34,12 +34,6 @@ use Rattle.record.specs.Held.{heldValue}
 use Rattle.record.specs.Target.{isUnfit, fitCause, traceFit, fitCauses, targetCauses}
 use Rattle.record.specs.Parts.{pairRefused, pairCheck, headForm, traceCheck, formFrom, fitFrom}
 
--- ## Checks one after the other
-
-pub then-assoc : (a b c : Check) → then (then a b) c ≡ then a (then b c)
-then-assoc Fine b c = refl
-then-assoc (Refused number place) b c = refl
-
 -- ## Fields
 
 -- a field that stands whole ends within the record
@@ -48,17 +42,6 @@ field-room s tag size at e =
     leb-true (at + (3 + size)) (length s) (both-true (leb (at + (3 + size)) (length s)) (eqb (getD s at 0) tag && eqb (word s (at + 1)) size) (passed (not (isField s tag size at)) 12 at e) .0)
 
 -- ## Pairs
-
--- the six bytes from an offset on, one by one
-pub six-bytes : (s : List ℕ) (at : ℕ)
-    → bytesAt s at 6 ≡ getD s at 0 ∷ getD s (at + 1) 0 ∷ getD s (at + 2) 0 ∷ getD s (at + 3) 0 ∷ getD s (at + 4) 0 ∷ getD s (at + 5) 0 ∷ []
-unfolding bytesAt
-six-bytes s at =
-    let d : at + 1 + 1 + 1 + 1 + 1 ≡ at + 5 = omega arith in
-    let c : at + 1 + 1 + 1 + 1 ≡ at + 4 = omega arith in
-    let b : at + 1 + 1 + 1 ≡ at + 3 = omega arith in
-    let a : at + 1 + 1 ≡ at + 2 = omega arith in
-    rw (d, c, b, a)
 
 -- writing refuses a canonical pair by 14 only
 abbrev Only14 : Written → Type 0
@@ -200,10 +183,17 @@ tags-none s w t at e = go (ltb t mostTraces) refl e
         let z : mostTraces - t ≡ 0 = omega arith in
         ap (λ (k : ℕ). tagsFrom k s w at) z
 
-module _ (s : List ℕ) (n : ℕ) where
-  w : ℕ
-  w = heldStride n
+-- no more tags are counted than may be
+pub tags-most : (k : ℕ) (s : List ℕ) (w at : ℕ) → tagsFrom k s w at ≤ k
+unfolding tagsFrom
+tags-most zero s w at = omega arith
+tags-most (suc k) s w at = go (eqb (getD s at 0) 3) (tags-most k s w (at + w))
+  where
+    go : (b : Bool) → tagsFrom k s w (at + w) ≤ k → pick b (suc (tagsFrom k s w (at + w))) 0 ≤ suc k
+    go true l = omega arith
+    go false l = omega arith
 
+module _ (s : List ℕ) (n : ℕ) where
   module _ (i : ℕ) where
     form-of : ℕ → ℕ → ℕ → Check
     form-of k t at = then (firstOf (walk (traceForm s n i) (heldStride n) k at)) (endCauses s (t + k) (at + k * heldStride n))

@@ -25,10 +25,6 @@ use Rattle.reel.specs.Causes.{mostSamples, mostTraces, within, neither, 
 
 -- ## Rows
 
-pub then-last : (c : Check) → then c Fine ≡ c
-then-last Fine = refl
-then-last (Refused number place) = refl
-
 -- a word's refusal under code 4
 pub gain-refused : (w : List ℕ) (at : ℕ) → wordRefused (readWord 4 w) at ≡ refuseIf (badGain 4 w) 9 at
 gain-refused w at = go (badGain 4 w) (exactValue 4 w)

@@ -181,7 +181,7 @@ fn check_traces(reel: &[u8], code: usize, n: usize, i: usize, v: usize, w: usize
 }
 
 // The bytes of a sample.
-fn width_of(code: usize) -> usize
+pub fn width_of(code: usize) -> usize
     ensures { λ r. ⌜ (r ≡ sampleBytes code) × (2 ≤ r) × (r ≤ 4) ⌝ }
 {
     if code == 3 {

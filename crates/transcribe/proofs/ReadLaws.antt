@@ -28,11 +28,6 @@ use Rattle.record.specs.declared.Answer.{Answer}
 use Rattle.record.specs.declared.Answer.the-variants.{Taken, Refused}
 use Rattle.transcribe.proofs.RecordLaws.{record-is, code-sound}
 
--- a slice's bytes
-pub all-bytes : (s : List ℕ) → ((i : ℕ) → getD s i 0 < 256) → Bytes s
-all-bytes [] h = tt
-all-bytes (b ∷ s) h = (h 0, all-bytes s (λ i. h (suc i)))
-
 -- a reel with no cause against it, by its own numbers
 pub record Own (s : List ℕ) (code n i v w t : ℕ) : Type 0 where
   pub fine : causesOf s ≡ check.Fine

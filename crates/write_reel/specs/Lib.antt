@@ -1,3 +1,4 @@
--- The reel of a meaning, and what writing a record as a reel says and leaves in its output.
+-- The reel of a meaning, and what writing a record as a reel says and leaves in its output; and the reel as the code writes it.
 pub mod Reel
 pub mod Writing
+pub mod Copied

@@ -3,7 +3,7 @@ use Rattle.record.proofs.FormLaws.{isMore, more-few, form-room, trace-f
 use Rattle.record.specs.Form.{firstField, traceForm}
 use Rattle.record.specs.Parts.{traceCheck, formFrom, fitFrom}
 use Rattle.reel.specs.Causes.{mostTraces}
-use Rattle.reel.proofs.CheckLaws.{then-last}
+use Rattle.numbers.proofs.CauseLaws.{then-last}
 use Rattle.numbers.specs.Cause.{then}
 use Rattle.numbers.specs.declared.Check.the-variants.{Fine}
 use lib.ListN.{length}

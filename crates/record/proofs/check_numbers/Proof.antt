@@ -1,7 +1,6 @@
 -- `record::check_numbers` meets its contract. Assumes nothing.
-use Rattle.reel.proofs.CheckLaws.{then-last}
 use Rattle.reel.specs.Causes.{mostSamples, mostInterval, within}
-use Rattle.numbers.proofs.CauseLaws.{then-stop, then-next}
+use Rattle.numbers.proofs.CauseLaws.{then-stop, then-next, then-last}
 use Rattle.numbers.specs.Cause.{refuseIf}
 use Rattle.numbers.specs.Places.{placeNo}
 use lib.Dec.{eqb}

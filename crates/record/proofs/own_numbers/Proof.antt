@@ -1,8 +1,8 @@
 -- `record::own_numbers` meets its contract. Assumes nothing.
-use Rattle.record.proofs.FormLaws.{Headed, headed, held-length, held-count, then-assoc}
+use Rattle.record.proofs.FormLaws.{Headed, headed, held-length, held-count}
 use Rattle.record.specs.Form.{cardsCauses, binaryCauses, bodyCauses, heldSamples, heldInterval, heldTraces, formCauses}
 use Rattle.record.specs.declared.Checked.the-variants as checked
-use Rattle.numbers.proofs.CauseLaws.{then-fine}
+use Rattle.numbers.proofs.CauseLaws.{then-assoc, then-fine}
 use Rattle.numbers.specs.Cause.{then}
 use Rattle.numbers.specs.declared.Check.the-variants.{Fine}
 use lib.ListN.{length}

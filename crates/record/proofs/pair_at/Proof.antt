@@ -1,5 +1,5 @@
 -- `record::pair_at` meets its contract. Assumes nothing.
-use Rattle.record.proofs.FormLaws.{six-bytes}
+use Rattle.numbers.proofs.WalkLaws.{six-bytes}
 use Rattle.sample.specs.Calls.{pairIn}
 use mathlib.Core.Path.{sym, ap, _∙_}
 use borrow.Author.Needs.{needs}

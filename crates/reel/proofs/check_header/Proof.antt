@@ -1,8 +1,7 @@
 -- `reel::check_header` meets its contract. Assumes nothing.
-use Rattle.reel.proofs.CheckLaws.{then-last}
 use Rattle.reel.specs.Causes.{mostSamples, within}
 use Rattle.sample.specs.Reading.{isCode}
-use Rattle.numbers.proofs.CauseLaws.{then-stop, then-next}
+use Rattle.numbers.proofs.CauseLaws.{then-stop, then-next, then-last}
 use Rattle.numbers.specs.Cause.{refuseIf}
 use Rattle.numbers.specs.Places.{placeNo}
 use Prim.Native.Nat.{ℕ}

@@ -1,5 +1,6 @@
 -- `transcribe::read_checked` meets its contract. Assumes nothing.
-use Rattle.transcribe.proofs.ReadLaws.{Own, own, Fit, fit, all-bytes, short-end, taken-end}
+use Rattle.transcribe.proofs.ReadLaws.{Own, own, Fit, fit, short-end, taken-end}
+use Rattle.numbers.proofs.ByteLaws.{all-bytes}
 use lib.Seq.{length-take-le}
 use Prim.Native.Nat.{_+_, _*_}
 use mathlib.Core.Path.{_≡_, sym}

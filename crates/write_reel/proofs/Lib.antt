@@ -1,0 +1,3 @@
+pub mod CopiedLaws
+pub mod ReelLaws
+pub mod WriteLaws

@@ -1,0 +1,100 @@
+-- `write_reel::put_traces` meets its contract. Assumes nothing.
+use Rattle.write_reel.proofs.CopiedLaws.{size-trace, size-traces, traces-more, traces-none}
+use Rattle.write_reel.specs.Copied.{traceCopied}
+use Rattle.record.specs.Form.{heldStride, firstField}
+use Rattle.reel.specs.Layout.{stride, sampleBytes}
+use Rattle.numbers.proofs.Filling.{Filling, start as begin, finish, again, lend}
+use Rattle.numbers.proofs.WalkLaws.{times-more}
+use Rattle.numbers.specs.Walk.{walk, flat}
+use lib.ListN.{length}
+use Prim.Native.Nat.{ℕ, _+_, _-_, _*_, _≤_}
+use mathlib.Core.List.{_++_, map}
+use mathlib.Core.Path.{_≡_, sym, ap, _∙_}
+use native.Mathlib.Omega.{arith}
+use borrow.Author.Needs.{needs}
+use Rattle.write_reel.proofs.put_traces.Statement.{statement}
+use Rattle.write_reel.proofs.put_traces.Tie as tie
+
+abbrev Inv-loop : tie.InvT-loop
+Inv-loop «record» code n v w m t out₀ at₀ o₀ left₀ out at o left =
+    (at + left * m ≤ length «record») × (length out ≡ t * w) × (o + left * w ≡ t * w)
+    × Filling (flat (map (traceCopied «record» code n) (walk (λ p. p) (heldStride n) t firstField))) out o (flat (map (traceCopied «record» code n) (walk (λ p. p) (heldStride n) left at)))
+
+abbrev μ-loop : tie.MeasureT-loop
+μ-loop «record» code n v w m t out₀ at₀ o₀ left₀ out at o left = left
+
+-- a trace's bytes on the reel
+wide : (c : tie.Start Inv-loop μ-loop) → let a = c .args in a .w ≡ stride (a .n) (sampleBytes (a .code))
+wide c = c .pre .2 ∙ ap (stride (c .args .n)) (c .pre .1)
+
+loop-holds : tie.Need-loop-holds Inv-loop μ-loop
+loop-holds c =
+    let s = c .before .before in
+    let a = s .args in
+    (omega (arith, s .pre .4), s .pre .5, omega arith, begin _ _ (s .pre .5 ∙ ap (λ (x : ℕ). a .t * x) (wide s) ∙ sym (size-traces (a .«record» .now) (a .code) (a .n) (a .t) firstField)))
+
+add-e : tie.Need-add-e Inv-loop μ-loop
+add-e c = omega (arith, times-more (c .before .loop .left) (c .before .before .before .before .args .w) (c .loop-test .taken), c .before .loop .inv .1, c .before .loop .inv .2)
+
+sub-put-trace : tie.Need-sub-put-trace Inv-loop μ-loop
+sub-put-trace c = search needs
+
+part-put-trace-start : tie.Need-part-put-trace-start Inv-loop μ-loop
+part-put-trace-start c = search needs
+
+part-put-trace-end : tie.Need-part-put-trace-end Inv-loop μ-loop
+part-put-trace-end c = omega (arith, times-more (c .before .loop .left) (c .before .before .before .before .args .w) (c .loop-test .taken), c .before .loop .inv .1, c .before .loop .inv .2)
+
+put-trace-requires : tie.Need-put-trace-requires Inv-loop μ-loop
+put-trace-requires c κs =
+    let s = c .before .before .before .before .before in
+    let l = c .before .before .loop in
+    (s .pre .0, s .pre .1, omega (arith, times-more (l .left) (s .args .m) (c .before .loop-test .taken), s .pre .3, l .inv .0), omega (arith, s .pre .2))
+
+add-at : tie.Need-add-at Inv-loop μ-loop
+add-at c = omega (arith, times-more (c .before .before .before .before .before .loop .left) (c .before .before .before .before .before .before .before .before .args .m) (c .before .before .before .before .loop-test .taken), c .before .before .before .before .before .loop .inv .0)
+
+sub-left : tie.Need-sub-left Inv-loop μ-loop
+sub-left c = search needs
+
+loop-less : tie.Need-loop-less Inv-loop μ-loop
+loop-less c = search needs
+
+loop-again : tie.Need-loop-again Inv-loop μ-loop
+loop-again c =
+    let s = c .before .before .before .before .before .before .before .before in
+    let a = s .args in
+    let r = a .«record» .now in
+    let l = c .before .before .before .before .before .loop in
+    let some = c .before .before .before .before .loop-test .taken in
+    let next : l .at + heldStride (a .n) ≡ l .at + a .m = ap (λ (x : ℕ). l .at + x) (sym (s .pre .3)) in
+    let more = traces-more r (a .code) (a .n) (l .left) (l .at) some ∙ ap (λ (x : ℕ). traceCopied r (a .code) (a .n) (l .at) ++ flat (map (traceCopied r (a .code) (a .n)) (walk (λ p. p) (heldStride (a .n)) (l .left - 1) x))) next in
+    let f = lend (traceCopied r (a .code) (a .n) (l .at)) (flat (map (traceCopied r (a .code) (a .n)) (walk (λ p. p) (heldStride (a .n)) (l .left - 1) (l .at + a .m)))) (l .o + a .w) (again (l .inv .3) more) (omega arith) (size-trace r (a .code) (a .n) (l .at) ∙ omega (arith, wide s)) (c .before .before .put-trace .ensures) in
+    (omega (arith, times-more (l .left) (a .m) some, l .inv .0), f .size ∙ sym (l .inv .3 .size) ∙ l .inv .1, omega (arith, times-more (l .left) (a .w) some, l .inv .2), f)
+
+same-length : tie.Need-same-length Inv-loop μ-loop
+same-length c = search needs
+
+returns : tie.Need-returns Inv-loop μ-loop
+returns c =
+    let a = c .before .before .before .before .args in
+    finish (c .before .loop .inv .3) (traces-none (a .«record» .now) (a .code) (a .n) (c .before .loop .left) (c .before .loop .at) (c .loop-test .left))
+
+pub put-traces-spec : {M : Type 1} → statement M
+put-traces-spec =
+    tie.close
+    (tie.spec
+    Inv-loop
+    μ-loop
+    loop-holds
+    add-e
+    sub-put-trace
+    part-put-trace-start
+    part-put-trace-end
+    put-trace-requires
+    add-at
+    sub-left
+    loop-less
+    loop-again
+    same-length
+    returns)
