@@ -28,6 +28,7 @@ use Rattle.reel.proofs.CheckLaws.{reel-fine}
 use Rattle.record.specs.Form.{heldInterval, heldSamples, firstField, heldStride, tagsFrom, heldTraces, formCauses}
 use Rattle.record.specs.Held.{heldValue, heldTrace, heldBy}
 use Rattle.record.proofs.HeaderLaws.{binary-front, binary-back, size-cards}
+use Rattle.record.proofs.FormLaws.{tags-most}
 use Rattle.reel_theorems.proofs.Ranges.{Fit, Some, fields-fit}
 use Rattle.reel_theorems.proofs.Same.{allSome, some-of, binary-front-some, binary-back-some, trace-like, eighth}
 use Rattle.demands.proofs.Proper.{ProperTrace, Proper}
@@ -57,16 +58,6 @@ all-both P Q [] p q = tt
 all-both P Q (x ∷ l) p q = ((p .0, q .0), all-both P Q l (p .1) (q .1))
 
 -- ## What a record holds
-
--- No more tags are counted than the most.
-pub tags-most : (most : ℕ) (s : List ℕ) (w at : ℕ) → tagsFrom most s w at ≤ most
-unfolding tagsFrom
-tags-most zero s w at = omega arith
-tags-most (suc most) s w at = go (eqb (getD s at 0) 3) (tags-most most s w (at + w))
-  where
-    go : (b : Bool) {k : ℕ} → k ≤ most → pick b (suc k) 0 ≤ suc most
-    go true h = omega arith
-    go false h = omega arith
 
 -- A canonical pair's value has a canonical pair.
 pub value-held : (s : List ℕ) (at : ℕ) → CanonicalAt s at → isCanonical (pairOf (heldValue s at)) ≡ true

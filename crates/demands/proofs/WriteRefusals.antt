@@ -36,7 +36,8 @@ use Rattle.write_reel.specs.Writing.{writeCauses}
 use Rattle.reel_theorems.proofs.Refusals.{first-is, first-of, none-is, none-of}
 use Rattle.demands.proofs.TestLaws.{atPlace, Between, Tests, apart, test-by, fine-where, refused-where, holds-where, row-where, then-row, then-first, then-second, and-both, test-between, test-same, test-room, not-enough, walk-fine, walk-holds, walk-refused, walk-row}
 use Rattle.demands.proofs.Valid.{Stands, CanonicalAt}
-use Rattle.demands.proofs.ProperLaws.{value-held, tags-most}
+use Rattle.demands.proofs.ProperLaws.{value-held}
+use Rattle.record.proofs.FormLaws.{tags-most}
 use Rattle.demands.proofs.Fitting.{HasWord, fits-is}
 
 -- ## The terms of the table
