@@ -29,7 +29,7 @@ use Rattle.sample.specs.declared.Written.the-variants as written
 use Rattle.reel.specs.Layout.{word}
 use Rattle.reel.specs.Causes.{mostSamples, mostTraces, mostInterval, within}
 use Rattle.reel.proofs.CheckLaws.{both-true, in-limits}
-use Rattle.record.specs.Form.{isField, fieldCause, cardsCauses, heldSamples, heldInterval, heldCode, numberCauses, binaryCauses, firstField, heldStride, pairCause, samplesCauses, traceForm, tagsFrom, heldTraces, endCauses, bodyCauses, formCauses}
+use Rattle.record.specs.Form.{isField, fieldCause, cardsCauses, heldSamples, heldInterval, heldCode, numberCauses, binaryCauses, firstField, heldStride, pairCause, samplesCauses, headerCauses, traceForm, tagsFrom, heldTraces, endCauses, bodyCauses, formCauses}
 use Rattle.record.specs.Held.{heldValue}
 use Rattle.record.specs.Target.{isUnfit, fitCause, traceFit, fitCauses, targetCauses}
 use Rattle.record.specs.Parts.{pairRefused, pairCheck, headForm, traceCheck, formFrom, fitFrom}
@@ -108,23 +108,30 @@ module _ (s : List ℕ) (code : ℕ) (h : isCode code ≡ true) where
 pub trace-form : (s : List ℕ) (n i at : ℕ) → traceForm s n i at ≡ then (headForm s n i at) (firstOf (walk (pairCause s) pairLength n (at + 186)))
 unfolding traceForm samplesCauses headForm
 trace-form s n i at =
-    let pairs = firstOf (walk (pairCause s) pairLength n (at + 186)) in
+    let e : at + 183 + 3 ≡ at + 186 = omega arith in
+    ap (λ (x : ℕ). then (headerCauses s n i at) (then (fieldCause s 4 (pairLength * n) (at + 183)) (firstOf (walk (pairCause s) pairLength n x)))) e
+    ∙ sym (then-assoc (headerCauses s n i at) (fieldCause s 4 (pairLength * n) (at + 183)) (firstOf (walk (pairCause s) pairLength n (at + 186))))
+
+-- its fields' causes, one after the other
+pub head-form : (s : List ℕ) (n i at : ℕ)
+    → headForm s n i at
+    ≡ then (fieldCause s 3 180 at)
+    (then (refuseIf (not (eqb (word s (at + 117)) n)) 13 (at + 117))
+    (then (refuseIf (not (eqb (word s (at + 119)) i)) 13 (at + 119)) (fieldCause s 4 (pairLength * n) (at + 183))))
+unfolding headForm headerCauses
+head-form s n i at =
     let a = fieldCause s 3 180 at in
     let b = refuseIf (not (eqb (word s (at + 117)) n)) 13 (at + 117) in
     let c = refuseIf (not (eqb (word s (at + 119)) i)) 13 (at + 119) in
     let d = fieldCause s 4 (pairLength * n) (at + 183) in
-    let e : at + 183 + 3 ≡ at + 186 = omega arith in
-    ap (λ (x : ℕ). then a (then b (then c (then d (firstOf (walk (pairCause s) pairLength n x)))))) e
-    ∙ sym (then-assoc a (then b (then c d)) pairs ∙ ap (then a) (then-assoc b (then c d) pairs ∙ ap (then b) (then-assoc c d pairs)))
+    then-assoc a (then b c) d ∙ ap (then a) (then-assoc b c d)
 
 -- a trace whose fields stand whole ends within the record
 pub head-room : (s : List ℕ) (n i at : ℕ) → headForm s n i at ≡ Fine → at + (186 + n * 6) ≤ length s
 unfolding headForm
 head-room s n i at e =
-    let a = then-fine (fieldCause s 3 180 at) _ e in
-    let b = then-fine (refuseIf (not (eqb (word s (at + 117)) n)) 13 (at + 117)) _ (a .1) in
-    let c = then-fine (refuseIf (not (eqb (word s (at + 119)) i)) 13 (at + 119)) _ (b .1) in
-    omega (arith, field-room s 4 (pairLength * n) (at + 183) (c .1))
+    let a = then-fine (headerCauses s n i at) _ e in
+    omega (arith, field-room s 4 (pairLength * n) (at + 183) (a .1))
 
 pub form-room : (s : List ℕ) (n i at : ℕ) → traceForm s n i at ≡ Fine → at + (186 + n * 6) ≤ length s
 form-room s n i at e = head-room s n i at (then-fine (headForm s n i at) _ (sym (trace-form s n i at) ∙ e) .0)
@@ -277,13 +284,20 @@ held-length s e =
     let g = then-fine (refuseIf (ltb (at + 7) (length s)) 12 (at + 7)) _ (f .1) in
     omega (arith, field-room s 5 4 at (d .0), ltb-false (at + 7) (length s) (passed _ _ _ (g .0)))
 
--- so its length says how many traces it has
-pub held-count : (s : List ℕ) → formCauses s ≡ Fine → (length s - 3273) / (186 + 6 * heldSamples s) ≡ heldTraces s (heldSamples s)
+-- so its last four bytes say how many traces it has
+pub held-count : (s : List ℕ) → formCauses s ≡ Fine → number (bytesAt s (length s - 4) 4) ≡ heldTraces s (heldSamples s)
+unfolding formCauses bodyCauses
 held-count s e =
     let n = heldSamples s in
     let t = heldTraces s n in
-    let d : length s - 3273 ≡ t * heldStride n = omega (arith, held-length s e) in
-    ap (λ (x : ℕ). x / heldStride n) d ∙ mul-div-cancel t (omega arith)
+    let at = firstField + t * heldStride n in
+    let a = then-fine (cardsCauses s) _ e in
+    let b = then-fine (binaryCauses s) _ (a .1) in
+    let c = then-fine (firstOf (walk (traceForm s n (heldInterval s)) (heldStride n) t firstField)) _ (b .1) in
+    let d = then-fine (fieldCause s 5 4 at) _ (c .1) in
+    let f = then-fine (refuseIf (not (eqb (number (bytesAt s (at + 3) 4)) t)) 12 at) _ (d .1) in
+    let p : length s - 4 ≡ at + 3 = omega (arith, held-length s e) in
+    ap (λ (x : ℕ). number (bytesAt s x 4)) p ∙ eqb-true (number (bytesAt s (at + 3) 4)) t (not-false _ (passed _ 12 at (f .0)))
 
 -- its first two fields stand whole, and its numbers are within their limits
 pub record Headed (s : List ℕ) : Type 0 where

@@ -1,5 +1,5 @@
 -- The form of a record, and the causes 12 and 13 against it: front to back, each field first by 12, then by 13. Any bytes at all may be
--- lent as a record, and each byte is looked at only behind fields that stand whole.
+-- lent as a record. What stands behind a field that is refused plays no part: the refusal at that field comes first.
 use Prim.Native.Nat.{ℕ, zero, suc, _+_, _*_}
 use mathlib.Core.List.{List, [], _∷_}
 use mathlib.Core.Bool.{Bool, not, _&&_}
@@ -11,7 +11,7 @@ use Rattle.numbers.specs.Cause.{refuseIf, then, firstOf}
 use Rattle.numbers.specs.declared.Check.{Check}
 use Rattle.sample.specs.Pair.{isCanonical}
 use Rattle.sample.specs.Calls.{pairLength, pairIn}
-use Rattle.reel.specs.Layout.{word}
+use Rattle.reel.specs.Layout.{cardBytes, word}
 use Rattle.reel.specs.Causes.{mostSamples, mostTraces, mostInterval, within}
 
 -- ## A field
@@ -33,27 +33,37 @@ cardCause s at = refuseIf (eqb (getD s at 0) 0) 13 at
 
 -- Tag 01 at the front, with 3,200 card bytes.
 unfoldable pub cardsCauses : List ℕ → Check
-cardsCauses s = then (fieldCause s 1 3200 0) (firstOf (walk (cardCause s) 1 3200 3))
+cardsCauses s = then (fieldCause s 1 cardBytes 0) (firstOf (walk (cardCause s) 1 cardBytes 3))
 
 -- ## Binary fields
 
--- The interval, N and the format code in a record: fields 3217, 3221 and 3225. Byte number 3201 stands at the place 3206, behind tag 02.
+-- The places of the interval, N and the format code in a record: fields 3217, 3221 and 3225. Byte number 3201 stands at the place 3206,
+-- behind tag 02 and its length.
+abbrev pub intervalPlace : ℕ
+intervalPlace = 3222
+
+abbrev pub samplesPlace : ℕ
+samplesPlace = 3226
+
+abbrev pub codePlace : ℕ
+codePlace = 3230
+
 abbrev pub heldInterval : List ℕ → ℕ
-heldInterval s = word s 3222
+heldInterval s = word s intervalPlace
 
 abbrev pub heldSamples : List ℕ → ℕ
-heldSamples s = word s 3226
+heldSamples s = word s samplesPlace
 
 abbrev pub heldCode : List ℕ → ℕ
-heldCode s = word s 3230
+heldCode s = word s codePlace
 
 -- 13: an interval or N outside its limits, a format code other than 0, in this order.
 abbrev pub numberCauses : ℕ → ℕ → ℕ → Check
 numberCauses i n code =
     firstOf
-    (refuseIf (not (within 1 mostInterval i)) 13 3222
-    ∷ refuseIf (not (within 1 mostSamples n)) 13 3226
-    ∷ refuseIf (not (eqb code 0)) 13 3230
+    (refuseIf (not (within 1 mostInterval i)) 13 intervalPlace
+    ∷ refuseIf (not (within 1 mostSamples n)) 13 samplesPlace
+    ∷ refuseIf (not (eqb code 0)) 13 codePlace
     ∷ [])
 
 -- Tag 02, with the 60 bytes of the binary fields.
@@ -77,14 +87,17 @@ pairCause s at = refuseIf (not (isCanonical (pairIn (bytesAt s at pairLength))))
 unfoldable pub samplesCauses : List ℕ → ℕ → ℕ → Check
 samplesCauses s n at = then (fieldCause s 4 (pairLength * n) at) (firstOf (walk (pairCause s) pairLength n (at + 3)))
 
--- A trace: tag 03 with its 180 bytes, of which fields 115 and 117 stand 114 and 116 places behind the tag and length, and must be like
--- the reel's n and i; then its samples.
-unfoldable pub traceForm : List ℕ → ℕ → ℕ → ℕ → Check
-traceForm s n i at =
+-- A trace's header: tag 03 with its 180 bytes, of which fields 115 and 117 stand 114 and 116 places behind the tag and length, and must
+-- be like the reel's n and i.
+unfoldable pub headerCauses : List ℕ → ℕ → ℕ → ℕ → Check
+headerCauses s n i at =
     then (fieldCause s 3 180 at)
     (then (refuseIf (not (eqb (word s (at + 117)) n)) 13 (at + 117))
-    (then (refuseIf (not (eqb (word s (at + 119)) i)) 13 (at + 119))
-    (samplesCauses s n (at + 183))))
+    (refuseIf (not (eqb (word s (at + 119)) i)) 13 (at + 119)))
+
+-- A trace: its header, then its samples.
+unfoldable pub traceForm : List ℕ → ℕ → ℕ → ℕ → Check
+traceForm s n i at = then (headerCauses s n i at) (samplesCauses s n (at + 183))
 
 -- How many tags 03 follow each other from the place `at` on, w bytes apart; the first argument is the most that are counted.
 unfoldable pub tagsFrom : ℕ → List ℕ → ℕ → ℕ → ℕ

@@ -1,18 +1,15 @@
 -- Parts of the causes against a record, for the functions inside this crate.
 use Prim.Native.Nat.{ℕ, _+_, _*_}
 use mathlib.Core.List.{List}
-use mathlib.Core.Bool.{not}
-use lib.Dec.{eqb}
 use Rattle.numbers.specs.Walk.{walk, bytesAt}
-use Rattle.numbers.specs.Cause.{refuseIf, then, firstOf}
+use Rattle.numbers.specs.Cause.{then, firstOf}
 use Rattle.numbers.specs.declared.Check.{Check}
 use Rattle.numbers.specs.declared.Check.the-variants.{Fine, Refused}
 use Rattle.sample.specs.Writing.{writePair}
 use Rattle.sample.specs.Calls.{pairLength, pairIn}
 use Rattle.sample.specs.declared.Written.{Written}
 use Rattle.sample.specs.declared.Written.the-variants as written
-use Rattle.reel.specs.Layout.{word}
-use Rattle.record.specs.Form.{fieldCause, heldStride, traceForm, tagsFrom, endCauses}
+use Rattle.record.specs.Form.{fieldCause, headerCauses, heldStride, traceForm, tagsFrom, endCauses}
 use Rattle.record.specs.Target.{traceFit}
 
 -- The refusal of the pair at a place, from what writing it gives.
@@ -26,11 +23,7 @@ pairCheck s code at = pairRefused (writePair code (pairIn (bytesAt s at pairLeng
 
 -- A trace's causes but for those of its pairs.
 unfoldable pub headForm : List ℕ → ℕ → ℕ → ℕ → Check
-headForm s n i at =
-    then (fieldCause s 3 180 at)
-    (then (refuseIf (not (eqb (word s (at + 117)) n)) 13 (at + 117))
-    (then (refuseIf (not (eqb (word s (at + 119)) i)) 13 (at + 119))
-    (fieldCause s 4 (pairLength * n) (at + 183))))
+headForm s n i at = then (headerCauses s n i at) (fieldCause s 4 (pairLength * n) (at + 183))
 
 -- A trace's form but for its pairs, then 13 or 14 against the first pair that writing refuses.
 unfoldable pub traceCheck : List ℕ → ℕ → ℕ → ℕ → ℕ → Check

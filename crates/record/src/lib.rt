@@ -12,7 +12,7 @@ ghost use Rattle.numbers.specs.declared.Check.the-variants.{Fine};
 ghost use Rattle.sample.specs.Reading.{isCode};
 ghost use Rattle.sample.specs.Calls.{pairIn};
 ghost use Rattle.reel.specs.Layout.{word};
-ghost use Rattle.reel.specs.Causes.{mostTraces};
+ghost use Rattle.reel.specs.Causes.{mostSamples, mostTraces};
 ghost use Rattle.record.specs.Form.{fieldCause, cardCause, cardsCauses, numberCauses, binaryCauses, firstField, pairCause, traceForm, endCauses, formCauses};
 ghost use Rattle.record.specs.Target.{targetCauses, checked, checkedOf};
 ghost use Rattle.record.specs.Parts.{pairRefused, pairCheck, headForm, traceCheck, formFrom, fitFrom};
@@ -85,7 +85,7 @@ fn check_field(record: &[u8], tag: u8, size: usize, at: usize) -> Check
 }
 
 // 13: the first card byte 00.
-fn check_cards(record: &[u8]) -> Check
+fn check_card_bytes(record: &[u8]) -> Check
     requires { ⌜ 3203 ≤ length (now «record») ⌝ }
     ensures { λ r. ⌜ r ≡ firstOf (walk (cardCause (now («record» .entry))) 1 3200 3) ⌝ }
 {
@@ -105,14 +105,14 @@ fn check_cards(record: &[u8]) -> Check
 }
 
 // 12 and 13 of tag 01.
-fn check_text(record: &[u8]) -> Check
+fn check_cards(record: &[u8]) -> Check
     ensures { λ r. ⌜ r ≡ cardsCauses (now («record» .entry)) ⌝ }
 {
     let a = check_field(record, 1, 3200, 0);
     let Check::Fine = a else {
         return a;
     };
-    check_cards(record)
+    check_card_bytes(record)
 }
 
 // 13: a number unlike the one that belongs there.
@@ -305,7 +305,7 @@ fn check_like(record: &[u8], start: usize, b: ByteNo, own: usize) -> Check
 
 // 12 and 13 of a trace, but for its pairs.
 fn check_head(record: &[u8], n: usize, i: usize, at: usize) -> Check
-    requires { ⌜ (at ≤ length (now «record»)) × (n ≤ 8000) ⌝ }
+    requires { ⌜ (at ≤ length (now «record»)) × (n ≤ mostSamples) ⌝ }
     ensures { λ r. ⌜ r ≡ headForm (now («record» .entry)) n i at ⌝ }
 {
     let a = check_field(record, 3, 180, at);
@@ -323,10 +323,10 @@ fn check_head(record: &[u8], n: usize, i: usize, at: usize) -> Check
     check_field(record, 4, 6 * n, at + 183)
 }
 
-// A trace for which this finds nothing is of the right form, and its samples fit. The first that it finds is a cause of 12 or 13, or
-// 14, which others of 12 and 13 behind it go before.
+// A trace for which this finds nothing is of the right form, and its samples fit. What it finds first is a cause of 12 or 13, or a 14,
+// which gives way to any 12 or 13 behind it.
 fn check_trace(record: &[u8], code: u32, n: usize, i: usize, at: usize) -> Check
-    requires { ⌜ (isCode code ≡ true) × (at ≤ length (now «record»)) × (n ≤ 8000) ⌝ }
+    requires { ⌜ (isCode code ≡ true) × (at ≤ length (now «record»)) × (n ≤ mostSamples) ⌝ }
     ensures { λ r. ⌜ r ≡ traceCheck (now («record» .entry)) code n i at ⌝ }
 {
     let a = check_head(record, n, i, at);
@@ -337,8 +337,8 @@ fn check_trace(record: &[u8], code: u32, n: usize, i: usize, at: usize) -> Check
 }
 
 // 12 and 13 of a trace.
-fn check_form(record: &[u8], n: usize, i: usize, at: usize) -> Check
-    requires { ⌜ (at ≤ length (now «record»)) × (n ≤ 8000) ⌝ }
+fn check_trace_form(record: &[u8], n: usize, i: usize, at: usize) -> Check
+    requires { ⌜ (at ≤ length (now «record»)) × (n ≤ mostSamples) ⌝ }
     ensures { λ r. ⌜ r ≡ traceForm (now («record» .entry)) n i at ⌝ }
 {
     let a = check_head(record, n, i, at);
@@ -387,14 +387,14 @@ fn check_end(record: &[u8], t: usize, at: usize) -> Check
 
 // 12 and 13 from the place start on, behind done traces.
 fn check_rest(record: &[u8], n: usize, i: usize, done: usize, start: usize) -> Check
-    requires { ⌜ (n ≤ 8000) × (done ≤ mostTraces) × (start ≤ length (now «record»)) ⌝ }
+    requires { ⌜ (n ≤ mostSamples) × (done ≤ mostTraces) × (start ≤ length (now «record»)) ⌝ }
     ensures { λ r. ⌜ r ≡ formFrom (now («record» .entry)) n i (mostTraces - done) done start ⌝ }
 {
     let w = 186 + 6 * n;
     let mut at = start;
     let mut t = done;
     while more(record, t, at) {
-        let c = check_form(record, n, i, at);
+        let c = check_trace_form(record, n, i, at);
         let Check::Fine = c else {
             return c;
         };
@@ -404,9 +404,9 @@ fn check_rest(record: &[u8], n: usize, i: usize, done: usize, start: usize) -> C
     check_end(record, t, at)
 }
 
-// What was found at a trace, where nothing of 12 and 13 stands from there on: a sample that doesn't fit.
+// 12 and 13 from a trace on; where there is none, what was found at that trace, which is then a sample that doesn't fit.
 fn check_later(record: &[u8], n: usize, i: usize, t: usize, at: usize, found: Check) -> Check
-    requires { ⌜ (n ≤ 8000) × (t ≤ mostTraces) × (at ≤ length (now «record»)) ⌝ }
+    requires { ⌜ (n ≤ mostSamples) × (t ≤ mostTraces) × (at ≤ length (now «record»)) ⌝ }
     ensures { λ r. ⌜ r ≡ then (formFrom (now («record» .entry)) n i (mostTraces - t) t at) found ⌝ }
 {
     let a = check_rest(record, n, i, t, at);
@@ -418,7 +418,7 @@ fn check_later(record: &[u8], n: usize, i: usize, t: usize, at: usize, found: Ch
 
 // 12 and 13 of the traces and of what stands behind them, then 14.
 fn check_body(record: &[u8], code: u32, n: usize, i: usize) -> Check
-    requires { ⌜ (isCode code ≡ true) × (n ≤ 8000) × (firstField ≤ length (now «record»)) ⌝ }
+    requires { ⌜ (isCode code ≡ true) × (n ≤ mostSamples) × (firstField ≤ length (now «record»)) ⌝ }
     ensures { λ r. ⌜ r ≡ then (formFrom (now («record» .entry)) n i mostTraces 0 firstField) (fitFrom (now («record» .entry)) code n mostTraces firstField) ⌝ }
 {
     let w = 186 + 6 * n;
@@ -439,7 +439,7 @@ fn check_body(record: &[u8], code: u32, n: usize, i: usize) -> Check
 fn check_front(record: &[u8]) -> Check
     ensures { λ r. ⌜ r ≡ then (cardsCauses (now («record» .entry))) (binaryCauses (now («record» .entry))) ⌝ }
 {
-    let a = check_text(record);
+    let a = check_cards(record);
     let Check::Fine = a else {
         return a;
     };
@@ -474,7 +474,7 @@ fn own_numbers(record: &[u8]) -> Checked
     let n = binary_word(record, ByteNo(3221));
     Checked::Fine {
         samples: n,
-        traces: (record.len() - 3273) / (186 + 6 * n),
+        traces: count_at(record, record.len() - 4),
     }
 }
 

@@ -11,7 +11,7 @@ ghost use Rattle.sample.specs.Value.{ibmValue};
 ghost use Rattle.sample.specs.Reading.{isCode, pairTaken, readWord};
 ghost use Rattle.sample.specs.Calls.{pairBytes};
 ghost use Rattle.reel.specs.Layout.{firstTrace, word, sampleBytes, stride};
-ghost use Rattle.reel.specs.Causes.{checkedOf};
+ghost use Rattle.reel.specs.Causes.{mostSamples, mostTraces, checkedOf};
 ghost use Rattle.reel.specs.Meaning.{blank};
 ghost use Rattle.record.specs.Answer.{outcome};
 ghost use Rattle.transcribe.specs.Reading.{readOutcome};
@@ -285,7 +285,7 @@ fn put_samples(reel: &[u8], code: usize, n: usize, v: usize, start: usize, out: 
 
 // A trace: its header and its samples, each behind its tag.
 fn put_trace(reel: &[u8], code: usize, n: u16, i: u16, v: usize, at: usize, out: &mut [u8])
-    requires { ⌜ (isCode code ≡ true) × (v ≡ sampleBytes code) × (n ≤ 8000) × (at + (240 + n * v) ≤ length (now reel)) × (length (now out) ≡ 186 + n * 6) ⌝ }
+    requires { ⌜ (isCode code ≡ true) × (v ≡ sampleBytes code) × (n ≤ mostSamples) × (at + (240 + n * v) ≤ length (now reel)) × (length (now out) ≡ 186 + n * 6) ⌝ }
     ensures { λ _. ⌜ now (out .exit) ≡ traceCopied (now (reel .entry)) code n i at ⌝ }
 {
     let size = 6 * n;
@@ -308,7 +308,7 @@ fn put_traces(
     t: usize,
     out: &mut [u8],
 )
-    requires { ⌜ (isCode code ≡ true) × (v ≡ sampleBytes code) × (n ≤ 8000) × (w ≡ stride n v) × (m ≡ 186 + n * 6) × (3600 + t * w ≤ length (now reel)) × (length (now out) ≡ t * m) ⌝ }
+    requires { ⌜ (isCode code ≡ true) × (v ≡ sampleBytes code) × (n ≤ mostSamples) × (w ≡ stride n v) × (m ≡ 186 + n * 6) × (3600 + t * w ≤ length (now reel)) × (length (now out) ≡ t * m) ⌝ }
     ensures { λ _. ⌜ now (out .exit) ≡ flat (map (traceCopied (now (reel .entry)) code n i) (places w t firstTrace)) ⌝ }
 {
     let mut at = 3600;
@@ -354,7 +354,7 @@ fn put_record(
     t: usize,
     out: &mut [u8],
 )
-    requires { ⌜ (isCode code ≡ true) × (v ≡ sampleBytes code) × (n ≤ 8000) × (w ≡ stride n v) × (t ≤ 100000) × (3600 + t * w ≤ length (now reel)) × (length (now out) ≡ 3273 + t * (186 + n * 6)) ⌝ }
+    requires { ⌜ (isCode code ≡ true) × (v ≡ sampleBytes code) × (n ≤ mostSamples) × (w ≡ stride n v) × (t ≤ mostTraces) × (3600 + t * w ≤ length (now reel)) × (length (now out) ≡ 3273 + t * (186 + n * 6)) ⌝ }
     ensures { λ _. ⌜ now (out .exit) ≡ recordCopied (now (reel .entry)) code n i w t ⌝ }
 {
     let m = 186 + n as usize * 6;

@@ -3,13 +3,14 @@
 ghost use mathlib.Core.Path.{_≡_};
 ghost use mathlib.Core.Bool.{true};
 ghost use mathlib.Core.List.{map};
-ghost use Prim.Native.Nat.{_+_, _-_, _*_, _<_, _≤_};
+ghost use Prim.Native.Nat.{_+_, _*_, _≤_};
 ghost use lib.ListN.{length};
 ghost use Rattle.numbers.specs.Walk.{walk, flat, bytesAt};
 ghost use Rattle.numbers.specs.BigEndian.{bytesOf};
 ghost use Rattle.sample.specs.Reading.{isCode};
 ghost use Rattle.sample.specs.Calls.{pairIn};
 ghost use Rattle.reel.specs.Layout.{sampleBytes, stride};
+ghost use Rattle.reel.specs.Causes.{mostSamples};
 ghost use Rattle.record.specs.Form.{heldStride, firstField};
 ghost use Rattle.record.specs.Target.{checkedOf};
 ghost use Rattle.record.specs.Answer.{outcome};
@@ -21,7 +22,7 @@ use record::Checked;
 use sample::Pair;
 use sample::Written;
 
-// Unassigned bytes, which are 0.
+// Bytes 00, which unassigned bytes are.
 fn put_zeros(out: &mut [u8])
     ensures { λ _. ⌜ now (out .exit) ≡ zerosFor (now (out .entry)) ⌝ }
 {
@@ -47,7 +48,7 @@ fn pair_at(record: &[u8], at: usize) -> Pair
     ])
 }
 
-// A word of four bytes. The pairs of a record that came through the causes 11 to 14 all have one; a refusal, which only the types
+// A word of four bytes, as codes 1, 2 and 4 have it. The pairs of a record that came through the causes 11 to 14 all have one; a refusal, which only the types
 // allow here, is given as 00, so that the loops need no condition on each pair.
 fn put_word(word: Written, out: &mut [u8])
     requires { ⌜ length (now out) ≡ 4 ⌝ }
@@ -144,8 +145,8 @@ fn put_gain(record: &[u8], n: usize, start: usize, out: &mut [u8])
 }
 
 // The samples of a trace under a code, which is 1 to 4.
-fn put_samples(record: &[u8], code: u32, n: usize, v: usize, start: usize, out: &mut [u8])
-    requires { ⌜ (isCode code ≡ true) × (v ≡ sampleBytes code) × (start + n * 6 ≤ length (now «record»)) × (length (now out) ≡ n * v) ⌝ }
+fn put_samples(record: &[u8], code: u32, n: usize, start: usize, out: &mut [u8])
+    requires { ⌜ (isCode code ≡ true) × (start + n * 6 ≤ length (now «record»)) × (length (now out) ≡ n * sampleBytes code) ⌝ }
     ensures { λ _. ⌜ now (out .exit) ≡ samplesCopied (now («record» .entry)) code n start ⌝ }
 {
     match code {
@@ -157,28 +158,19 @@ fn put_samples(record: &[u8], code: u32, n: usize, v: usize, start: usize, out: 
 }
 
 // A trace: its 71 fields, the unassigned bytes of its header, and its samples.
-fn put_trace(record: &[u8], code: u32, n: usize, v: usize, at: usize, out: &mut [u8])
-    requires { ⌜ (isCode code ≡ true) × (v ≡ sampleBytes code) × (at + (186 + n * 6) ≤ length (now «record»)) × (length (now out) ≡ 240 + n * v) ⌝ }
+fn put_trace(record: &[u8], code: u32, n: usize, at: usize, out: &mut [u8])
+    requires { ⌜ (isCode code ≡ true) × (at + (186 + n * 6) ≤ length (now «record»)) × (length (now out) ≡ stride n (sampleBytes code)) ⌝ }
     ensures { λ _. ⌜ now (out .exit) ≡ traceCopied (now («record» .entry)) code n at ⌝ }
 {
     let e = out.len();
     numbers::copy(&record[at + 3..at + 183], &mut out[0..180]);
     put_zeros(&mut out[180..240]);
-    put_samples(record, code, n, v, at + 186, &mut out[240..e]);
+    put_samples(record, code, n, at + 186, &mut out[240..e]);
 }
 
 // The traces, one behind the other.
-fn put_traces(
-    record: &[u8],
-    code: u32,
-    n: usize,
-    v: usize,
-    w: usize,
-    m: usize,
-    t: usize,
-    out: &mut [u8],
-)
-    requires { ⌜ (isCode code ≡ true) × (v ≡ sampleBytes code) × (w ≡ stride n v) × (m ≡ heldStride n) × (firstField + t * m ≤ length (now «record»)) × (length (now out) ≡ t * w) ⌝ }
+fn put_traces(record: &[u8], code: u32, n: usize, w: usize, m: usize, t: usize, out: &mut [u8])
+    requires { ⌜ (isCode code ≡ true) × (w ≡ stride n (sampleBytes code)) × (m ≡ heldStride n) × (firstField + t * m ≤ length (now «record»)) × (length (now out) ≡ t * w) ⌝ }
     ensures { λ _. ⌜ now (out .exit) ≡ flat (map (traceCopied (now («record» .entry)) code n) (walk (λ p. p) (heldStride n) t firstField)) ⌝ }
 {
     let mut at = 3266;
@@ -186,7 +178,7 @@ fn put_traces(
     let mut left = t;
     while 0 < left {
         let e = o + w;
-        put_trace(record, code, n, v, at, &mut out[o..e]);
+        put_trace(record, code, n, at, &mut out[o..e]);
         at += m;
         o = e;
         left -= 1;
@@ -215,14 +207,14 @@ fn put_binary(record: &[u8], code: u32, out: &mut [u8])
 }
 
 // The reel of t traces of n samples, which fills out.
-fn put_reel(record: &[u8], code: u32, n: usize, v: usize, w: usize, t: usize, out: &mut [u8])
-    requires { ⌜ (isCode code ≡ true) × (v ≡ sampleBytes code) × (w ≡ stride n v) × (n ≤ 8000) × (firstField + t * heldStride n ≤ length (now «record»)) × (length (now out) ≡ 3600 + t * w) ⌝ }
+fn put_reel(record: &[u8], code: u32, n: usize, w: usize, t: usize, out: &mut [u8])
+    requires { ⌜ (isCode code ≡ true) × (w ≡ stride n (sampleBytes code)) × (n ≤ mostSamples) × (firstField + t * heldStride n ≤ length (now «record»)) × (length (now out) ≡ 3600 + t * w) ⌝ }
     ensures { λ _. ⌜ now (out .exit) ≡ reelCopied (now («record» .entry)) code n t ⌝ }
 {
     let e = out.len();
     numbers::copy(&record[3..3203], &mut out[0..3200]);
     put_binary(record, code, &mut out[3200..3600]);
-    put_traces(record, code, n, v, w, 186 + 6 * n, t, &mut out[3600..e]);
+    put_traces(record, code, n, w, 186 + 6 * n, t, &mut out[3600..e]);
 }
 
 // A record that can be written under the code, by its N and T.
@@ -239,7 +231,7 @@ fn write_checked(record: &[u8], code: u32, n: usize, t: usize, reel: &mut [u8]) 
             place: Place(length),
         };
     }
-    put_reel(record, code, n, v, w, t, &mut reel[..length]);
+    put_reel(record, code, n, w, t, &mut reel[..length]);
     Answer::Taken {
         traces: t,
         samples: n,

@@ -9,10 +9,10 @@ use Rattle.record.proofs.check_front.Statement.{statement}
 use Rattle.record.proofs.check_front.Tie as tie
 
 fine : (c : tie.After-enum-told) → cardsCauses (c .before .before .before .before .args .«record» .now) ≡ Fine
-fine c = sym (c .before .before .check-text .ensures) ∙ c .enum-told .given .1
+fine c = sym (c .before .before .check-cards .ensures) ∙ c .enum-told .given .1
 
-check-text-requires : tie.Need-check-text-requires
-check-text-requires c κs = search needs
+check-cards-requires : tie.Need-check-cards-requires
+check-cards-requires c κs = search needs
 
 enum-told : tie.Need-enum-told
 enum-told c = search needs
@@ -21,7 +21,7 @@ enum-told-2 : tie.Need-enum-told-2
 enum-told-2 c = search needs
 
 returns : tie.Need-returns
-returns c = let e = c .before .before .check-text .ensures in e ∙ then-stop _ _ (sym e ∙ c .enum-told2 .given .1)
+returns c = let e = c .before .before .check-cards .ensures in e ∙ then-stop _ _ (sym e ∙ c .enum-told2 .given .1)
 
 check-binary-requires : tie.Need-check-binary-requires
 unfolding cardsCauses
@@ -33,4 +33,4 @@ returns-2 c = c .check-binary .ensures ∙ then-next _ _ (fine (c .before))
 pub check-front-spec : {M : Type 1} → statement M
 check-front-spec =
     tie.close
-    (tie.spec check-text-requires enum-told enum-told-2 returns check-binary-requires returns-2)
+    (tie.spec check-cards-requires enum-told enum-told-2 returns check-binary-requires returns-2)

@@ -1,5 +1,5 @@
 -- `record::check_head` meets its contract. Assumes nothing.
-use Rattle.record.proofs.FormLaws.{field-room}
+use Rattle.record.proofs.FormLaws.{head-form, field-room}
 use Rattle.record.specs.Form.{fieldCause}
 use Rattle.record.specs.Parts.{headForm}
 use Rattle.reel.specs.Layout.{word}
@@ -59,8 +59,10 @@ enum-told-2 : tie.Need-enum-told-2
 enum-told-2 c = search needs
 
 returns : tie.Need-returns
-unfolding headForm
-returns c = let e = c .before .before .check-field .ensures in e ∙ then-stop _ _ (sym e ∙ c .enum-told2 .given .1)
+returns c =
+    let e = c .before .before .check-field .ensures in
+    let a = c .before .before .before .before .args in
+    e ∙ then-stop _ _ (sym e ∙ c .enum-told2 .given .1) ∙ sym (head-form (a .«record» .now) (a .n) (a .i) (a .at))
 
 add-check-like : tie.Need-add-check-like
 add-check-like c = omega (arith, room c)
@@ -75,8 +77,10 @@ enum-told-4 : tie.Need-enum-told-4
 enum-told-4 c = search needs
 
 returns-2 : tie.Need-returns-2
-unfolding headForm
-returns-2 c = let e = row115 (c .before .before) in e ∙ then-stop _ _ (sym e ∙ c .enum-told4 .given .1) ∙ then-next _ _ (fine (c .before .before .before))
+returns-2 c =
+    let e = row115 (c .before .before) in
+    let a = c .before .before .before .before .before .before .before .args in
+    e ∙ then-stop _ _ (sym e ∙ c .enum-told4 .given .1) ∙ then-next _ _ (fine (c .before .before .before)) ∙ sym (head-form (a .«record» .now) (a .n) (a .i) (a .at))
 
 add-check-like-2 : tie.Need-add-check-like-2
 add-check-like-2 c = omega (arith, room (c .before .before .before))
@@ -91,8 +95,11 @@ enum-told-6 : tie.Need-enum-told-6
 enum-told-6 c = search needs
 
 returns-3 : tie.Need-returns-3
-unfolding headForm
-returns-3 c = let e = row117 (c .before .before) in e ∙ then-stop _ _ (sym e ∙ c .enum-told6 .given .1) ∙ then-next _ _ (fine115 (c .before .before .before)) ∙ then-next _ _ (fine (c .before .before .before .before .before .before))
+returns-3 c =
+    let e = row117 (c .before .before) in
+    let a = c .before .before .before .before .before .before .before .before .before .before .args in
+    e ∙ then-stop _ _ (sym e ∙ c .enum-told6 .given .1) ∙ then-next _ _ (fine115 (c .before .before .before)) ∙ then-next _ _ (fine (c .before .before .before .before .before .before))
+    ∙ sym (head-form (a .«record» .now) (a .n) (a .i) (a .at))
 
 mul-check-field : tie.Need-mul-check-field
 mul-check-field c = search needs
@@ -104,8 +111,10 @@ check-field-requires-2 : tie.Need-check-field-requires-2
 check-field-requires-2 c κs = (omega (arith, room (c .before .before .before .before .before .before)), omega (arith, c .before .before .before .before .before .before .before .before .before .before .pre))
 
 returns-4 : tie.Need-returns-4
-unfolding headForm
-returns-4 c = c .check-field2 .ensures ∙ then-next _ _ (fine117 (c .before)) ∙ then-next _ _ (fine115 (c .before .before .before .before)) ∙ then-next _ _ (fine (c .before .before .before .before .before .before .before))
+returns-4 c =
+    let a = c .before .before .before .before .before .before .before .before .before .before .before .args in
+    c .check-field2 .ensures ∙ then-next _ _ (fine117 (c .before)) ∙ then-next _ _ (fine115 (c .before .before .before .before)) ∙ then-next _ _ (fine (c .before .before .before .before .before .before .before))
+    ∙ sym (head-form (a .«record» .now) (a .n) (a .i) (a .at))
 
 pub check-head-spec : {M : Type 1} → statement M
 check-head-spec =

@@ -29,7 +29,7 @@ few : (c : tie.Then1 Inv-loop μ-loop) → c .before .before .loop .t < mostTrac
 few c = more-few (c .before .before .before .before .args .«record» .now) (c .before .before .loop .t) (c .before .before .loop .at) (is-more c)
 
 fine : (c : tie.After-enum-told Inv-loop μ-loop) → let a = c .before .before .before .before .before .before .before .args in traceForm (a .«record» .now) (a .n) (a .i) (c .before .before .before .before .before .loop .at) ≡ Fine
-fine c = sym (c .before .before .check-form .ensures) ∙ c .enum-told .given .1
+fine c = sym (c .before .before .check-trace-form .ensures) ∙ c .enum-told .given .1
 
 -- the trace ends within the record
 room : (c : tie.After-enum-told Inv-loop μ-loop) → let a = c .before .before .before .before .before .before .before .args in c .before .before .before .before .before .loop .at + (186 + a .n * 6) ≤ length (a .«record» .now)
@@ -47,8 +47,8 @@ loop-holds c = (refl, c .before .pre .1, c .before .pre .2)
 more-requires : tie.Need-more-requires Inv-loop μ-loop
 more-requires c κs = search needs
 
-check-form-requires : tie.Need-check-form-requires Inv-loop μ-loop
-check-form-requires c κs = (c .before .before .loop .inv .2, c .before .before .before .before .pre .0)
+check-trace-form-requires : tie.Need-check-trace-form-requires Inv-loop μ-loop
+check-trace-form-requires c κs = (c .before .before .loop .inv .2, c .before .before .before .before .pre .0)
 
 enum-told : tie.Need-enum-told Inv-loop μ-loop
 enum-told c = search needs
@@ -60,7 +60,7 @@ returns : tie.Need-returns Inv-loop μ-loop
 returns c =
     let h = c .before .before .before .before .before in
     let a = c .before .before .before .before .before .before .before .args in
-    let e = c .before .before .check-form .ensures in
+    let e = c .before .before .check-trace-form .ensures in
     e ∙ then-stop _ _ (sym e ∙ c .enum-told2 .given .1) ∙ sym (h .loop .inv .0 ∙ form-more (a .«record» .now) (a .n) (a .i) (h .loop .t) (h .loop .at) (is-more (c .before .before .before)))
 
 add-at : tie.Need-add-at Inv-loop μ-loop
@@ -101,7 +101,7 @@ check-rest-spec =
     add-w
     loop-holds
     more-requires
-    check-form-requires
+    check-trace-form-requires
     enum-told
     enum-told-2
     returns

@@ -5,9 +5,7 @@ use Rattle.record.specs.declared.Checked.the-variants as checked
 use Rattle.numbers.proofs.CauseLaws.{then-assoc, then-fine}
 use Rattle.numbers.specs.Cause.{then}
 use Rattle.numbers.specs.declared.Check.the-variants.{Fine}
-use lib.ListN.{length}
-use Prim.Native.Nat.{ℕ, _+_, _-_, _*_, _/_}
-use mathlib.Core.Path.{_≡_, refl, sym, ap, _∙_}
+use mathlib.Core.Path.{_≡_, ap₂, _∙_}
 use native.Mathlib.Omega.{arith}
 use borrow.Author.Needs.{needs}
 use Rattle.record.proofs.own_numbers.Statement.{statement}
@@ -23,22 +21,17 @@ head c =
 binary-word-requires : tie.Need-binary-word-requires
 binary-word-requires c κs = (omega arith, omega (arith, head (c .before) .room))
 
-sub-t5 : tie.Need-sub-t5
-sub-t5 c = omega (arith, held-length (c .before .before .args .«record» .now) (c .before .before .pre))
+sub-count-at : tie.Need-sub-count-at
+sub-count-at c = omega (arith, held-length (c .before .before .args .«record» .now) (c .before .before .pre))
 
-mul-t6 : tie.Need-mul-t6
-mul-t6 c = omega (arith, c .binary-word .ensures)
-
-add-t7 : tie.Need-add-t7
-add-t7 c = omega (arith, c .binary-word .ensures)
-
-div-t8 : tie.Need-div-t8
-div-t8 c = search needs
+count-at-requires : tie.Need-count-at-requires
+count-at-requires c κs = omega (arith, held-length (c .before .before .args .«record» .now) (c .before .before .pre))
 
 returns : tie.Need-returns
 returns c =
-    let s = c .before .before .args .«record» .now in
-    ap (λ (x : ℕ). checked.Fine x ((length s - 3273) / (186 + 6 * x))) (c .binary-word .ensures .0) ∙ ap (checked.Fine (heldSamples s)) (held-count s (c .before .before .pre))
+    let b = c .before .before .before in
+    let s = b .args .«record» .now in
+    ap₂ checked.Fine (c .before .binary-word .ensures .0) (c .count-at .ensures ∙ held-count s (b .pre))
 
 pub own-numbers-spec : {M : Type 1} → statement M
-own-numbers-spec = tie.close (tie.spec binary-word-requires sub-t5 mul-t6 add-t7 div-t8 returns)
+own-numbers-spec = tie.close (tie.spec binary-word-requires sub-count-at count-at-requires returns)

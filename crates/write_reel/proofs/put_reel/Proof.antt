@@ -66,7 +66,7 @@ part-put-traces-end c = search needs
 put-traces-requires : tie.Need-put-traces-requires
 put-traces-requires c κs =
     let s = c .before .before .before .before .before .before .before .before .before .before .before .before in
-    (s .pre .0, s .pre .1, s .pre .2, refl, s .pre .4, omega (arith, s .pre .5))
+    (s .pre .0, s .pre .1, refl, s .pre .3, omega (arith, s .pre .4))
 
 same-length : tie.Need-same-length
 same-length c = search needs
@@ -80,12 +80,12 @@ returns c =
     let x = bytesAt s 3 3200 in
     let y = binaryCopied s (a .code) in
     let z = flat (map (traceCopied s (a .code) (a .n)) (walk (λ p. p) (heldStride (a .n)) (a .t) firstField)) in
-    let wide : a .t * a .w ≡ a .t * stride (a .n) (sampleBytes (a .code)) = ap (λ (k : ℕ). a .t * k) (b .pre .2 ∙ ap (stride (a .n)) (b .pre .1)) in
-    let w₀ = start _ (a .out .now) (b .pre .5 ∙ ap (λ (k : ℕ). 3600 + k) wide ∙ sym (size-reel s (a .code) (a .n) (a .t))) in
-    let w₁ = lend x (y ++ z) 3200 w₀ (omega arith) (size-bytes s 3 3200) (copied _ _ (c .before .before .before .before .before .before .before .before .before .before .copy .ensures) (search needs) ∙ bytes-between s 3 3203 3200 (omega (arith, b .pre .4)) refl) in
+    let wide : a .t * a .w ≡ a .t * stride (a .n) (sampleBytes (a .code)) = ap (λ (k : ℕ). a .t * k) (b .pre .1) in
+    let w₀ = start _ (a .out .now) (b .pre .4 ∙ ap (λ (k : ℕ). 3600 + k) wide ∙ sym (size-reel s (a .code) (a .n) (a .t))) in
+    let w₁ = lend x (y ++ z) 3200 w₀ (omega arith) (size-bytes s 3 3200) (copied _ _ (c .before .before .before .before .before .before .before .before .before .before .copy .ensures) (search needs) ∙ bytes-between s 3 3203 3200 (omega (arith, b .pre .3)) refl) in
     let w₂ = lend y z 3600 w₁ (omega arith) (size-binary s (a .code)) (c .before .before .before .before .before .before .put-binary .ensures) in
-    let size : length z ≡ length (a .out .now) - 3600 = size-traces s (a .code) (a .n) (a .t) firstField ∙ sym wide ∙ omega (arith, b .pre .5) in
-    close z (length (a .out .now)) w₂ (omega (arith, b .pre .5)) size (c .before .before .put-traces .ensures)
+    let size : length z ≡ length (a .out .now) - 3600 = size-traces s (a .code) (a .n) (a .t) firstField ∙ sym wide ∙ omega (arith, b .pre .4) in
+    close z (length (a .out .now)) w₂ (omega (arith, b .pre .4)) size (c .before .before .put-traces .ensures)
 
 pub put-reel-spec : {M : Type 1} → statement M
 put-reel-spec =

@@ -2,7 +2,7 @@
 use Rattle.reel.proofs.CheckLaws.{last-code}
 use Rattle.write_reel.specs.Copied.{samplesCopied}
 use Rattle.reel.specs.Layout.{sampleBytes}
-use Prim.Native.Nat.{ℕ}
+use Prim.Native.Nat.{ℕ, _*_}
 use mathlib.Core.Path.{_≡_, sym, ap, _∙_}
 use borrow.Author.Needs.{needs}
 use Rattle.write_reel.proofs.put_samples.Statement.{statement}
@@ -16,26 +16,22 @@ four c =
 put-ibm-requires : tie.Need-put-ibm-requires
 put-ibm-requires c κs =
     let s = c .before .before .before .before in
-    let v : s .args .v ≡ 4 = s .pre .1 ∙ ap sampleBytes (c .before .match .keys1) in
-    (s .pre .2, rw v at (s .pre .3))
+    (s .pre .1, s .pre .2 ∙ ap (λ (k : ℕ). s .args .n * sampleBytes k) (c .before .match .keys1))
 
 put-whole32-requires : tie.Need-put-whole32-requires
 put-whole32-requires c κs =
     let s = c .before .before .before .before in
-    let v : s .args .v ≡ 4 = s .pre .1 ∙ ap sampleBytes (c .before .match .keys2) in
-    (s .pre .2, rw v at (s .pre .3))
+    (s .pre .1, s .pre .2 ∙ ap (λ (k : ℕ). s .args .n * sampleBytes k) (c .before .match .keys2))
 
 put-whole16-requires : tie.Need-put-whole16-requires
 put-whole16-requires c κs =
     let s = c .before .before .before .before in
-    let v : s .args .v ≡ 2 = s .pre .1 ∙ ap sampleBytes (c .before .match .keys3) in
-    (s .pre .2, rw v at (s .pre .3))
+    (s .pre .1, s .pre .2 ∙ ap (λ (k : ℕ). s .args .n * sampleBytes k) (c .before .match .keys3))
 
 put-gain-requires : tie.Need-put-gain-requires
 put-gain-requires c κs =
     let s = c .before .before .before .before in
-    let v : s .args .v ≡ 4 = s .pre .1 ∙ ap sampleBytes (four (c .before)) in
-    (s .pre .2, rw v at (s .pre .3))
+    (s .pre .1, s .pre .2 ∙ ap (λ (k : ℕ). s .args .n * sampleBytes k) (four (c .before)))
 
 same-length : tie.Need-same-length
 same-length c = search needs

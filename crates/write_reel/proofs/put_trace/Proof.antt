@@ -1,7 +1,6 @@
 -- `write_reel::put_trace` meets its contract. Assumes nothing.
 use Rattle.write_reel.proofs.CopiedLaws.{zeroed, size-samples, size-trace}
 use Rattle.write_reel.specs.Copied.{samplesCopied, traceCopied}
-use Rattle.reel.specs.Layout.{sampleBytes}
 use Rattle.numbers.proofs.Filling.{start, lend, close}
 use Rattle.numbers.proofs.WalkLaws.{bytes-between, copied, size-bytes}
 use Rattle.numbers.specs.Walk.{bytesAt}
@@ -68,7 +67,7 @@ part-put-samples-end c = search needs
 put-samples-requires : tie.Need-put-samples-requires
 put-samples-requires c κs =
     let s = c .before .before .before .before .before .before .before .before .before .before .before .before in
-    (s .pre .0, s .pre .1, omega (arith, s .pre .2), omega (arith, s .pre .3))
+    (s .pre .0, omega (arith, s .pre .1), omega (arith, s .pre .2))
 
 same-length : tie.Need-same-length
 same-length c = search needs
@@ -83,12 +82,11 @@ returns c =
     let x = bytesAt s (at + 3) 180 in
     let y : List ℕ = replicate 60 0 in
     let z = samplesCopied s (a .code) (a .n) (at + 186) in
-    let wide : 240 + a .n * a .v ≡ 240 + a .n * sampleBytes (a .code) = ap (λ (k : ℕ). 240 + a .n * k) (b .pre .1) in
-    let w₀ = start _ (a .out .now) (b .pre .3 ∙ wide ∙ sym (size-trace s (a .code) (a .n) at)) in
-    let w₁ = lend x (y ++ z) 180 w₀ (omega arith) (size-bytes s (at + 3) 180) (copied _ _ (c .before .before .before .before .before .before .before .before .before .before .copy .ensures) (search needs) ∙ bytes-between s (at + 3) (at + 183) 180 (omega (arith, b .pre .2)) (omega arith)) in
+    let w₀ = start _ (a .out .now) (b .pre .2 ∙ sym (size-trace s (a .code) (a .n) at)) in
+    let w₁ = lend x (y ++ z) 180 w₀ (omega arith) (size-bytes s (at + 3) 180) (copied _ _ (c .before .before .before .before .before .before .before .before .before .before .copy .ensures) (search needs) ∙ bytes-between s (at + 3) (at + 183) 180 (omega (arith, b .pre .1)) (omega arith)) in
     let w₂ = lend y z 240 w₁ (omega arith) (length-replicate {A = ℕ} 60 0) (zeroed _ 60 (c .before .before .before .before .before .before .put-zeros .ensures) (search needs)) in
-    let size : length z ≡ length (a .out .now) - 240 = size-samples s (a .code) (a .n) (at + 186) ∙ omega (arith, b .pre .3 ∙ wide) in
-    close z (length (a .out .now)) w₂ (omega (arith, b .pre .3)) size (c .before .before .put-samples .ensures)
+    let size : length z ≡ length (a .out .now) - 240 = size-samples s (a .code) (a .n) (at + 186) ∙ omega (arith, b .pre .2) in
+    close z (length (a .out .now)) w₂ (omega (arith, b .pre .2)) size (c .before .before .put-samples .ensures)
 
 pub put-trace-spec : {M : Type 1} → statement M
 put-trace-spec =

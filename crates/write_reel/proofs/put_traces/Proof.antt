@@ -2,7 +2,6 @@
 use Rattle.write_reel.proofs.CopiedLaws.{size-trace, size-traces, traces-more, traces-none}
 use Rattle.write_reel.specs.Copied.{traceCopied}
 use Rattle.record.specs.Form.{heldStride, firstField}
-use Rattle.reel.specs.Layout.{stride, sampleBytes}
 use Rattle.numbers.proofs.Filling.{Filling, start as begin, finish, again, lend}
 use Rattle.numbers.proofs.WalkLaws.{times-more}
 use Rattle.numbers.specs.Walk.{walk, flat}
@@ -16,22 +15,18 @@ use Rattle.write_reel.proofs.put_traces.Statement.{statement}
 use Rattle.write_reel.proofs.put_traces.Tie as tie
 
 abbrev Inv-loop : tie.InvT-loop
-Inv-loop «record» code n v w m t out₀ at₀ o₀ left₀ out at o left =
+Inv-loop «record» code n w m t out₀ at₀ o₀ left₀ out at o left =
     (at + left * m ≤ length «record») × (length out ≡ t * w) × (o + left * w ≡ t * w)
     × Filling (flat (map (traceCopied «record» code n) (walk (λ p. p) (heldStride n) t firstField))) out o (flat (map (traceCopied «record» code n) (walk (λ p. p) (heldStride n) left at)))
 
 abbrev μ-loop : tie.MeasureT-loop
-μ-loop «record» code n v w m t out₀ at₀ o₀ left₀ out at o left = left
-
--- a trace's bytes on the reel
-wide : (c : tie.Start Inv-loop μ-loop) → let a = c .args in a .w ≡ stride (a .n) (sampleBytes (a .code))
-wide c = c .pre .2 ∙ ap (stride (c .args .n)) (c .pre .1)
+μ-loop «record» code n w m t out₀ at₀ o₀ left₀ out at o left = left
 
 loop-holds : tie.Need-loop-holds Inv-loop μ-loop
 loop-holds c =
     let s = c .before .before in
     let a = s .args in
-    (omega (arith, s .pre .4), s .pre .5, omega arith, begin _ _ (s .pre .5 ∙ ap (λ (x : ℕ). a .t * x) (wide s) ∙ sym (size-traces (a .«record» .now) (a .code) (a .n) (a .t) firstField)))
+    (omega (arith, s .pre .3), s .pre .4, omega arith, begin _ _ (s .pre .4 ∙ ap (λ (x : ℕ). a .t * x) (s .pre .1) ∙ sym (size-traces (a .«record» .now) (a .code) (a .n) (a .t) firstField)))
 
 add-e : tie.Need-add-e Inv-loop μ-loop
 add-e c = omega (arith, times-more (c .before .loop .left) (c .before .before .before .before .args .w) (c .loop-test .taken), c .before .loop .inv .1, c .before .loop .inv .2)
@@ -49,7 +44,7 @@ put-trace-requires : tie.Need-put-trace-requires Inv-loop μ-loop
 put-trace-requires c κs =
     let s = c .before .before .before .before .before in
     let l = c .before .before .loop in
-    (s .pre .0, s .pre .1, omega (arith, times-more (l .left) (s .args .m) (c .before .loop-test .taken), s .pre .3, l .inv .0), omega (arith, s .pre .2))
+    (s .pre .0, omega (arith, times-more (l .left) (s .args .m) (c .before .loop-test .taken), s .pre .2, l .inv .0), omega (arith, s .pre .1))
 
 add-at : tie.Need-add-at Inv-loop μ-loop
 add-at c = omega (arith, times-more (c .before .before .before .before .before .loop .left) (c .before .before .before .before .before .before .before .before .args .m) (c .before .before .before .before .loop-test .taken), c .before .before .before .before .before .loop .inv .0)
@@ -67,9 +62,9 @@ loop-again c =
     let r = a .«record» .now in
     let l = c .before .before .before .before .before .loop in
     let some = c .before .before .before .before .loop-test .taken in
-    let next : l .at + heldStride (a .n) ≡ l .at + a .m = ap (λ (x : ℕ). l .at + x) (sym (s .pre .3)) in
+    let next : l .at + heldStride (a .n) ≡ l .at + a .m = ap (λ (x : ℕ). l .at + x) (sym (s .pre .2)) in
     let more = traces-more r (a .code) (a .n) (l .left) (l .at) some ∙ ap (λ (x : ℕ). traceCopied r (a .code) (a .n) (l .at) ++ flat (map (traceCopied r (a .code) (a .n)) (walk (λ p. p) (heldStride (a .n)) (l .left - 1) x))) next in
-    let f = lend (traceCopied r (a .code) (a .n) (l .at)) (flat (map (traceCopied r (a .code) (a .n)) (walk (λ p. p) (heldStride (a .n)) (l .left - 1) (l .at + a .m)))) (l .o + a .w) (again (l .inv .3) more) (omega arith) (size-trace r (a .code) (a .n) (l .at) ∙ omega (arith, wide s)) (c .before .before .put-trace .ensures) in
+    let f = lend (traceCopied r (a .code) (a .n) (l .at)) (flat (map (traceCopied r (a .code) (a .n)) (walk (λ p. p) (heldStride (a .n)) (l .left - 1) (l .at + a .m)))) (l .o + a .w) (again (l .inv .3) more) (omega arith) (size-trace r (a .code) (a .n) (l .at) ∙ omega (arith, s .pre .1)) (c .before .before .put-trace .ensures) in
     (omega (arith, times-more (l .left) (a .m) some, l .inv .0), f .size ∙ sym (l .inv .3 .size) ∙ l .inv .1, omega (arith, times-more (l .left) (a .w) some, l .inv .2), f)
 
 same-length : tie.Need-same-length Inv-loop μ-loop

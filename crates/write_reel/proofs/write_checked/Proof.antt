@@ -60,7 +60,7 @@ put-reel-requires c κs =
     let s = c .before .before .before .before .before in
     let a = s .args in
     let f = fits s in
-    (f .a-code, c .before .before .width-of .ensures .0, refl, f .n-high, f .room, length-take-le (3600 + a .t * (240 + a .n * c .before .before .width-of .result)) (a .reel .now) (c .before .if1 .left))
+    (f .a-code, ap (λ (v : ℕ). 240 + a .n * v) (c .before .before .width-of .ensures .0), f .n-high, f .room, length-take-le (3600 + a .t * (240 + a .n * c .before .before .width-of .result)) (a .reel .now) (c .before .if1 .left))
 
 same-length : tie.Need-same-length
 same-length c = search needs

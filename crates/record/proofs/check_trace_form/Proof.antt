@@ -1,4 +1,4 @@
--- `record::check_form` meets its contract. Assumes nothing.
+-- `record::check_trace_form` meets its contract. Assumes nothing.
 use Rattle.record.proofs.FormLaws.{trace-form, head-room}
 use Rattle.record.specs.Parts.{headForm}
 use Rattle.numbers.proofs.CauseLaws.{then-stop, then-next}
@@ -8,8 +8,8 @@ use Prim.Native.Nat.{_+_, _*_, _≤_}
 use mathlib.Core.Path.{_≡_, sym, _∙_}
 use native.Mathlib.Omega.{arith}
 use borrow.Author.Needs.{needs}
-use Rattle.record.proofs.check_form.Statement.{statement}
-use Rattle.record.proofs.check_form.Tie as tie
+use Rattle.record.proofs.check_trace_form.Statement.{statement}
+use Rattle.record.proofs.check_trace_form.Tie as tie
 
 fine : (c : tie.After-enum-told) → let a = c .before .before .before .before .args in headForm (a .«record» .now) (a .n) (a .i) (a .at) ≡ Fine
 fine c = sym (c .before .before .check-head .ensures) ∙ c .enum-told .given .1
@@ -44,8 +44,8 @@ returns-2 c =
     let a = c .before .before .before .before .before .args in
     c .check-canonical .ensures ∙ then-next _ _ (fine (c .before)) ∙ sym (trace-form (a .«record» .now) (a .n) (a .i) (a .at))
 
-pub check-form-spec : {M : Type 1} → statement M
-check-form-spec =
+pub check-trace-form-spec : {M : Type 1} → statement M
+check-trace-form-spec =
     tie.close
     (tie.spec
     check-head-requires
