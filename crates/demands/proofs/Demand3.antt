@@ -8,9 +8,10 @@
 --
 -- - `same`: where the readings of two reels are taken, each in any code and each into any output, the two records are equal exactly when the
 --   reels mean the same.
--- - `again`: where the reading of a reel is taken, and the writing of its record under any code is taken, no cause of 1 to 9 applies to the
---   reel that was written, it is in that code, it means the same as the first reel and has the same record; and reading it into an output
---   long enough is taken with the same T, N and length, and gives that record.
+-- - `again`: where the reading of a reel is taken, and the writing of its record under any code is taken, the writing returns the same T and N
+--   and the length of such a reel; no cause of 1 to 9 applies to the reel that was written, it is in that code, it means the same as the
+--   first reel and has the same record; and reading it into an output long enough is taken with the same T, N and length, and gives that
+--   record.
 -- - `held`: so that `again` is no empty promise, the record of a reel whose reading is taken is written under every code of 1 to 4 that has a
 --   word for each of the reel's sample values, into every output that is long enough.
 -- - `own`: the reel's own code is one of those, and under it a reel of the same length is written.
@@ -60,8 +61,13 @@ same = same-outputs
 
 -- ## A reel written from a record
 
--- What a reel is that was written, under a code, from the record r of the reel s, whose reading returned t, n and l.
-pub record ReelAgain (s : List ℕ) (t n l : ℕ) (r : List ℕ) (code : ℕ) (reel : List ℕ) : Type 0 where
+-- What a reel is that was written, under a code, from the record r of the reel s, where the reading returned t, n and l and the writing
+-- returned t₂, n₂ and l₂.
+pub record ReelAgain (s : List ℕ) (t n l : ℕ) (r : List ℕ) (code t₂ n₂ l₂ : ℕ) (reel : List ℕ) : Type 0 where
+  -- The writing returned the same T and N, and the length of a reel of T traces of N samples under the code.
+  pub traces : t₂ ≡ t
+  pub samples : n₂ ≡ n
+  pub size : l₂ ≡ 3600 + t * (240 + n * sampleBytes code)
   -- No cause of 1 to 9 applies to it, and its format code is the one asked for.
   pub no-cause : causesOf reel ≡ Fine
   pub code-is : codeOf reel ≡ code
@@ -74,10 +80,10 @@ pub record ReelAgain (s : List ℕ) (t n l : ℕ) (r : List ℕ) (code : ℕ) (r
 
 -- THEOREM. Every reel written from such a record is read without refusal, means the same and has the same record.
 -- Rules out a writer that writes nothing and says taken, a writer or a reader that converts the first trace and copies it for the rest, and
--- either with a T or a length that is invented.
+-- either with a length that is invented, or a T that the other doesn't have. That T is the reel's own is `reading`.
 pub again : (s out : List ℕ) (t n l : ℕ) (code : ℕ) (out₂ : List ℕ) (t₂ n₂ l₂ : ℕ) → Bytes s → readOutcome s out .said ≡ taken (t ∷ n ∷ l ∷ [])
     → writeOutcome (take l (readOutcome s out .bytes)) code out₂ .said ≡ taken (t₂ ∷ n₂ ∷ l₂ ∷ [])
-    → ReelAgain s t n l (take l (readOutcome s out .bytes)) code (take l₂ (writeOutcome (take l (readOutcome s out .bytes)) code out₂ .bytes))
+    → ReelAgain s t n l (take l (readOutcome s out .bytes)) code t₂ n₂ l₂ (take l₂ (writeOutcome (take l (readOutcome s out .bytes)) code out₂ .bytes))
 again s out t n l code out₂ t₂ n₂ l₂ b e e₂ =
     let r = take l (readOutcome s out .bytes) in
     let x = reading s out t n l b e in
@@ -90,6 +96,9 @@ again s out t n l code out₂ t₂ n₂ l₂ b e e₂ =
     let has = written-record r h code out₂ w in
     let means = same-records s _ b (written-bytes r h code out₂ w) (taken-reel s out (t ∷ n ∷ l ∷ []) e) f .0 (sym (x .content) ∙ sym has) in
     record {
+      traces = k .traces ∙ v .traces;
+      samples = k .samples ∙ v .samples;
+      size = k .size ∙ ap₂ (reelLength code) (k .traces ∙ v .traces) (k .samples ∙ v .samples);
       no-cause = ap causesOf (k .content) ∙ f;
       code-is = ap codeOf (k .content) ∙ written-code r h code out₂ w;
       means = subst (MeanTheSame s) (sym (k .content)) means;
