@@ -14,10 +14,10 @@ use Prim.Native.Nat.{ℕ, _+_, _*_, _^_, _≤_, _<_}
 use native.Mathlib.Omega.{arith}
 use borrow.Author.Tests.{lt-ltb, le-leb, eq-eqb, ne-eqb, eqb-true, eqb-false, not-true}
 use lib.Dec.{leb, ltb, eqb}
-use lib.ListN.{length, getD, drop, length-append, length-drop}
+use lib.ListN.{length, getD, drop, replicate, length-append, length-drop}
 use lib.Seq.{drop-at}
 use lib.IntN.{ℤ, pos}
-use Rattle.numbers.specs.Walk.{pick}
+use Rattle.numbers.specs.Walk.{pick, bytesAt}
 use Rattle.numbers.specs.Cause.{refuseIf, then}
 use Rattle.numbers.specs.Outcome.{Said, taken, refused}
 use Rattle.numbers.specs.Places.{placeNo, byteNo}
@@ -41,7 +41,7 @@ use Rattle.sample.specs.declared.Written.the-variants as written
 use Rattle.sample_theorems.proofs.Held.{and-true}
 use Rattle.sample_theorems.proofs.Pairs.{Iff, value-pair-back}
 use Rattle.reel.specs.Layout.{Field, binaryFields, traceFields, samplesOf, tracesOf}
-use Rattle.reel.specs.Causes.{causesOf}
+use Rattle.reel.specs.Causes.{traceCauses, behindCauses, causesOf}
 use Rattle.record.specs.Record.{reelRecord}
 use Rattle.record.specs.Form.{heldSamples, heldTraces}
 use Rattle.record.specs.Held.{heldBy}
@@ -170,6 +170,23 @@ module _ (s out : List ℕ) where
       let r = behind (reelRecord s) out (recordSize s) (record-size s b (f .0)) (at-most (length out) (recordSize s) 10 (recordSize s) (f .1)) in
       subst (λ (x : ℕ). (length (readOutcome s out .bytes) ≡ length out) × (drop x (readOutcome s out .bytes) ≡ drop x out)) size
       (subst (λ (c : Check). (length (readEnd s out c .bytes) ≡ length out) × (drop (recordSize s) (readEnd s out c .bytes) ≡ drop (recordSize s) out)) (sym q) r)
+
+-- Document 01's example: 3,200 bytes 40, a binary header all 0 but interval 2000, N 2, code 1, and one trace with a zero header and words
+-- 41100000 C276A000.
+abbrev pub example : List ℕ
+example =
+    replicate 3200 0x40
+    ++ (replicate 16 0
+    ++ (0x07 ∷ 0xD0 ∷ 0 ∷ 0 ∷ 0 ∷ 2 ∷ 0 ∷ 0 ∷ 0 ∷ 1
+    ∷ (replicate 374 0
+    ++ (replicate 240 0
+    ++ (0x41 ∷ 0x10 ∷ 0 ∷ 0 ∷ 0xC2 ∷ 0x76 ∷ 0xA0 ∷ 0 ∷ [])))))
+
+-- THEOREM. It is taken with T 1, N 2 and a record of 3,471 bytes, for which an output of that length is long enough. Rules out a reader that
+-- declines every reel.
+pub example-taken : readOutcome example (replicate 3471 0) .said ≡ taken (1 ∷ 2 ∷ 3471 ∷ [])
+unfolding causesOf behindCauses traceCauses bytesAt
+example-taken = refl
 
 -- ## Writing a reel
 

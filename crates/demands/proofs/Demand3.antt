@@ -4,7 +4,8 @@
 -- every assigned header field but the format code, same count of traces, sample by sample the same exact value, all taken from the reel's
 -- own bytes and never from a record. Every reel written from such a record is read without refusal, means the same and has the same record."
 --
--- A record or a written reel is the output's first bytes, as many as the length returned.
+-- A record or a written reel is the output's first bytes, as many as the length returned. Values are compared V by V, whole numbers over
+-- 16^70 (`sixteen`, `by-sample`). `MeanTheSame` looks at the two reels' bytes only.
 --
 -- - `same`: where the readings of two reels are taken, each in any code and each into any output, the two records are equal exactly when the
 --   reels mean the same.
@@ -18,21 +19,22 @@
 --
 -- Each byte of a reel is below 256; nothing else is assumed.
 use mathlib.Core.Path.{_≡_, refl, sym, ap, ap₂, _∙_, subst}
-use mathlib.Core.List.{List, [], _∷_, _++_}
+use mathlib.Core.List.{List, [], _∷_, _++_, map}
 use mathlib.Core.Bool.{true}
-use Prim.Native.Nat.{ℕ, _+_, _-_, _*_, _≤_}
-use native.Mathlib.Nat.{div-add-mod'}
+use Prim.Native.Nat.{ℕ, zero, suc, _+_, _-_, _*_, _^_, _≤_, _<_}
+use native.Mathlib.Nat.{div-add-mod', not-suc-le-zero}
 use native.Mathlib.Omega.{arith}
 use borrow.Author.Tests.{le-leb}
 use lib.ListN.{length, take, drop}
-use Rattle.numbers.specs.Walk.{bytesAt}
+use lib.IntN.{ℤ}
+use Rattle.numbers.specs.Walk.{walk, bytesAt}
 use Rattle.numbers.specs.Cause.{refuseIf}
 use Rattle.numbers.specs.Outcome.{taken, Outcome}
 use Rattle.numbers.specs.declared.Check.the-variants.{Fine}
 use Rattle.numbers.proofs.WalkLaws.{All, cons-eq, size-bytes}
 use Rattle.numbers.proofs.ByteLaws.{Bytes, bytes-at}
 use Rattle.numbers.proofs.CauseLaws.{passed, then-fine, first-all}
-use Rattle.sample.specs.Value.{exactValue}
+use Rattle.sample.specs.Value.{denominatorPower, exactValue}
 use Rattle.sample.specs.Reading.{isCode}
 use Rattle.sample_theorems.proofs.Pairs.{Iff}
 use Rattle.reel.specs.Layout.{firstTrace, traceHeader, word, intervalOf, samplesOf, codeOf, sampleBytes, strideOf, tracesOf}
@@ -43,6 +45,7 @@ use Rattle.record.specs.Record.{reelRecord}
 use Rattle.transcribe.specs.Reading.{readOutcome}
 use Rattle.write_reel.specs.Reel.{reelLength}
 use Rattle.write_reel.specs.Writing.{writeOutcome}
+use Rattle.reel_theorems.proofs.Refusals.{at-zero, at-suc, sampleAt}
 use Rattle.reel_theorems.proofs.Same.{same-records}
 use Rattle.reel_theorems.proofs.Output.{taken-reel, same-outputs}
 use Rattle.demands.proofs.Fitting.{HasWord}
@@ -58,6 +61,50 @@ pub same : (s₁ s₂ out₁ out₂ : List ℕ) (t₁ n₁ l₁ t₂ n₂ l₂ :
     → readOutcome s₁ out₁ .said ≡ taken (t₁ ∷ n₁ ∷ l₁ ∷ []) → readOutcome s₂ out₂ .said ≡ taken (t₂ ∷ n₂ ∷ l₂ ∷ [])
     → Iff (take l₁ (readOutcome s₁ out₁ .bytes) ≡ take l₂ (readOutcome s₂ out₂ .bytes)) (MeanTheSame s₁ s₂)
 same = same-outputs
+
+-- ## Sample by sample
+
+-- THEOREM. The denominator of every exact value is 16^70. Alone it rules out none of the list.
+pub sixteen : 2 ^ denominatorPower ≡ 16 ^ 70
+sixteen = refl
+
+-- Where two walks give the same, each step of the one gives what that step of the other gives.
+walk-each : {A : Type 0} (f g : ℕ → A) (w v k m a b : ℕ) → walk f w k a ≡ walk g v m b → (j : ℕ) → j < k → f (a + j * w) ≡ g (b + j * v)
+walk-each f g w v zero m a b e j l = absurd (not-suc-le-zero l)
+walk-each f g w v (suc k) zero a b e j l = absurd (let z = ap length e in omega arith)
+walk-each f g w v (suc k) (suc m) a b e zero l =
+    let h : f a ≡ g b = cc in
+    ap f (at-zero a w) ∙ h ∙ sym (ap g (at-zero b v))
+walk-each f g w v (suc k) (suc m) a b e (suc j) l =
+    let t : walk f w k (a + w) ≡ walk g v m (b + v) = cc in
+    ap f (at-suc a w j) ∙ walk-each f g w v k m (a + w) (b + v) t j (omega arith) ∙ sym (ap g (at-suc b v j))
+
+-- A function of each thing that a walk gives is a walk.
+map-walk : {A B : Type 0} (h : A → B) (f : ℕ → A) (w k a : ℕ) → map h (walk f w k a) ≡ walk (λ x. h (f x)) w k a
+map-walk h f w zero a = refl
+map-walk h f w (suc k) a = ap (λ l. h (f a) ∷ l) (map-walk h f w k (a + w))
+
+-- The exact value V, over 16^70, of sample j of trace k, both counted from 0, by the four bytes where it stands.
+abbrev pub sampleValue : List ℕ → ℕ → ℕ → ℤ
+sampleValue s k j = exactValue (codeOf s) (bytesAt s (sampleAt s k j) 4)
+
+-- The values of the trace at a place.
+traceValues : List ℕ → ℕ → List ℤ
+traceValues s at = walk (λ p. exactValue (codeOf s) (bytesAt s p 4)) (sampleBytes (codeOf s)) (samplesOf s) (at + traceHeader)
+
+-- They are those that the reel means, trace by trace.
+all-values : (s : List ℕ) → map (λ (t : Trace). t .values) (meaningOf s .traces) ≡ walk (traceValues s) (strideOf s) (tracesOf s) firstTrace
+unfolding meaningOf traceMeaning traceValues
+all-values s = map-walk (λ (t : Trace). t .values) (traceMeaning s (codeOf s) (samplesOf s) (intervalOf s)) (strideOf s) (tracesOf s) firstTrace
+
+-- THEOREM. Where two reels mean the same, sample j of trace k has the same exact value in both.
+-- Alone it rules out none of the list: it spells out what `same` compares.
+pub by-sample : (s₁ s₂ : List ℕ) → MeanTheSame s₁ s₂ → (k j : ℕ) → k < tracesOf s₁ → j < samplesOf s₁ → sampleValue s₁ k j ≡ sampleValue s₂ k j
+unfolding traceValues
+by-sample s₁ s₂ m k j l h =
+    let e = sym (all-values s₁) ∙ m .values ∙ all-values s₂ in
+    let t = walk-each (traceValues s₁) (traceValues s₂) (strideOf s₁) (strideOf s₂) (tracesOf s₁) (tracesOf s₂) firstTrace firstTrace e k l in
+    walk-each _ _ (sampleBytes (codeOf s₁)) (sampleBytes (codeOf s₂)) (samplesOf s₁) (samplesOf s₂) _ _ t j h
 
 -- ## A reel written from a record
 

@@ -23,12 +23,14 @@ use Rattle.record.specs.Record.{recordOf}
 use Rattle.record.specs.Form.{heldSamples, heldTraces, formCauses}
 use Rattle.record.specs.Held.{heldBy}
 use Rattle.transcribe.specs.Reading.{readOutcome}
+use Rattle.sample_theorems.proofs.Pairs.{Iff}
 use Rattle.reel_theorems.proofs.Output.{taken-reel}
 use Rattle.demands.proofs.Again.{held-again}
 use Rattle.demands.proofs.Proper.{Proper}
 use Rattle.demands.proofs.ProperLaws.{reel-proper}
 use Rattle.demands.proofs.RecordBack.{record-bytes, record-samples, record-traces, record-no-cause, record-again}
 use Rattle.demands.proofs.Taken.{meant-count}
+use Rattle.demands.proofs.WriteRefusals.{RecordRight, record-fine, record-right}
 use Rattle.demands.proofs.Demand2.{reading}
 
 -- ## The record that reading gives
@@ -70,6 +72,11 @@ read-valid s out t n l b e =
     rw (k .traces, k .samples, k .content) h
 
 -- ## Valid records
+
+-- THEOREM. Neither 12 nor 13 applies to a record exactly when it is right from tag 01 to its last byte, with some count of traces.
+-- Alone it rules out none of the list: it spells out what valid means.
+pub valid-is : (r : List ℕ) → Iff (formCauses r ≡ Fine) ((t : ℕ) × RecordRight r t)
+valid-is r = (λ e. (heldTraces r (heldSamples r), record-right r e), λ h. record-fine r (h .0) (h .1))
 
 -- THEOREM. Two valid records that hold the same are equal byte for byte.
 -- With `read-valid` it leaves no second record to a reel. Alone it rules out no program of document 01's list, as it speaks of records only.

@@ -33,10 +33,11 @@ pub record First (f : ℕ → Check) (w k at : ℕ) (number : ℕ) (place : Plac
   pub before : (i : ℕ) → i < j → f (at + i * w) ≡ Fine
   pub here : f (at + j * w) ≡ Refused number place
 
-at-zero : (at w : ℕ) → at + 0 * w ≡ at
+-- the offset of the first step of a walk, and of a later one
+pub at-zero : (at w : ℕ) → at + 0 * w ≡ at
 at-zero at w = rw (zero-mul, add-zero)
 
-at-suc : (at w j : ℕ) → at + suc j * w ≡ at + w + j * w
+pub at-suc : (at w j : ℕ) → at + suc j * w ≡ at + w + j * w
 at-suc at w j = rw suc-mul (omega arith)
 
 -- where a walk refuses, the first of its checks that refuses is the one that the answer comes from
