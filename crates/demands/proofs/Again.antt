@@ -121,6 +121,6 @@ pieces-again s h v =
     ∙ bytes-join s 0 3203 (63 + (t * w + 7)) 3203 (length s) refl (omega (arith, v .count .whole, v .last))
     ∙ all-bytes s
 
--- THEOREM. A valid record is the record of what it holds.
+-- LAW. A valid record is the record of what it holds.
 pub held-again : (r : List ℕ) → Bytes r → formCauses r ≡ Fine → recordOf (heldBy r) ≡ r
 held-again r h e = pieces-again r h (valid r e)

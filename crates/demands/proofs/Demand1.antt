@@ -1,11 +1,21 @@
--- # Demand 1
+-- # Demand 1: every call ends, and refuses as document 01 sets
 --
 -- "Every call ends, on every input, with no access outside the lent buffers and no number that loses bits. Each refusal has the number and
 -- place that document 01 sets, in just the cases set there. A refused call changes no byte of its output."
 --
--- The first sentence is the checker's own claim for every function that it proves: each ends, stays within its buffers and loses no bits,
--- and no public call asks anything of its input. The other two are shown here for each public call, over the outcome that its contract
--- gives: what it says, and each byte that it hands out or leaves in its output.
+-- Rattle proves of every function that it ends, stays within the buffers lent to it, and has no sum or cast that loses bits. No public call
+-- asks anything of its input, so this holds on every input. The other two sentences are shown here for each call of document 01, over the
+-- outcome that its contract gives: what it says, and each byte that it hands out or leaves in its output. The contracts:
+--
+-- - `read_reel`: outcome answer (output after) ≡ readOutcome reel (output before)
+-- - `write_reel`: outcome answer (output after) ≡ writeOutcome record code (output before)
+-- - `look_up`: lookedUp answer ≡ lookUpOutcome reel (trace number) (byte number)
+-- - `read_word`: wordRead answer ≡ readOutcome code word, for a single word
+-- - `write_pair`: pairWritten answer ≡ writeOutcome code pair, for a single pair
+-- - the program prints what reading into 65,536 bytes says: `programLine` of the crate `line`
+--
+-- Beside each theorem, here and in the files on the other demands, stands what it rules out of document 01's list: the six wrong programs of
+-- "Agreement between the parties", and the six "Mistakes to rule out".
 use mathlib.Core.Path.{_≡_, refl, sym, ap, _∙_, subst}
 use mathlib.Core.List.{List, [], _∷_, _++_}
 use mathlib.Core.Logic.{inl, inr}
@@ -62,7 +72,7 @@ use Rattle.demands.proofs.WrittenSize.{reel-size}
 
 -- A call says what its checks answer: taken with its values where they find nothing, else the number and place that they refuse with.
 module _ (say : Check → Said) (values : List ℕ) (fine : say Fine ≡ taken values) (row : (number : ℕ) (place : Place) → say (Refused number place) ≡ refused number (placeNo place)) where
-  -- It says that it refused, by a number with a place, just where its checks refuse so.
+  -- It says that it refused, by a number with a place, exactly where its checks refuse so.
   says-refused : (c : Check) (number place : ℕ) → Iff (say c ≡ refused number place) (c ≡ Refused number (atPlace place))
   says-refused c number place = (there c, λ e. ap say e ∙ row number (atPlace place))
     where
@@ -82,11 +92,11 @@ module _ (say : Check → Said) (values : List ℕ) (fine : say Fine ≡ taken v
   says-fine Fine numbers e = refl
   says-fine (Refused m q) numbers e = absurd (not-taken (sym (row m q) ∙ e))
 
-  -- So it took, with those values, just where they find nothing.
+  -- So it took, with those values, exactly where they find nothing.
   says-taken : (c : Check) → Iff (say c ≡ taken values) (c ≡ Fine)
   says-taken c = (says-fine c values, λ e. ap say e ∙ fine)
 
--- Where the rows against a call are exact, its checks find nothing just where no row applies.
+-- Where the rows against a call are exact, its checks find nothing exactly where no row applies.
 fine-none : (R : ℕ → ℕ → Type 0) (c : Check) → ((number place : ℕ) → Iff (c ≡ Refused number (atPlace place)) (R number place))
     → Iff (c ≡ Fine) ((number place : ℕ) → ¬ (R number place))
 fine-none R c exact = (λ e number place r. not-fine (sym (exact number place .1 r) ∙ e), there c exact)
@@ -95,7 +105,7 @@ fine-none R c exact = (λ e number place r. not-fine (sym (exact number place .1
     there Fine exact h = refl
     there (Refused number place) exact h = absurd (h number (placeNo place) (exact number (placeNo place) .0 refl))
 
--- What holds in the same cases as something else does so in the same cases as a third.
+-- Where A holds exactly when B does, and B exactly when C does, A holds exactly when C does.
 both : {A B C : Type 0} → Iff A B → Iff B C → Iff A C
 both p q = (λ a. q .0 (p .0 a), λ c. p .1 (q .1 c))
 
@@ -136,15 +146,17 @@ module _ (s out : List ℕ) where
   readSays c = readEnd s out c .said
 
   -- THEOREM. "Each refusal has the number and place that document 01 sets, in just the cases set there": reading is refused exactly when a
-  -- row applies, by its number and place. Rules out a reader that says output too short before working out the length: 10 needs that no
-  -- row of 1 to 9 applies and that the output is shorter than the record, and has the record's length beside it.
+  -- row applies, by its number and place.
+  -- Rules out a reader that declines every reel, and one that says output too short before working out the length: 10 needs that no row of 1
+  -- to 9 applies and that the output is shorter than the record, and has the record's length beside it.
   pub read-refused : (number place : ℕ) → Iff (readOutcome s out .said ≡ refused number place) (ReadRow s (length out) number place)
   unfolding readSays
   read-refused number place =
       both (says-refused readSays (tracesOf s ∷ samplesOf s ∷ recordSize s ∷ []) refl (λ n p. refl) (readCauses s (length out)) number place)
       (read-exact s (length out) number place)
 
-  -- THEOREM. And it is taken, with T, N and the record's length, exactly when no row applies. Rules out a reader that declines every reel.
+  -- THEOREM. And it is taken, with T, N and the record's length, exactly when no row applies.
+  -- Rules out a reader that declines every reel, and one whose T or length is invented.
   pub read-taken : Iff (readOutcome s out .said ≡ taken (tracesOf s ∷ samplesOf s ∷ recordSize s ∷ [])) ((number place : ℕ) → ¬ (ReadRow s (length out) number place))
   unfolding readSays
   read-taken =
@@ -152,6 +164,7 @@ module _ (s out : List ℕ) where
       (fine-none (ReadRow s (length out)) (readCauses s (length out)) (read-exact s (length out)))
 
   -- THEOREM. "A refused call changes no byte of its output."
+  -- Alone it rules out none of the list.
   pub read-keeps : (number place : ℕ) → readOutcome s out .said ≡ refused number place → readOutcome s out .bytes ≡ out
   unfolding readSays
   read-keeps number place e =
@@ -159,6 +172,7 @@ module _ (s out : List ℕ) where
       (says-refused readSays (tracesOf s ∷ samplesOf s ∷ recordSize s ∷ []) refl (λ n p. refl) (readCauses s (length out)) number place .0 e)
 
   -- THEOREM. A taken call leaves the output's length, and each byte behind the length returned, as they were.
+  -- Alone it rules out none of the list.
   pub read-rest : (t n l : ℕ) → Bytes s → readOutcome s out .said ≡ taken (t ∷ n ∷ l ∷ [])
       → (length (readOutcome s out .bytes) ≡ length out) × (drop l (readOutcome s out .bytes) ≡ drop l out)
   unfolding readSays
@@ -182,8 +196,8 @@ example =
     ++ (replicate 240 0
     ++ (0x41 ∷ 0x10 ∷ 0 ∷ 0 ∷ 0xC2 ∷ 0x76 ∷ 0xA0 ∷ 0 ∷ [])))))
 
--- THEOREM. It is taken with T 1, N 2 and a record of 3,471 bytes, for which an output of that length is long enough. Rules out a reader that
--- declines every reel.
+-- THEOREM. It is taken with T 1, N 2 and a record of 3,471 bytes, for which an output of that length is long enough.
+-- Rules out a reader that declines every reel.
 pub example-taken : readOutcome example (replicate 3471 0) .said ≡ taken (1 ∷ 2 ∷ 3471 ∷ [])
 unfolding causesOf behindCauses traceCauses bytesAt
 example-taken = refl
@@ -200,21 +214,25 @@ module _ (s : List ℕ) (code : ℕ) (out : List ℕ) where
   writeSays c = writeEnd s code out c .said
 
   -- THEOREM. "Each refusal has the number and place that document 01 sets, in just the cases set there": writing is refused exactly when a
-  -- row applies, by its number and place. Rules out a writer that looks at the samples before the form, or says output too short before
-  -- working out the length: 10 needs a valid record whose samples all fit, and has the reel's length beside it.
+  -- row applies, by its number and place.
+  -- Rules out a writer that declines every record, and one that says output too short before working out the length: 10 needs a valid record
+  -- whose samples all fit, and has the reel's length beside it. By 14, normalising by single bits, pushing C below 0 and shifting up for a
+  -- negative e: a sample is refused exactly where no word of the code has its value.
   pub write-refused : (number place : ℕ) → Iff (writeOutcome s code out .said ≡ refused number place) (WriteRow s code (length out) number (atPlace place))
   unfolding writeSays
   write-refused number place =
       both (says-refused writeSays (writtenNumbers s code) refl (λ n p. refl) (writeCauses s code (length out)) number place)
       (exact-writing s code (length out) number (atPlace place))
 
-  -- THEOREM. And it is taken, with T, N and the reel's length, exactly when no row applies. Rules out a writer that declines every record.
+  -- THEOREM. And it is taken, with T, N and the reel's length, exactly when no row applies.
+  -- Rules out a writer that declines every record, and one whose T or length is invented.
   pub write-taken : Iff (writeOutcome s code out .said ≡ taken (writtenNumbers s code)) ((number : ℕ) (place : Place) → ¬ (WriteRow s code (length out) number place))
   unfolding writeSays
   write-taken =
       both (says-taken writeSays (writtenNumbers s code) refl (λ n p. refl) (writeCauses s code (length out))) (no-writing-cause s code (length out))
 
   -- THEOREM. "A refused call changes no byte of its output."
+  -- Alone it rules out none of the list.
   pub write-keeps : (number place : ℕ) → writeOutcome s code out .said ≡ refused number place → writeOutcome s code out .bytes ≡ out
   unfolding writeSays
   write-keeps number place e =
@@ -222,6 +240,7 @@ module _ (s : List ℕ) (code : ℕ) (out : List ℕ) where
       (says-refused writeSays (writtenNumbers s code) refl (λ n p. refl) (writeCauses s code (length out)) number place .0 e)
 
   -- THEOREM. A taken call leaves the output's length, and each byte behind the length returned, as they were.
+  -- Alone it rules out none of the list.
   pub write-rest : (t n l : ℕ) → writeOutcome s code out .said ≡ taken (t ∷ n ∷ l ∷ [])
       → (length (writeOutcome s code out .bytes) ≡ length out) × (drop l (writeOutcome s code out .bytes) ≡ drop l out)
   unfolding writeSays
@@ -252,7 +271,7 @@ pub data LookUpRow (s : List ℕ) (k : ℕ) (b : ByteNo) : ℕ → ℕ → Type 
   no-trace : ((number place : ℕ) → ¬ (Row s number place)) → tracesOf s < k → LookUpRow s k b 15 0
   no-field : ((number place : ℕ) → ¬ (Row s number place)) → k ≤ tracesOf s → NoField k b → LookUpRow s k b 16 0
 
--- No field is found just where none begins at the byte number.
+-- No field is found exactly where none begins at the byte number.
 none-found : (b : ℕ) (fs : List Field) → Iff (isNone (fieldIn b fs) ≡ true) (All (λ f. ¬ (f .byteNo ≡ b)) fs)
 unfolding fieldIn
 none-found b [] = (λ e. tt, λ h. refl)
@@ -302,18 +321,21 @@ module _ (s : List ℕ) (k : ℕ) (b : ByteNo) where
 
   -- THEOREM. "Each refusal has the number and place that document 01 sets, in just the cases set there": looking up is refused exactly when
   -- a row applies, by its number and place.
+  -- Rules out a look-up that declines every reel.
   pub look-up-refused : (number place : ℕ) → Iff (lookUpOutcome s k b .said ≡ refused number place) (LookUpRow s k b number place)
   unfolding lookUpSays lookUpOutcome
   look-up-refused number place =
       both (says-refused lookUpSays [] refl (λ n p. refl) (lookUpCauses s k b) number place) (look-up-exact number place)
 
-  -- THEOREM. And it is taken exactly when no row applies. Rules out a look-up that declines every reel.
+  -- THEOREM. And it is taken exactly when no row applies.
+  -- Rules out a look-up that declines every reel.
   pub look-up-taken : Iff (lookUpOutcome s k b .said ≡ taken []) ((number place : ℕ) → ¬ (LookUpRow s k b number place))
   unfolding lookUpSays lookUpOutcome
   look-up-taken =
       both (says-taken lookUpSays [] refl (λ n p. refl) (lookUpCauses s k b)) (fine-none (LookUpRow s k b) (lookUpCauses s k b) look-up-exact)
 
   -- THEOREM. Beside a refusal the number is 0.
+  -- Alone it rules out none of the list.
   pub look-up-zero : (number place : ℕ) → lookUpOutcome s k b .said ≡ refused number place → lookUpOutcome s k b .number ≡ pos 0
   unfolding lookUpSays lookUpOutcome
   look-up-zero number place e =
@@ -382,12 +404,14 @@ module _ (code : ℕ) (w : List ℕ) where
           then-second _ _ (fine-where (test-between 1 4 code 2 0) g) (ap (λ (x : Bool). refuseIf x 9 0) (gain-true c h))
 
   -- THEOREM. "A single word is refused by 2, then 9; the place is 0": exactly when that row applies.
+  -- Rules out a call that declines every word.
   pub word-refused : (number place : ℕ) → Iff (calls.readOutcome code w .said ≡ refused number place) (WordRow code w number place)
   unfolding says
   word-refused number place =
       both (λ e. sym word-says ∙ e, λ e. word-says ∙ e) (both (says-refused says [] refl (λ n p. refl) wordChecks number place) (word-exact number place))
 
-  -- THEOREM. And it is taken exactly when no row applies. Rules out a call that declines every word.
+  -- THEOREM. And it is taken exactly when no row applies.
+  -- Rules out a call that declines every word.
   pub word-taken : Iff (calls.readOutcome code w .said ≡ taken []) ((number place : ℕ) → ¬ (WordRow code w number place))
   unfolding says
   word-taken =
@@ -395,6 +419,7 @@ module _ (code : ℕ) (w : List ℕ) where
       (both (says-taken says [] refl (λ n p. refl) wordChecks) (fine-none (WordRow code w) wordChecks word-exact))
 
   -- THEOREM. Beside a refusal the six bytes handed out are all 00.
+  -- Alone it rules out none of the list.
   pub word-zero : (number place : ℕ) → calls.readOutcome code w .said ≡ refused number place → calls.readOutcome code w .bytes ≡ 0 ∷ 0 ∷ 0 ∷ 0 ∷ 0 ∷ 0 ∷ []
   word-zero number place e = go (readWord code w) e
     where
@@ -449,7 +474,7 @@ module _ (code : ℕ) (b : List ℕ) where
       go true false r h = refl
       go false c r h = refl
 
-  -- A canonical pair has no word just where no word of the code has its value.
+  -- A canonical pair has a word exactly where some word of the code has its value.
   unfit-is : Between 1 4 code → isCanonical (pairIn b) ≡ true → Iff (isUnfit (wordOf code (valueOf (pairIn b))) ≡ false) (HasWord code (valueOf (pairIn b)))
   unfit-is g c =
       fits-is code (valueOf (pairIn b)) (and-both (leb 1 code) _ (le-leb 1 code (g .0)) (le-leb code 4 (g .1)))
@@ -482,12 +507,14 @@ module _ (code : ℕ) (b : List ℕ) where
           (refused-where (test-flag (isUnfit (wordOf code (valueOf (pairIn b)))) 14 0) (λ e. h (unfit-is g c .0 e))))
 
   -- THEOREM. "A single pair is refused by 11, 13, 14; the place is 0": exactly when that row applies.
+  -- Rules out a call that declines every pair; and by 14, normalising by single bits, pushing C below 0 and shifting up for a negative e.
   pub pair-refused : (number place : ℕ) → Iff (calls.writeOutcome code b .said ≡ refused number place) (PairRow code b number place)
   unfolding says
   pair-refused number place =
       both (λ e. sym pair-says ∙ e, λ e. pair-says ∙ e) (both (says-refused says [] refl (λ n p. refl) pairChecks number place) (pair-exact number place))
 
-  -- THEOREM. And it is taken exactly when no row applies. Rules out a call that declines every pair.
+  -- THEOREM. And it is taken exactly when no row applies.
+  -- Rules out a call that declines every pair, and what `pair-refused` rules out by 14.
   pub pair-taken : Iff (calls.writeOutcome code b .said ≡ taken []) ((number place : ℕ) → ¬ (PairRow code b number place))
   unfolding says
   pair-taken =
@@ -495,6 +522,7 @@ module _ (code : ℕ) (b : List ℕ) where
       (both (says-taken says [] refl (λ n p. refl) pairChecks) (fine-none (PairRow code b) pairChecks pair-exact))
 
   -- THEOREM. Beside a refusal the four bytes handed out are all 00.
+  -- Alone it rules out none of the list.
   pub pair-zero : (number place : ℕ) → calls.writeOutcome code b .said ≡ refused number place → calls.writeOutcome code b .bytes ≡ 0 ∷ 0 ∷ 0 ∷ 0 ∷ []
   pair-zero number place e = go (writePair code (pairIn b)) e
     where

@@ -17,7 +17,8 @@
 -- - `round`: the second sentence at once. A valid record, a code of 1 to 4 that holds every sample exactly and an output long enough: the
 --   writing is taken, and reading what it wrote gives the record again.
 --
--- Each byte of a reel and of a record is below 256; nothing else is assumed. Every reel, record, code and output is meant.
+-- Valid means that neither 12 nor 13 applies, and `valid-is` in `Determined` spells it out. Each byte of a reel and of a record is below 256;
+-- nothing else is assumed. Every reel, record, code and output is meant.
 use mathlib.Core.Path.{_≡_, sym, ap, ap₂, _∙_}
 use mathlib.Core.List.{List, [], _∷_, _++_}
 use mathlib.Core.Bool.{true}
@@ -64,7 +65,8 @@ same-numbers e = (cc, cc, cc)
 
 -- THEOREM. A reel becomes the record that SEG-Y revision 0 and the IBM word define.
 -- Rules out a reader that gives one fixed record, one that writes nothing and says taken, one that converts the first trace and copies it
--- for the rest, and one whose T or length is invented.
+-- for the rest, and one whose T or length is invented; two's complement for the IBM fraction, keeping minus zero, and filling field 115 only
+-- for the first trace.
 pub reading : (s out : List ℕ) (t n l : ℕ) → Bytes s → readOutcome s out .said ≡ taken (t ∷ n ∷ l ∷ []) → RecordRead s out t n l
 reading s out t n l b e =
     let k = same-numbers (sym e ∙ taken-numbers s out (t ∷ n ∷ l ∷ []) e) in
@@ -90,7 +92,8 @@ pub record CanBeWritten (r : List ℕ) (code : ℕ) (out : List ℕ) : Type 0 wh
 
 -- THEOREM. A valid record is written as a reel in any code that holds every sample exactly, if the output is long enough; and in no other
 -- case.
--- Rules out a writer that declines every record, and one that says output too short before working out the length.
+-- Rules out a writer that declines every record, and one that says output too short before working out the length (the rest of that is
+-- `write-refused`).
 pub writing : (r : List ℕ) (code : ℕ) (out : List ℕ) → Bytes r → formCauses r ≡ Fine
     → Iff ((numbers : List ℕ) × (writeOutcome r code out .said ≡ taken numbers)) (CanBeWritten r code out)
 writing r code out b v = (there, here)
@@ -123,9 +126,10 @@ pub record ReelWritten (r : List ℕ) (code : ℕ) (out : List ℕ) (t n l : ℕ
   -- The rest of the output keeps its content.
   pub rest : drop l (writeOutcome r code out .bytes) ≡ drop l out
 
--- THEOREM. What is written is the reel of what the record holds.
+-- THEOREM. What is written is the reel of what the record holds: under code 1 each sample by its normal word (`writing-normal`), under code 4
+-- with the smallest gain (`writing-least`), unassigned bytes 0.
 -- Rules out a writer that writes nothing and says taken, one that converts the first trace and copies it for the rest, and one whose T or
--- length is invented.
+-- length is invented; normalising by single bits, pushing C below 0, and shifting up for a negative e.
 pub written : (r : List ℕ) (code : ℕ) (out : List ℕ) (t n l : ℕ) → Bytes r → writeOutcome r code out .said ≡ taken (t ∷ n ∷ l ∷ [])
     → ReelWritten r code out t n l
 written r code out t n l b e =
@@ -147,8 +151,8 @@ written r code out t n l b e =
 -- ## Reading the reel that was written
 
 -- THEOREM. Reading that reel gives the record again, byte for byte and with the same T and N, in every output that is long enough.
--- Rules out a reader and a writer that each give one fixed answer, that write nothing and say taken, that convert the first trace and copy
--- it for the rest, or whose T or length is invented.
+-- Rules out a fixed record or reel, writing nothing and saying taken, copying the first trace for the rest, and an invented length. That T
+-- and N are the record's own, and not merely the same both times, is `reading` and `written`.
 pub back : (r : List ℕ) (code : ℕ) (out out₂ : List ℕ) (t n l : ℕ) → Bytes r → writeOutcome r code out .said ≡ taken (t ∷ n ∷ l ∷ []) → length r ≤ length out₂
     → readOutcome (take l (writeOutcome r code out .bytes)) out₂ ≡ record { said = taken (t ∷ n ∷ length r ∷ []); bytes = r ++ drop (length r) out₂ }
 back r code out out₂ t n l b e h =

@@ -56,7 +56,9 @@ use Rattle.demands.proofs.Determined.{read-valid}
 -- ## Two reels
 
 -- THEOREM. Two reels that are read without refusal have records equal byte for byte exactly when they mean the same.
--- Rules out a reader that gives one fixed record, and one that converts the first trace and copies it for the rest.
+-- Rules out a reader that gives one fixed record, and one that converts the first trace and copies it for the rest; two's complement for the
+-- IBM fraction, keeping minus zero, and filling field 115 only for the first trace. Also copying the words through, since two words of one
+-- value must give one pair.
 pub same : (s₁ s₂ out₁ out₂ : List ℕ) (t₁ n₁ l₁ t₂ n₂ l₂ : ℕ) → Bytes s₁ → Bytes s₂
     → readOutcome s₁ out₁ .said ≡ taken (t₁ ∷ n₁ ∷ l₁ ∷ []) → readOutcome s₂ out₂ .said ≡ taken (t₂ ∷ n₂ ∷ l₂ ∷ [])
     → Iff (take l₁ (readOutcome s₁ out₁ .bytes) ≡ take l₂ (readOutcome s₂ out₂ .bytes)) (MeanTheSame s₁ s₂)

@@ -87,7 +87,7 @@ trace-held s h n i at p q t =
           (all-walk (CanonicalAt s) (λ v. isCanonical (pairOf v) ≡ true) (λ a. a) (heldValue s) (value-held s) pairLength n (at + 183 + 3) (t .pairs));
     }
 
--- THEOREM. What a valid record holds is proper, with the record's N and interval.
+-- LAW. What a valid record holds is proper, with the record's N and interval.
 pub held-proper : (r : List ℕ) → Bytes r → formCauses r ≡ Fine → Proper (heldSamples r) (heldInterval r) (heldBy r)
 unfolding heldBy binaryFields binaryWidths binary-front binary-back
 held-proper r h e =
@@ -178,7 +178,7 @@ trace-meant s h code n i at p q e =
       canonical = l .canonical;
     }
 
--- THEOREM. What a reel means to which no cause of 1 to 9 applies is proper, with the reel's N and interval.
+-- LAW. What a reel means to which no cause of 1 to 9 applies is proper, with the reel's N and interval.
 pub reel-proper : (s : List ℕ) → Bytes s → causesOf s ≡ Fine → Proper (samplesOf s) (intervalOf s) (meaningOf s)
 unfolding meaningOf
 reel-proper s h e =

@@ -38,7 +38,7 @@ Tests P number at c = (P × (c ≡ Fine)) ⊎ ((¬ P) × (c ≡ Refused number (
 pub apart : false ≡ true → ⊥
 apart e = subst T (sym e) tt
 
--- A test by a truth value that is true just where P holds.
+-- A test by a truth value that is true exactly where P holds.
 pub test-by : (P : Type 0) (b : Bool) (number at : ℕ) → (b ≡ true → P) → (P → b ≡ true) → Tests P number at (refuseIf (not b) number at)
 test-by P true number at f g = inl (f refl, refl)
 test-by P false number at f g = inr (λ p. apart (g p), refl)

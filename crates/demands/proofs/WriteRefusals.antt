@@ -745,7 +745,7 @@ no-writing-cause s code room = (none, fine (writeCauses s code room) refl)
     fine Fine e h = e
     fine (Refused number place) e h = absurd (h number place (to-row s code room e))
 
--- THEOREM. Where 100,000 traces stand and are right, and trace 100,001 follows them, writing is refused by 12 at the place of its tag.
+-- LAW. Where 100,000 traces stand and are right, and trace 100,001 follows them, writing is refused by 12 at the place of its tag.
 pub trace-beyond : (s : List ℕ) (code room : ℕ) → Between 1 4 code → RightUntil s 100000 → getD s (tracePlace s 100000) 0 ≡ 3
     → writeCauses s code room ≡ Refused 12 (atPlace (tracePlace s 100000))
 trace-beyond s code room g h tag =
