@@ -20,9 +20,9 @@ use mathlib.Core.Path.{_≡_, refl, sym, ap, _∙_, subst}
 use mathlib.Core.List.{List, [], _∷_, _++_}
 use mathlib.Core.Logic.{inl, inr}
 use mathlib.Core.Bool.{Bool, true, false, not}
-use Prim.Native.Nat.{ℕ, _+_, _*_, _^_, _≤_, _<_}
+use Prim.Native.Nat.{ℕ, _+_, _^_, _≤_, _<_}
 use native.Mathlib.Omega.{arith}
-use borrow.Author.Tests.{lt-ltb, le-leb, eq-eqb, ne-eqb, eqb-true, eqb-false, not-true}
+use borrow.Author.Tests.{le-leb, eq-eqb, ne-eqb, eqb-true, eqb-false, not-true}
 use lib.Dec.{leb, ltb, eqb}
 use lib.ListN.{length, getD, drop, replicate, length-append, length-drop}
 use lib.Seq.{drop-at}
@@ -56,14 +56,15 @@ use Rattle.record.specs.Record.{reelRecord}
 use Rattle.record.specs.Form.{heldSamples, heldTraces}
 use Rattle.record.specs.Held.{heldBy}
 use Rattle.record.specs.Target.{isUnfit, targetCauses}
+use Rattle.transcribe.specs.Reading as reading
 use Rattle.transcribe.specs.Reading.{readCauses, readEnd, readOutcome}
 use Rattle.write_reel.specs.Reel.{reelOf, reelLength}
 use Rattle.write_reel.specs.Writing.{lengthOf, writeCauses, writeEnd, writeOutcome}
 use Rattle.look_up.specs.LookUp.{found, isNone, fieldIn, fieldAt, foundNumber, lookUpCauses, numberSaid, lookUpOutcome}
+use Rattle.reel_theorems.proofs.TestLaws.{atPlace, Between, Tests, apart, fine-where, refused-where, holds-where, row-where, then-row, then-first, then-second, and-both, test-between, test-room, test-by, not-enough, too-short, fine-none}
 use Rattle.reel_theorems.proofs.Refusals.{Row, exact-causes, no-cause}
 use Rattle.reel_theorems.proofs.Same.{record-size}
 use Rattle.reel_theorems.proofs.Output.{not-taken}
-use Rattle.demands.proofs.TestLaws.{atPlace, Between, Tests, apart, fine-where, refused-where, holds-where, row-where, then-row, then-first, then-second, and-both, test-between, test-room, test-by, not-enough}
 use Rattle.demands.proofs.Fitting.{HasWord, fits-is}
 use Rattle.demands.proofs.WriteRefusals.{WriteRow, exact-writing, no-writing-cause}
 use Rattle.demands.proofs.WrittenSize.{reel-size}
@@ -96,15 +97,6 @@ module _ (say : Check → Said) (values : List ℕ) (fine : say Fine ≡ taken v
   says-taken : (c : Check) → Iff (say c ≡ taken values) (c ≡ Fine)
   says-taken c = (says-fine c values, λ e. ap say e ∙ fine)
 
--- Where the rows against a call are exact, its checks find nothing exactly where no row applies.
-fine-none : (R : ℕ → ℕ → Type 0) (c : Check) → ((number place : ℕ) → Iff (c ≡ Refused number (atPlace place)) (R number place))
-    → Iff (c ≡ Fine) ((number place : ℕ) → ¬ (R number place))
-fine-none R c exact = (λ e number place r. not-fine (sym (exact number place .1 r) ∙ e), there c exact)
-  where
-    there : (c : Check) → ((number place : ℕ) → Iff (c ≡ Refused number (atPlace place)) (R number place)) → ((number place : ℕ) → ¬ (R number place)) → c ≡ Fine
-    there Fine exact h = refl
-    there (Refused number place) exact h = absurd (h number (placeNo place) (exact number (placeNo place) .0 refl))
-
 -- Where A holds exactly when B does, and B exactly when C does, A holds exactly when C does.
 both : {A B C : Type 0} → Iff A B → Iff B C → Iff A C
 both p q = (λ a. q .0 (p .0 a), λ c. p .1 (q .1 c))
@@ -116,29 +108,32 @@ behind front out l e h = (omega (arith, length-append front (drop l out), length
 
 -- ## Reading a reel
 
--- The length of a reel's record: 3273 + T × (186 + 6N).
-abbrev pub recordSize : List ℕ → ℕ
-recordSize s = 3273 + tracesOf s * (186 + 6 * samplesOf s)
+-- The numbers that reading returns: T, N and the record's length, 3273 + T × (186 + 6N).
+abbrev pub readNumbers : List ℕ → List ℕ
+readNumbers s = tracesOf s ∷ samplesOf s ∷ reading.lengthOf s ∷ []
 
--- The rows of reading into an output of `room` bytes: those of 1 to 9; then 10, where none of them applies and the output is shorter than
--- the record, with the record's length.
+-- The rows of reading into an output of `room` bytes.
 pub data ReadRow (s : List ℕ) (room : ℕ) : ℕ → ℕ → Type 0 where
+  -- 1 to 9: as the table of these says
   by-reel : {number place : ℕ} → Row s number place → ReadRow s room number place
-  short : ((number place : ℕ) → ¬ (Row s number place)) → room < recordSize s → ReadRow s room 10 (recordSize s)
+  -- 10: none of them applies, and the output is too short for the record, with the record's length
+  short-output : ((number place : ℕ) → ¬ (Row s number place)) → room < reading.lengthOf s → ReadRow s room 10 (reading.lengthOf s)
 
 -- The causes of reading are these rows.
 read-exact : (s : List ℕ) (room number place : ℕ) → Iff (readCauses s room ≡ Refused number (atPlace place)) (ReadRow s room number place)
 read-exact s room number place = (there, back)
   where
+    room-test : Tests (reading.lengthOf s ≤ room) 10 (reading.lengthOf s) (refuseIf (ltb room (reading.lengthOf s)) 10 (reading.lengthOf s))
+    room-test = test-room room (reading.lengthOf s) 10 (reading.lengthOf s)
+
     there : readCauses s room ≡ Refused number (atPlace place) → ReadRow s room number place
     there =
-        then-row (λ n p. ReadRow s room n (placeNo p)) (causesOf s) _ (λ e. by-reel (exact-causes s number place .0 e))
-        (λ e. row-where (test-room room (recordSize s) 10 (recordSize s)) (λ n p. ReadRow s room n (placeNo p)) (λ m. short (no-cause s .0 e) (not-enough room (recordSize s) m)))
+        then-row (ReadRow s room) (causesOf s) _ (λ e. by-reel (exact-causes s number place .0 e))
+        (λ e. row-where room-test (ReadRow s room) (λ m. short-output (no-cause s .0 e) (not-enough room (reading.lengthOf s) m)))
 
     back : {number place : ℕ} → ReadRow s room number place → readCauses s room ≡ Refused number (atPlace place)
     back {number} {place} (by-reel r) = then-first (causesOf s) _ (exact-causes s number place .1 r)
-    back (short h l) =
-        then-second _ _ (no-cause s .1 h) (ap (λ (b : Bool). refuseIf b 10 (recordSize s)) (lt-ltb room (recordSize s) l))
+    back (short-output h l) = then-second _ _ (no-cause s .1 h) (refused-where room-test (too-short room (reading.lengthOf s) l))
 
 module _ (s out : List ℕ) where
   -- What reading says, by what its checks answer.
@@ -152,15 +147,15 @@ module _ (s out : List ℕ) where
   pub read-refused : (number place : ℕ) → Iff (readOutcome s out .said ≡ refused number place) (ReadRow s (length out) number place)
   unfolding readSays
   read-refused number place =
-      both (says-refused readSays (tracesOf s ∷ samplesOf s ∷ recordSize s ∷ []) refl (λ n p. refl) (readCauses s (length out)) number place)
+      both (says-refused readSays (readNumbers s) refl (λ n p. refl) (readCauses s (length out)) number place)
       (read-exact s (length out) number place)
 
   -- THEOREM. And it is taken, with T, N and the record's length, exactly when no row applies.
   -- Rules out a reader that declines every reel, and one whose T or length is invented.
-  pub read-taken : Iff (readOutcome s out .said ≡ taken (tracesOf s ∷ samplesOf s ∷ recordSize s ∷ [])) ((number place : ℕ) → ¬ (ReadRow s (length out) number place))
+  pub read-taken : Iff (readOutcome s out .said ≡ taken (readNumbers s)) ((number place : ℕ) → ¬ (ReadRow s (length out) number place))
   unfolding readSays
   read-taken =
-      both (says-taken readSays (tracesOf s ∷ samplesOf s ∷ recordSize s ∷ []) refl (λ n p. refl) (readCauses s (length out)))
+      both (says-taken readSays (readNumbers s) refl (λ n p. refl) (readCauses s (length out)))
       (fine-none (ReadRow s (length out)) (readCauses s (length out)) (read-exact s (length out)))
 
   -- THEOREM. "A refused call changes no byte of its output."
@@ -169,7 +164,7 @@ module _ (s out : List ℕ) where
   unfolding readSays
   read-keeps number place e =
       ap (λ (c : Check). readEnd s out c .bytes)
-      (says-refused readSays (tracesOf s ∷ samplesOf s ∷ recordSize s ∷ []) refl (λ n p. refl) (readCauses s (length out)) number place .0 e)
+      (says-refused readSays (readNumbers s) refl (λ n p. refl) (readCauses s (length out)) number place .0 e)
 
   -- THEOREM. A taken call leaves the output's length, and each byte behind the length returned, as they were.
   -- Alone it rules out none of the list.
@@ -177,13 +172,13 @@ module _ (s out : List ℕ) where
       → (length (readOutcome s out .bytes) ≡ length out) × (drop l (readOutcome s out .bytes) ≡ drop l out)
   unfolding readSays
   read-rest t n l b e =
-      let q : readCauses s (length out) ≡ Fine = says-fine readSays (tracesOf s ∷ samplesOf s ∷ recordSize s ∷ []) refl (λ n p. refl) (readCauses s (length out)) (t ∷ n ∷ l ∷ []) e in
+      let q : readCauses s (length out) ≡ Fine = says-fine readSays (readNumbers s) refl (λ n p. refl) (readCauses s (length out)) (t ∷ n ∷ l ∷ []) e in
       let f = then-fine (causesOf s) _ q in
-      let same : taken (tracesOf s ∷ samplesOf s ∷ recordSize s ∷ []) ≡ taken (t ∷ n ∷ l ∷ []) = sym (ap readSays q) ∙ e in
-      let size : recordSize s ≡ l = cc in
-      let r = behind (reelRecord s) out (recordSize s) (record-size s b (f .0)) (at-most (length out) (recordSize s) 10 (recordSize s) (f .1)) in
+      let same : taken (readNumbers s) ≡ taken (t ∷ n ∷ l ∷ []) = sym (ap readSays q) ∙ e in
+      let size : reading.lengthOf s ≡ l = cc in
+      let r = behind (reelRecord s) out (reading.lengthOf s) (record-size s b (f .0)) (at-most (length out) (reading.lengthOf s) 10 (reading.lengthOf s) (f .1)) in
       subst (λ (x : ℕ). (length (readOutcome s out .bytes) ≡ length out) × (drop x (readOutcome s out .bytes) ≡ drop x out)) size
-      (subst (λ (c : Check). (length (readEnd s out c .bytes) ≡ length out) × (drop (recordSize s) (readEnd s out c .bytes) ≡ drop (recordSize s) out)) (sym q) r)
+      (subst (λ (c : Check). (length (readEnd s out c .bytes) ≡ length out) × (drop (reading.lengthOf s) (readEnd s out c .bytes) ≡ drop (reading.lengthOf s) out)) (sym q) r)
 
 -- Document 01's example: 3,200 bytes 40, a binary header all 0 but interval 2000, N 2, code 1, and one trace with a zero header and words
 -- 41100000 C276A000.
@@ -204,55 +199,55 @@ example-taken = refl
 
 -- ## Writing a reel
 
--- T and N as the record holds them, and the reel's length: 3600 + T × (240 + N × the bytes of a sample).
+-- T and N as the record holds them, and the reel'r length: 3600 + T × (240 + N × the bytes of a sample).
 abbrev pub writtenNumbers : List ℕ → ℕ → List ℕ
-writtenNumbers s code = heldTraces s (heldSamples s) ∷ heldSamples s ∷ reelLength code (heldTraces s (heldSamples s)) (heldSamples s) ∷ []
+writtenNumbers r code = heldTraces r (heldSamples r) ∷ heldSamples r ∷ reelLength code (heldTraces r (heldSamples r)) (heldSamples r) ∷ []
 
-module _ (s : List ℕ) (code : ℕ) (out : List ℕ) where
+module _ (r : List ℕ) (code : ℕ) (out : List ℕ) where
   -- What writing says, by what its checks answer.
   writeSays : Check → Said
-  writeSays c = writeEnd s code out c .said
+  writeSays c = writeEnd r code out c .said
 
   -- THEOREM. "Each refusal has the number and place that document 01 sets, in just the cases set there": writing is refused exactly when a
   -- row applies, by its number and place.
   -- Rules out a writer that declines every record, and one that says output too short before working out the length: 10 needs a valid record
-  -- whose samples all fit, and has the reel's length beside it. By 14, normalising by single bits, pushing C below 0 and shifting up for a
+  -- whose samples all fit, and has the reel'r length beside it. By 14, normalising by single bits, pushing C below 0 and shifting up for a
   -- negative e: a sample is refused exactly where no word of the code has its value.
-  pub write-refused : (number place : ℕ) → Iff (writeOutcome s code out .said ≡ refused number place) (WriteRow s code (length out) number (atPlace place))
+  pub write-refused : (number place : ℕ) → Iff (writeOutcome r code out .said ≡ refused number place) (WriteRow r code (length out) number place)
   unfolding writeSays
   write-refused number place =
-      both (says-refused writeSays (writtenNumbers s code) refl (λ n p. refl) (writeCauses s code (length out)) number place)
-      (exact-writing s code (length out) number (atPlace place))
+      both (says-refused writeSays (writtenNumbers r code) refl (λ n p. refl) (writeCauses r code (length out)) number place)
+      (exact-writing r code (length out) number place)
 
-  -- THEOREM. And it is taken, with T, N and the reel's length, exactly when no row applies.
+  -- THEOREM. And it is taken, with T, N and the reel'r length, exactly when no row applies.
   -- Rules out a writer that declines every record, and one whose T or length is invented.
-  pub write-taken : Iff (writeOutcome s code out .said ≡ taken (writtenNumbers s code)) ((number : ℕ) (place : Place) → ¬ (WriteRow s code (length out) number place))
+  pub write-taken : Iff (writeOutcome r code out .said ≡ taken (writtenNumbers r code)) ((number place : ℕ) → ¬ (WriteRow r code (length out) number place))
   unfolding writeSays
   write-taken =
-      both (says-taken writeSays (writtenNumbers s code) refl (λ n p. refl) (writeCauses s code (length out))) (no-writing-cause s code (length out))
+      both (says-taken writeSays (writtenNumbers r code) refl (λ n p. refl) (writeCauses r code (length out))) (no-writing-cause r code (length out))
 
   -- THEOREM. "A refused call changes no byte of its output."
   -- Alone it rules out none of the list.
-  pub write-keeps : (number place : ℕ) → writeOutcome s code out .said ≡ refused number place → writeOutcome s code out .bytes ≡ out
+  pub write-keeps : (number place : ℕ) → writeOutcome r code out .said ≡ refused number place → writeOutcome r code out .bytes ≡ out
   unfolding writeSays
   write-keeps number place e =
-      ap (λ (c : Check). writeEnd s code out c .bytes)
-      (says-refused writeSays (writtenNumbers s code) refl (λ n p. refl) (writeCauses s code (length out)) number place .0 e)
+      ap (λ (c : Check). writeEnd r code out c .bytes)
+      (says-refused writeSays (writtenNumbers r code) refl (λ n p. refl) (writeCauses r code (length out)) number place .0 e)
 
-  -- THEOREM. A taken call leaves the output's length, and each byte behind the length returned, as they were.
+  -- THEOREM. A taken call leaves the output'r length, and each byte behind the length returned, as they were.
   -- Alone it rules out none of the list.
-  pub write-rest : (t n l : ℕ) → writeOutcome s code out .said ≡ taken (t ∷ n ∷ l ∷ [])
-      → (length (writeOutcome s code out .bytes) ≡ length out) × (drop l (writeOutcome s code out .bytes) ≡ drop l out)
+  pub write-rest : (t n l : ℕ) → writeOutcome r code out .said ≡ taken (t ∷ n ∷ l ∷ [])
+      → (length (writeOutcome r code out .bytes) ≡ length out) × (drop l (writeOutcome r code out .bytes) ≡ drop l out)
   unfolding writeSays
   write-rest t n l e =
-      let size = lengthOf s code in
-      let q : writeCauses s code (length out) ≡ Fine = says-fine writeSays (writtenNumbers s code) refl (λ n p. refl) (writeCauses s code (length out)) (t ∷ n ∷ l ∷ []) e in
-      let f = then-fine (targetCauses s code) _ q in
-      let same : taken (heldTraces s (heldSamples s) ∷ heldSamples s ∷ size ∷ []) ≡ taken (t ∷ n ∷ l ∷ []) = sym (ap writeSays q) ∙ e in
+      let size = lengthOf r code in
+      let q : writeCauses r code (length out) ≡ Fine = says-fine writeSays (writtenNumbers r code) refl (λ n p. refl) (writeCauses r code (length out)) (t ∷ n ∷ l ∷ []) e in
+      let f = then-fine (targetCauses r code) _ q in
+      let same : taken (heldTraces r (heldSamples r) ∷ heldSamples r ∷ size ∷ []) ≡ taken (t ∷ n ∷ l ∷ []) = sym (ap writeSays q) ∙ e in
       let is : size ≡ l = cc in
-      let r = behind (reelOf code (heldBy s)) out size (reel-size s code) (at-most (length out) size 10 size (f .1)) in
-      subst (λ (x : ℕ). (length (writeOutcome s code out .bytes) ≡ length out) × (drop x (writeOutcome s code out .bytes) ≡ drop x out)) is
-      (subst (λ (c : Check). (length (writeEnd s code out c .bytes) ≡ length out) × (drop size (writeEnd s code out c .bytes) ≡ drop size out)) (sym q) r)
+      let b = behind (reelOf code (heldBy r)) out size (reel-size r code) (at-most (length out) size 10 size (f .1)) in
+      subst (λ (x : ℕ). (length (writeOutcome r code out .bytes) ≡ length out) × (drop x (writeOutcome r code out .bytes) ≡ drop x out)) is
+      (subst (λ (c : Check). (length (writeEnd r code out c .bytes) ≡ length out) × (drop size (writeEnd r code out c .bytes) ≡ drop size out)) (sym q) b)
 
 -- ## Looking up a field
 
@@ -264,11 +259,13 @@ headerFields k = pick (eqb k 0) binaryFields traceFields
 abbrev pub NoField : ℕ → ByteNo → Type 0
 NoField k b = All (λ f. ¬ (f .byteNo ≡ byteNo b)) (headerFields k)
 
--- The rows of looking up byte number b of header k: those of 1 to 9; then 15, where the reel has no trace k; then 16, where no assigned
--- field of that header begins there.
+-- The rows of looking up byte number b of header k.
 pub data LookUpRow (s : List ℕ) (k : ℕ) (b : ByteNo) : ℕ → ℕ → Type 0 where
+  -- 1 to 9: as the table of these says
   by-reel : {number place : ℕ} → Row s number place → LookUpRow s k b number place
+  -- 15: the reel has no trace k
   no-trace : ((number place : ℕ) → ¬ (Row s number place)) → tracesOf s < k → LookUpRow s k b 15 0
+  -- 16: no assigned field of that header begins at b
   no-field : ((number place : ℕ) → ¬ (Row s number place)) → k ≤ tracesOf s → NoField k b → LookUpRow s k b 16 0
 
 -- No field is found exactly where none begins at the byte number.
@@ -299,17 +296,17 @@ module _ (s : List ℕ) (k : ℕ) (b : ByteNo) where
     where
       there : lookUpCauses s k b ≡ Refused number (atPlace place) → LookUpRow s k b number place
       there =
-          then-row (λ n p. LookUpRow s k b n (placeNo p)) (causesOf s) _ (λ e. by-reel (exact-causes s number place .0 e))
-          (λ e. then-row (λ n p. LookUpRow s k b n (placeNo p)) (refuseIf (ltb (tracesOf s) k) 15 0) _
-          (row-where (test-room (tracesOf s) k 15 0) (λ n p. LookUpRow s k b n (placeNo p)) (λ m. no-trace (no-cause s .0 e) (not-enough (tracesOf s) k m)))
-          (λ q. then-row (λ n p. LookUpRow s k b n (placeNo p)) (refuseIf (isNone (fieldAt k b)) 16 0) _
-          (row-where (test-flag (isNone (fieldAt k b)) 16 0) (λ n p. LookUpRow s k b n (placeNo p)) (λ m. no-field (no-cause s .0 e) (holds-where (test-room (tracesOf s) k 15 0) q) (none-found (byteNo b) (headerFields k) .0 (not-no _ m))))
+          then-row (LookUpRow s k b) (causesOf s) _ (λ e. by-reel (exact-causes s number place .0 e))
+          (λ e. then-row (LookUpRow s k b) (refuseIf (ltb (tracesOf s) k) 15 0) _
+          (row-where (test-room (tracesOf s) k 15 0) (LookUpRow s k b) (λ m. no-trace (no-cause s .0 e) (not-enough (tracesOf s) k m)))
+          (λ q. then-row (LookUpRow s k b) (refuseIf (isNone (fieldAt k b)) 16 0) _
+          (row-where (test-flag (isNone (fieldAt k b)) 16 0) (LookUpRow s k b) (λ m. no-field (no-cause s .0 e) (holds-where (test-room (tracesOf s) k 15 0) q) (none-found (byteNo b) (headerFields k) .0 (not-no _ m))))
           (λ x y. absurd (not-fine (sym y)))))
 
       back : {number place : ℕ} → LookUpRow s k b number place → lookUpCauses s k b ≡ Refused number (atPlace place)
       back {number} {place} (by-reel r) = then-first (causesOf s) _ (exact-causes s number place .1 r)
       back (no-trace h l) =
-          then-second _ _ (no-cause s .1 h) (then-first _ _ (ap (λ (x : Bool). refuseIf x 15 0) (lt-ltb (tracesOf s) k l)))
+          then-second _ _ (no-cause s .1 h) (then-first _ _ (refused-where (test-room (tracesOf s) k 15 0) (too-short (tracesOf s) k l)))
       back (no-field h l f) =
           then-second _ _ (no-cause s .1 h)
           (then-second _ _ (fine-where (test-room (tracesOf s) k 15 0) l)
@@ -349,15 +346,20 @@ says : Check → Said
 says Fine = taken []
 says (Refused number place) = refused number (placeNo place)
 
--- The rows of a single word: 2, then 9, with the place 0.
+-- The rows of a single word, with the place 0.
 pub data WordRow (code : ℕ) (w : List ℕ) : ℕ → ℕ → Type 0 where
+  -- 2: the format code is not 1 to 4
   bad-code : ¬ (Between 1 4 code) → WordRow code w 2 0
-  bad-gain : Between 1 4 code → code ≡ 4 → ¬ (getD w 0 0 ≡ 0) → WordRow code w 9 0
+  -- 9: the first byte of a gain word is not 00
+  bad-gain : code ≡ 4 → ¬ (getD w 0 0 ≡ 0) → WordRow code w 9 0
 
--- The rows of a single pair: 11, 13, 14, with the place 0. A pair doesn't fit where no word of the code has its value.
+-- The rows of a single pair, with the place 0.
 pub data PairRow (code : ℕ) (b : List ℕ) : ℕ → ℕ → Type 0 where
+  -- 11: the target code is not 1 to 4
   bad-target : ¬ (Between 1 4 code) → PairRow code b 11 0
+  -- 13: the pair isn't canonical
   bad-pair : Between 1 4 code → ¬ (isCanonical (pairIn b) ≡ true) → PairRow code b 13 0
+  -- 14: it doesn't fit: no word of the code has its value
   unfit : Between 1 4 code → isCanonical (pairIn b) ≡ true → ¬ (HasWord code (valueOf (pairIn b))) → PairRow code b 14 0
 
 module _ (code : ℕ) (w : List ℕ) where
@@ -393,15 +395,15 @@ module _ (code : ℕ) (w : List ℕ) where
     where
       there : then (refuseIf (not (isCode code)) 2 0) (refuseIf (badGain code w) 9 0) ≡ Refused number (atPlace place) → WordRow code w number place
       there =
-          then-row (λ n p. WordRow code w n (placeNo p)) (refuseIf (not (isCode code)) 2 0) _
-          (row-where (test-between 1 4 code 2 0) (λ n p. WordRow code w n (placeNo p)) bad-code)
-          (λ e. row-where (test-flag (badGain code w) 9 0) (λ n p. WordRow code w n (placeNo p))
-          (λ m. let g = true-gain (not-no _ m) in bad-gain (holds-where (test-between 1 4 code 2 0) e) (g .0) (g .1)))
+          then-row (WordRow code w) (refuseIf (not (isCode code)) 2 0) _
+          (row-where (test-between 1 4 code 2 0) (WordRow code w) bad-code)
+          (λ e. row-where (test-flag (badGain code w) 9 0) (WordRow code w)
+          (λ m. let g = true-gain (not-no _ m) in bad-gain (g .0) (g .1)))
 
       back : {number place : ℕ} → WordRow code w number place → then (refuseIf (not (isCode code)) 2 0) (refuseIf (badGain code w) 9 0) ≡ Refused number (atPlace place)
       back (bad-code h) = then-first _ _ (refused-where (test-between 1 4 code 2 0) h)
-      back (bad-gain g c h) =
-          then-second _ _ (fine-where (test-between 1 4 code 2 0) g) (ap (λ (x : Bool). refuseIf x 9 0) (gain-true c h))
+      back (bad-gain c h) =
+          then-second _ _ (fine-where (test-between 1 4 code 2 0) (omega arith, omega arith)) (ap (λ (x : Bool). refuseIf x 9 0) (gain-true c h))
 
   -- THEOREM. "A single word is refused by 2, then 9; the place is 0": exactly when that row applies.
   -- Rules out a call that declines every word.
@@ -487,7 +489,7 @@ module _ (code : ℕ) (b : List ℕ) where
     where
       there : pairChecks ≡ Refused number (atPlace place) → PairRow code b number place
       there =
-          let row : ℕ → Place → Type 0 = λ n p. PairRow code b n (placeNo p) in
+          let row = PairRow code b in
           let canonical = test-by (isCanonical (pairIn b) ≡ true) (isCanonical (pairIn b)) 13 0 (λ e. e) (λ e. e) in
           then-row row (refuseIf (not (isCode code)) 11 0) _ (row-where (test-between 1 4 code 11 0) row bad-target)
           (λ e. let g = holds-where (test-between 1 4 code 11 0) e in

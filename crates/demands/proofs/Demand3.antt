@@ -45,7 +45,8 @@ use Rattle.record.specs.Record.{reelRecord}
 use Rattle.transcribe.specs.Reading.{readOutcome}
 use Rattle.write_reel.specs.Reel.{reelLength}
 use Rattle.write_reel.specs.Writing.{writeOutcome}
-use Rattle.reel_theorems.proofs.Refusals.{at-zero, at-suc, sampleAt}
+use Rattle.reel_theorems.proofs.TestLaws.{at-zero, at-suc}
+use Rattle.reel_theorems.proofs.Refusals.{sampleAt}
 use Rattle.reel_theorems.proofs.Same.{same-records}
 use Rattle.reel_theorems.proofs.Output.{taken-reel, same-outputs}
 use Rattle.demands.proofs.Fitting.{HasWord}

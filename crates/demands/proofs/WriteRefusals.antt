@@ -10,13 +10,12 @@ use mathlib.Core.Bool.{Bool, true, false, not}
 use Prim.Native.Nat.{ℕ, zero, suc, _+_, _-_, _*_, _≤_, _<_}
 use native.Mathlib.Nat.{add-zero, zero-mul, suc-mul, mul-one, not-suc-le-zero}
 use native.Mathlib.Omega.{arith}
-use borrow.Author.Tests.{lt-ltb, le-leb, eq-eqb, ne-eqb, leb-true, eqb-true, eqb-false}
+use borrow.Author.Tests.{le-leb, eq-eqb, ne-eqb, leb-true, eqb-true, eqb-false}
 use lib.Dec.{leb, ltb, eqb}
 use lib.ListN.{length, getD}
 use Rattle.numbers.specs.Walk.{pick, walk, bytesAt}
 use Rattle.numbers.specs.BigEndian.{number}
 use Rattle.numbers.specs.Cause.{refuseIf, firstOf}
-use Rattle.numbers.specs.declared.Place.{Place}
 use Rattle.numbers.specs.declared.Check.{Check}
 use Rattle.numbers.specs.declared.Check.the-variants.{Fine, Refused}
 use Rattle.numbers.proofs.CauseLaws.{not-fine, then-fine}
@@ -33,8 +32,7 @@ use Rattle.record.specs.Held.{heldValue}
 use Rattle.record.specs.Target.{isUnfit, fitCause, traceFit, fitCauses, targetCauses}
 use Rattle.write_reel.specs.Reel.{reelLength}
 use Rattle.write_reel.specs.Writing.{writeCauses}
-use Rattle.reel_theorems.proofs.Refusals.{first-is, first-of, none-is, none-of}
-use Rattle.demands.proofs.TestLaws.{atPlace, Between, Tests, apart, test-by, fine-where, refused-where, holds-where, row-where, then-row, then-first, then-second, and-both, test-between, test-same, test-room, not-enough, walk-fine, walk-holds, walk-refused, walk-row}
+use Rattle.reel_theorems.proofs.TestLaws.{atPlace, Between, Tests, apart, test-by, fine-where, refused-where, holds-where, row-where, then-row, then-first, then-second, and-both, test-between, test-same, test-room, not-enough, too-short, first-is, first-of, none-is, none-of, walk-fine, walk-holds, walk-refused, walk-row, fine-none}
 use Rattle.demands.proofs.Valid.{Stands, CanonicalAt}
 use Rattle.demands.proofs.ProperLaws.{value-held}
 use Rattle.record.proofs.FormLaws.{tags-most}
@@ -102,59 +100,59 @@ Fits s code k j = HasWord code (heldValue s (pairPlace s k j))
 -- ## The table
 
 -- The rows, in document 01's order: in which case each applies, its number, and what stands beside it. Traces k and pairs j are counted from 0.
-pub data WriteRow (s : List ℕ) (code room : ℕ) : ℕ → Place → Type 0 where
+pub data WriteRow (s : List ℕ) (code room : ℕ) : ℕ → ℕ → Type 0 where
   -- 11: the target code is not 1 to 4
-  bad-target : ¬ (Between 1 4 code) → WriteRow s code room 11 (atPlace 0)
+  bad-target : ¬ (Between 1 4 code) → WriteRow s code room 11 0
   -- 12: tag 01 doesn't stand at the front, whole and with its 3,200 bytes
-  no-cards : Between 1 4 code → ¬ (Stands s 1 3200 0) → WriteRow s code room 12 (atPlace 0)
+  no-cards : Between 1 4 code → ¬ (Stands s 1 3200 0) → WriteRow s code room 12 0
   -- 13: a card byte is 00, the first such
   bad-card : (j : ℕ) → Between 1 4 code → Stands s 1 3200 0 → j < 3200 → ((i : ℕ) → i < j → ¬ (getD s (3 + i) 0 ≡ 0)) → getD s (3 + j) 0 ≡ 0
-      → WriteRow s code room 13 (atPlace (3 + j))
+      → WriteRow s code room 13 (3 + j)
   -- 12: tag 02 doesn't stand behind it, whole and with its 60 bytes
-  no-binary : Between 1 4 code → CardsRight s → ¬ (Stands s 2 60 3203) → WriteRow s code room 12 (atPlace 3203)
+  no-binary : Between 1 4 code → CardsRight s → ¬ (Stands s 2 60 3203) → WriteRow s code room 12 3203
   -- 13: in tag 02, first an interval that is not 1 to 32,767
-  bad-interval : Between 1 4 code → CardsRight s → Stands s 2 60 3203 → ¬ (Between 1 32767 (heldInterval s)) → WriteRow s code room 13 (atPlace 3222)
+  bad-held-interval : Between 1 4 code → CardsRight s → Stands s 2 60 3203 → ¬ (Between 1 32767 (heldInterval s)) → WriteRow s code room 13 3222
   -- 13: then N that is not 1 to 8,000
-  bad-samples : Between 1 4 code → CardsRight s → Stands s 2 60 3203 → Between 1 32767 (heldInterval s) → ¬ (Between 1 8000 (heldSamples s))
-      → WriteRow s code room 13 (atPlace 3226)
+  bad-held-samples : Between 1 4 code → CardsRight s → Stands s 2 60 3203 → Between 1 32767 (heldInterval s) → ¬ (Between 1 8000 (heldSamples s))
+      → WriteRow s code room 13 3226
   -- 13: then a format code other than 0
-  bad-code : Between 1 4 code → CardsRight s → Stands s 2 60 3203 → Between 1 32767 (heldInterval s) → Between 1 8000 (heldSamples s) → ¬ (heldCode s ≡ 0)
-      → WriteRow s code room 13 (atPlace 3230)
+  bad-held-code : Between 1 4 code → CardsRight s → Stands s 2 60 3203 → Between 1 32767 (heldInterval s) → Between 1 8000 (heldSamples s) → ¬ (heldCode s ≡ 0)
+      → WriteRow s code room 13 3230
   -- 12: tag 03 of trace k is cut short or has a wrong length
-  no-header : (k : ℕ) → Between 1 4 code → TraceNext s k → ¬ (Stands s 3 180 (tracePlace s k)) → WriteRow s code room 12 (atPlace (tracePlace s k))
+  no-header : (k : ℕ) → Between 1 4 code → TraceNext s k → ¬ (Stands s 3 180 (tracePlace s k)) → WriteRow s code room 12 (tracePlace s k)
   -- 13: its field 115 is not N
-  bad-115 : (k : ℕ) → Between 1 4 code → TraceNext s k → Stands s 3 180 (tracePlace s k) → ¬ (word s (tracePlace s k + 117) ≡ heldSamples s)
-      → WriteRow s code room 13 (atPlace (tracePlace s k + 117))
+  bad-held-115 : (k : ℕ) → Between 1 4 code → TraceNext s k → Stands s 3 180 (tracePlace s k) → ¬ (word s (tracePlace s k + 117) ≡ heldSamples s)
+      → WriteRow s code room 13 (tracePlace s k + 117)
   -- 13: its field 117 is not the interval
-  bad-117 : (k : ℕ) → Between 1 4 code → TraceNext s k → Stands s 3 180 (tracePlace s k) → word s (tracePlace s k + 117) ≡ heldSamples s
+  bad-held-117 : (k : ℕ) → Between 1 4 code → TraceNext s k → Stands s 3 180 (tracePlace s k) → word s (tracePlace s k + 117) ≡ heldSamples s
       → ¬ (word s (tracePlace s k + 119) ≡ heldInterval s)
-      → WriteRow s code room 13 (atPlace (tracePlace s k + 119))
+      → WriteRow s code room 13 (tracePlace s k + 119)
   -- 12: tag 04 of trace k doesn't stand behind it, whole and with its 6N bytes
   no-samples : (k : ℕ) → Between 1 4 code → TraceNext s k → Stands s 3 180 (tracePlace s k) → word s (tracePlace s k + 117) ≡ heldSamples s
       → word s (tracePlace s k + 119) ≡ heldInterval s → ¬ (Stands s 4 (6 * heldSamples s) (tracePlace s k + 183))
-      → WriteRow s code room 12 (atPlace (tracePlace s k + 183))
+      → WriteRow s code room 12 (tracePlace s k + 183)
   -- 13: a pair of it isn't canonical, the first such
   bad-pair : (k j : ℕ) → Between 1 4 code → TraceNext s k → Stands s 3 180 (tracePlace s k) → word s (tracePlace s k + 117) ≡ heldSamples s
       → word s (tracePlace s k + 119) ≡ heldInterval s → Stands s 4 (6 * heldSamples s) (tracePlace s k + 183)
       → j < heldSamples s → ((i : ℕ) → i < j → CanonicalAt s (pairPlace s k i)) → ¬ (CanonicalAt s (pairPlace s k j))
-      → WriteRow s code room 13 (atPlace (pairPlace s k j))
+      → WriteRow s code room 13 (pairPlace s k j)
   -- 12: tag 05 does not stand behind t traces, whole and with its 4 bytes; another tag, so also that of trace 100,001, may stand there
-  no-end : (t : ℕ) → Between 1 4 code → EndNext s t → ¬ (Stands s 5 4 (tracePlace s t)) → WriteRow s code room 12 (atPlace (tracePlace s t))
+  no-end : (t : ℕ) → Between 1 4 code → EndNext s t → ¬ (Stands s 5 4 (tracePlace s t)) → WriteRow s code room 12 (tracePlace s t)
   -- 12: the count in tag 05 is not t, at its tag
   bad-count : (t : ℕ) → Between 1 4 code → EndNext s t → Stands s 5 4 (tracePlace s t) → ¬ (number (bytesAt s (tracePlace s t + 3) 4) ≡ t)
-      → WriteRow s code room 12 (atPlace (tracePlace s t))
+      → WriteRow s code room 12 (tracePlace s t)
   -- 12: bytes come after tag 05, at the first of them
   after : (t : ℕ) → Between 1 4 code → EndNext s t → Stands s 5 4 (tracePlace s t) → number (bytesAt s (tracePlace s t + 3) 4) ≡ t
       → tracePlace s t + 7 < length s
-      → WriteRow s code room 12 (atPlace (tracePlace s t + 7))
+      → WriteRow s code room 12 (tracePlace s t + 7)
   -- 14: a sample doesn't fit the target, the first such, at its pair
   unfit : (t k j : ℕ) → Between 1 4 code → RecordRight s t → k < t → j < heldSamples s → ((h i : ℕ) → h < k → i < heldSamples s → Fits s code h i)
       → ((i : ℕ) → i < j → Fits s code k i) → ¬ (Fits s code k j)
-      → WriteRow s code room 14 (atPlace (pairPlace s k j))
+      → WriteRow s code room 14 (pairPlace s k j)
   -- 10: the output is too short for the reel, with the reel's length
-  short : (t : ℕ) → Between 1 4 code → RecordRight s t → ((k j : ℕ) → k < t → j < heldSamples s → Fits s code k j)
+  short-output : (t : ℕ) → Between 1 4 code → RecordRight s t → ((k j : ℕ) → k < t → j < heldSamples s → Fits s code k j)
       → room < reelLength code t (heldSamples s)
-      → WriteRow s code room 10 (atPlace (reelLength code t (heldSamples s)))
+      → WriteRow s code room 10 (reelLength code t (heldSamples s))
 
 -- ## The tests, one by one
 
@@ -466,23 +464,23 @@ module _ (s : List ℕ) where
 
 module _ (s : List ℕ) (code room : ℕ) where
   -- Under a target code of 1 to 4, what 12 or 13 refuses is refused.
-  from-form : {n : ℕ} {p : Place} → Between 1 4 code → formCauses s ≡ Refused n p → writeCauses s code room ≡ Refused n p
+  from-form : {n p : ℕ} → Between 1 4 code → formCauses s ≡ Refused n (atPlace p) → writeCauses s code room ≡ Refused n (atPlace p)
   unfolding targetCauses
   from-form g e =
       then-first (targetCauses s code) _ (then-second _ _ (fine-where (test-between 1 4 code 11 0) g) (then-first (formCauses s) _ e))
 
   -- So for tag 01.
-  from-cards : {n : ℕ} {p : Place} → Between 1 4 code → cardsCauses s ≡ Refused n p → writeCauses s code room ≡ Refused n p
+  from-cards : {n p : ℕ} → Between 1 4 code → cardsCauses s ≡ Refused n (atPlace p) → writeCauses s code room ≡ Refused n (atPlace p)
   unfolding formCauses
   from-cards g e = from-form g (then-first (cardsCauses s) _ e)
 
   -- So for tag 02, where tag 01 is right.
-  from-binary : {n : ℕ} {p : Place} → Between 1 4 code → CardsRight s → binaryCauses s ≡ Refused n p → writeCauses s code room ≡ Refused n p
+  from-binary : {n p : ℕ} → Between 1 4 code → CardsRight s → binaryCauses s ≡ Refused n (atPlace p) → writeCauses s code room ≡ Refused n (atPlace p)
   unfolding formCauses
   from-binary g h e = from-form g (then-second _ _ (cards-fine s h) (then-first (binaryCauses s) _ e))
 
   -- So for trace k, where all is right up to it.
-  from-trace : {n : ℕ} {p : Place} (k : ℕ) → Between 1 4 code → TraceNext s k → formAt s (tracePlace s k) ≡ Refused n p → writeCauses s code room ≡ Refused n p
+  from-trace : {n p : ℕ} (k : ℕ) → Between 1 4 code → TraceNext s k → formAt s (tracePlace s k) ≡ Refused n (atPlace p) → writeCauses s code room ≡ Refused n (atPlace p)
   unfolding bodyCauses
   from-trace {n} {p} k g h e =
       from-form g
@@ -490,7 +488,7 @@ module _ (s : List ℕ) (code room : ℕ) where
       (then-first _ _ (first-of (formAt s) (heldStride (heldSamples s)) (countIn s) firstField n p (record { j = k; below = next-counted s k h; before = λ i l. trace-fine s i (h .until .before i l); here = e }))))
 
   -- So for the end, where all is right up to it.
-  from-end : {n : ℕ} {p : Place} (t : ℕ) → Between 1 4 code → EndNext s t → endCauses s t (tracePlace s t) ≡ Refused n p → writeCauses s code room ≡ Refused n p
+  from-end : {n p : ℕ} (t : ℕ) → Between 1 4 code → EndNext s t → endCauses s t (tracePlace s t) ≡ Refused n (atPlace p) → writeCauses s code room ≡ Refused n (atPlace p)
   from-end t g h e = from-form g (form-body s (h .until .head) (body-end s t h e))
 
   -- The samples of trace k of a valid record, by whether they fit.
@@ -544,7 +542,7 @@ module _ (s : List ℕ) (code room : ℕ) where
   unfolding fitCauses traceFit
   from-unfit t k j g h l m f b n =
       let size = heldSamples s in
-      first-of (traceFit s code size) (heldStride size) t firstField 14 (atPlace (pairPlace s k j))
+      first-of (traceFit s code size) (heldStride size) t firstField 14 (pairPlace s k j)
       (record {
         j = k;
         below = l;
@@ -553,7 +551,7 @@ module _ (s : List ℕ) (code room : ℕ) where
       })
 
   -- Each row is the answer where it applies: all that comes before it finds nothing, and its own test refuses.
-  from-row : {n : ℕ} {p : Place} → WriteRow s code room n p → writeCauses s code room ≡ Refused n p
+  from-row : {n p : ℕ} → WriteRow s code room n p → writeCauses s code room ≡ Refused n (atPlace p)
   unfolding targetCauses cardsCauses binaryCauses traceForm samplesCauses
   from-row (bad-target h) = then-first (targetCauses s code) _ (then-first _ _ (refused-where (test-between 1 4 code 11 0) h))
   from-row (no-cards g h) = from-cards g (then-first (fieldCause s 1 3200 0) _ (refused-where (test-field s 1 3200 0) h))
@@ -562,27 +560,27 @@ module _ (s : List ℕ) (code room : ℕ) where
       (then-second _ _ (fine-where (test-field s 1 3200 0) c)
       (walk-refused (λ i. ¬ (getD s (3 + i) 0 ≡ 0)) 13 (cardCause s) 1 3200 3 (λ i. 3 + i) (card-tests s) j l b (λ n. n z)))
   from-row (no-binary g c h) = from-binary g c (then-first (fieldCause s 2 60 3203) _ (refused-where (test-field s 2 60 3203) h))
-  from-row (bad-interval g c f h) =
+  from-row (bad-held-interval g c f h) =
       from-binary g c
       (then-second _ _ (fine-where (test-field s 2 60 3203) f)
       (then-first _ _ (refused-where (test-between 1 mostInterval (heldInterval s) 13 3222) h)))
-  from-row (bad-samples g c f i h) =
+  from-row (bad-held-samples g c f i h) =
       from-binary g c
       (then-second _ _ (fine-where (test-field s 2 60 3203) f)
       (then-second _ _ (fine-where (test-between 1 mostInterval (heldInterval s) 13 3222) i)
       (then-first _ _ (refused-where (test-between 1 mostSamples (heldSamples s) 13 3226) h))))
-  from-row (bad-code g c f i m h) =
+  from-row (bad-held-code g c f i m h) =
       from-binary g c
       (then-second _ _ (fine-where (test-field s 2 60 3203) f)
       (then-second _ _ (fine-where (test-between 1 mostInterval (heldInterval s) 13 3222) i)
       (then-second _ _ (fine-where (test-between 1 mostSamples (heldSamples s) 13 3226) m)
       (then-first _ _ (refused-where (test-same (heldCode s) 0 13 3230) h)))))
   from-row (no-header k g t h) = from-trace k g t (then-first _ _ (refused-where (test-field s 3 180 (tracePlace s k)) h))
-  from-row (bad-115 k g t f h) =
+  from-row (bad-held-115 k g t f h) =
       from-trace k g t
       (then-second _ _ (fine-where (test-field s 3 180 (tracePlace s k)) f)
       (then-first _ _ (refused-where (test-same (word s (tracePlace s k + 117)) (heldSamples s) 13 (tracePlace s k + 117)) h)))
-  from-row (bad-117 k g t f c h) =
+  from-row (bad-held-117 k g t f c h) =
       from-trace k g t
       (then-second _ _ (fine-where (test-field s 3 180 (tracePlace s k)) f)
       (then-second _ _ (fine-where (test-same (word s (tracePlace s k + 117)) (heldSamples s) 13 (tracePlace s k + 117)) c)
@@ -609,14 +607,14 @@ module _ (s : List ℕ) (code room : ℕ) where
       from-end t g e
       (then-second _ _ (fine-where (test-field s 5 4 (tracePlace s t)) f)
       (then-second _ _ (fine-where (test-same (number (bytesAt s (tracePlace s t + 3) 4)) t 12 (tracePlace s t)) c)
-      (then-first _ _ (ap (λ (b : Bool). refuseIf b 12 (tracePlace s t + 7)) (lt-ltb (tracePlace s t + 7) (length s) h)))))
+      (then-first _ _ (refused-where (test-room (tracePlace s t + 7) (length s) 12 (tracePlace s t + 7)) (too-short (tracePlace s t + 7) (length s) h)))))
   from-row (unfit t k j g h l m f b n) =
       then-first (targetCauses s code) _ (from-fits t g h (from-unfit t k j g h l m f b n))
-  from-row (short t g h f l) =
+  from-row (short-output t g h f l) =
       let size = reelLength code t (heldSamples s) in
       then-second _ _ (from-fits t g h (all-fit t g h f))
       (ap (λ (x : ℕ). refuseIf (ltb room (reelLength code x (heldSamples s))) 10 (reelLength code x (heldSamples s))) (end-counted s t (h .end))
-      ∙ ap (λ (b : Bool). refuseIf b 10 size) (lt-ltb room size l))
+      ∙ refused-where (test-room room size 10 size) (too-short room size l))
 
 -- ## From the causes to the rows
 
@@ -625,9 +623,9 @@ not-other : (x : ℕ) → ¬ (¬ (x ≡ 0)) → x ≡ 0
 not-other zero h = refl
 not-other (suc x) h = absurd (h (λ e. absurd (let z : suc x ≡ 0 = e in omega arith)))
 
-module _ (s : List ℕ) (code room : ℕ) {n : ℕ} {p : Place} (g : Between 1 4 code) where
+module _ (s : List ℕ) (code room : ℕ) {n p : ℕ} (g : Between 1 4 code) where
   -- What is refused in tag 01 has its row.
-  to-cards : cardsCauses s ≡ Refused n p → WriteRow s code room n p
+  to-cards : cardsCauses s ≡ Refused n (atPlace p) → WriteRow s code room n p
   unfolding cardsCauses
   to-cards =
       then-row (WriteRow s code room) (fieldCause s 1 3200 0) _ (row-where (test-field s 1 3200 0) (WriteRow s code room) (no-cards g))
@@ -635,7 +633,7 @@ module _ (s : List ℕ) (code room : ℕ) {n : ℕ} {p : Place} (g : Between 1 4
       (λ j l b h. bad-card j g (holds-where (test-field s 1 3200 0) e) l b (not-other (getD s (3 + j) 0) h)))
 
   -- What is refused in tag 02 has its row, where tag 01 is right.
-  to-binary : CardsRight s → binaryCauses s ≡ Refused n p → WriteRow s code room n p
+  to-binary : CardsRight s → binaryCauses s ≡ Refused n (atPlace p) → WriteRow s code room n p
   unfolding binaryCauses
   to-binary c =
       let i = test-between 1 mostInterval (heldInterval s) 13 3222 in
@@ -644,14 +642,14 @@ module _ (s : List ℕ) (code room : ℕ) {n : ℕ} {p : Place} (g : Between 1 4
       let f = test-field s 2 60 3203 in
       then-row (WriteRow s code room) (fieldCause s 2 60 3203) _ (row-where f (WriteRow s code room) (no-binary g c))
       (λ e. let field = holds-where f e in
-      then-row (WriteRow s code room) (refuseIf (not (within 1 mostInterval (heldInterval s))) 13 3222) _ (row-where i (WriteRow s code room) (bad-interval g c field))
+      then-row (WriteRow s code room) (refuseIf (not (within 1 mostInterval (heldInterval s))) 13 3222) _ (row-where i (WriteRow s code room) (bad-held-interval g c field))
       (λ q. let interval = holds-where i q in
-      then-row (WriteRow s code room) (refuseIf (not (within 1 mostSamples (heldSamples s))) 13 3226) _ (row-where m (WriteRow s code room) (bad-samples g c field interval))
-      (λ r. then-row (WriteRow s code room) (refuseIf (not (eqb (heldCode s) 0)) 13 3230) _ (row-where z (WriteRow s code room) (bad-code g c field interval (holds-where m r)))
+      then-row (WriteRow s code room) (refuseIf (not (within 1 mostSamples (heldSamples s))) 13 3226) _ (row-where m (WriteRow s code room) (bad-held-samples g c field interval))
+      (λ r. then-row (WriteRow s code room) (refuseIf (not (eqb (heldCode s) 0)) 13 3230) _ (row-where z (WriteRow s code room) (bad-held-code g c field interval (holds-where m r)))
       (λ x y. absurd (not-fine (sym y))))))
 
   -- What is refused in trace k has its row, where all is right up to it.
-  to-trace : (k : ℕ) → TraceNext s k → formAt s (tracePlace s k) ≡ Refused n p → WriteRow s code room n p
+  to-trace : (k : ℕ) → TraceNext s k → formAt s (tracePlace s k) ≡ Refused n (atPlace p) → WriteRow s code room n p
   unfolding traceForm samplesCauses
   to-trace k t =
       let at = tracePlace s k in
@@ -662,16 +660,16 @@ module _ (s : List ℕ) (code room : ℕ) {n : ℕ} {p : Place} (g : Between 1 4
       let d = test-field s 4 (6 * size) (at + 183) in
       then-row (WriteRow s code room) (fieldCause s 3 180 at) _ (row-where f (WriteRow s code room) (no-header k g t))
       (λ e. let header = holds-where f e in
-      then-row (WriteRow s code room) (refuseIf (not (eqb (word s (at + 117)) size)) 13 (at + 117)) _ (row-where c (WriteRow s code room) (bad-115 k g t header))
+      then-row (WriteRow s code room) (refuseIf (not (eqb (word s (at + 117)) size)) 13 (at + 117)) _ (row-where c (WriteRow s code room) (bad-held-115 k g t header))
       (λ q. let count = holds-where c q in
-      then-row (WriteRow s code room) (refuseIf (not (eqb (word s (at + 119)) (heldInterval s))) 13 (at + 119)) _ (row-where i (WriteRow s code room) (bad-117 k g t header count))
+      then-row (WriteRow s code room) (refuseIf (not (eqb (word s (at + 119)) (heldInterval s))) 13 (at + 119)) _ (row-where i (WriteRow s code room) (bad-held-117 k g t header count))
       (λ r. let interval = holds-where i r in
       then-row (WriteRow s code room) (fieldCause s 4 (6 * size) (at + 183)) _ (row-where d (WriteRow s code room) (no-samples k g t header count interval))
       (λ x. walk-row (λ j. CanonicalAt s (pairPlace s k j)) 13 (pairCause s) pairLength size (at + 183 + 3) (pairPlace s k) (pair-tests s k) (WriteRow s code room)
       (λ j l b h. bad-pair k j g t header count interval (holds-where d x) l b h)))))
 
   -- What is refused at the end has its row, where all is right up to it.
-  to-end : (t : ℕ) → EndNext s t → endCauses s t (tracePlace s t) ≡ Refused n p → WriteRow s code room n p
+  to-end : (t : ℕ) → EndNext s t → endCauses s t (tracePlace s t) ≡ Refused n (atPlace p) → WriteRow s code room n p
   to-end t h =
       let at = tracePlace s t in
       let f = test-field s 5 4 at in
@@ -684,7 +682,7 @@ module _ (s : List ℕ) (code room : ℕ) {n : ℕ} {p : Place} (g : Between 1 4
       (λ x y. absurd (not-fine (sym y)))))
 
   -- What is refused behind tags 01 and 02 has its row, where these are right.
-  to-body : HeadRight s → bodyCauses s (heldSamples s) (heldInterval s) (countIn s) ≡ Refused n p → WriteRow s code room n p
+  to-body : HeadRight s → bodyCauses s (heldSamples s) (heldInterval s) (countIn s) ≡ Refused n (atPlace p) → WriteRow s code room n p
   unfolding bodyCauses
   to-body h =
       let w = heldStride (heldSamples s) in
@@ -694,7 +692,7 @@ module _ (s : List ℕ) (code room : ℕ) {n : ℕ} {p : Place} (g : Between 1 4
       (λ e. to-end (countIn s) (end-next s h e))
 
   -- What 12 or 13 refuses has its row.
-  to-form : formCauses s ≡ Refused n p → WriteRow s code room n p
+  to-form : formCauses s ≡ Refused n (atPlace p) → WriteRow s code room n p
   unfolding formCauses
   to-form =
       then-row (WriteRow s code room) (cardsCauses s) _ to-cards
@@ -702,7 +700,7 @@ module _ (s : List ℕ) (code room : ℕ) {n : ℕ} {p : Place} (g : Between 1 4
       then-row (WriteRow s code room) (binaryCauses s) _ (to-binary c) (λ q. to-body (head-right s c q)))
 
   -- What 14 refuses in a valid record has its row.
-  to-fits : (t : ℕ) → RecordRight s t → fitsOver s code room t ≡ Refused n p → WriteRow s code room n p
+  to-fits : (t : ℕ) → RecordRight s t → fitsOver s code room t ≡ Refused n (atPlace p) → WriteRow s code room n p
   unfolding fitCauses traceFit
   to-fits t h e =
       let size = heldSamples s in
@@ -714,7 +712,7 @@ module _ (s : List ℕ) (code room : ℕ) {n : ℕ} {p : Place} (g : Between 1 4
 
 module _ (s : List ℕ) (code room : ℕ) where
   -- What is refused has its row: the first that applies.
-  to-row : {n : ℕ} {p : Place} → writeCauses s code room ≡ Refused n p → WriteRow s code room n p
+  to-row : {n p : ℕ} → writeCauses s code room ≡ Refused n (atPlace p) → WriteRow s code room n p
   unfolding targetCauses
   to-row {n} {p} =
       let row = WriteRow s code room in
@@ -728,22 +726,15 @@ module _ (s : List ℕ) (code room : ℕ) where
       let b = then-fine (formCauses s) _ (a .1) in
       let g = holds-where target (a .0) in
       let h = record-right s (b .0) in
-      row-where (test-room room size 10 size) row (λ m. short (countIn s) g h (fit-all s code room (countIn s) g h (b .1)) (not-enough room size m)))
+      row-where (test-room room size 10 size) row (λ m. short-output (countIn s) g h (fit-all s code room (countIn s) g h (b .1)) (not-enough room size m)))
 
 -- THEOREM. Writing is refused by a number, with what stands beside it, exactly when that row of the table applies.
-pub exact-writing : (s : List ℕ) (code room number : ℕ) (place : Place) → Iff (writeCauses s code room ≡ Refused number place) (WriteRow s code room number place)
+pub exact-writing : (s : List ℕ) (code room number place : ℕ) → Iff (writeCauses s code room ≡ Refused number (atPlace place)) (WriteRow s code room number place)
 exact-writing s code room number place = (to-row s code room, from-row s code room)
 
 -- THEOREM. Writing has no cause against it exactly when no row of the table applies.
-pub no-writing-cause : (s : List ℕ) (code room : ℕ) → Iff (writeCauses s code room ≡ Fine) ((number : ℕ) (place : Place) → ¬ (WriteRow s code room number place))
-no-writing-cause s code room = (none, fine (writeCauses s code room) refl)
-  where
-    none : writeCauses s code room ≡ Fine → (number : ℕ) (place : Place) → ¬ (WriteRow s code room number place)
-    none e number place r = not-fine (sym (from-row s code room r) ∙ e)
-
-    fine : (c : Check) → writeCauses s code room ≡ c → ((number : ℕ) (place : Place) → ¬ (WriteRow s code room number place)) → writeCauses s code room ≡ Fine
-    fine Fine e h = e
-    fine (Refused number place) e h = absurd (h number place (to-row s code room e))
+pub no-writing-cause : (s : List ℕ) (code room : ℕ) → Iff (writeCauses s code room ≡ Fine) ((number place : ℕ) → ¬ (WriteRow s code room number place))
+no-writing-cause s code room = fine-none (WriteRow s code room) (writeCauses s code room) (exact-writing s code room)
 
 -- LAW. Where 100,000 traces stand and are right, and trace 100,001 follows them, writing is refused by 12 at the place of its tag.
 pub trace-beyond : (s : List ℕ) (code room : ℕ) → Between 1 4 code → RightUntil s 100000 → getD s (tracePlace s 100000) 0 ≡ 3
