@@ -37,7 +37,7 @@ use Rattle.numbers.specs.declared.Check.{Check}
 use Rattle.numbers.specs.declared.Check.the-variants.{Fine, Refused}
 use Rattle.numbers.proofs.WalkLaws.{All}
 use Rattle.numbers.proofs.ByteLaws.{Bytes}
-use Rattle.numbers.proofs.CauseLaws.{not-fine, then-fine, at-most}
+use Rattle.numbers.proofs.CauseLaws.{not-fine, passed, then-fine, at-most}
 use Rattle.sample.specs.Value.{denominatorPower, exactValue}
 use Rattle.sample.specs.Pair.{valueOf, isCanonical}
 use Rattle.sample.specs.Reading.{isCode, badGain, pairTaken, readWord}
@@ -58,9 +58,9 @@ use Rattle.record.specs.Held.{heldBy}
 use Rattle.record.specs.Target.{isUnfit, targetCauses}
 use Rattle.transcribe.specs.Reading as reading
 use Rattle.transcribe.specs.Reading.{readCauses, readEnd, readOutcome}
-use Rattle.write_reel.specs.Reel.{reelOf, reelLength}
+use Rattle.write_reel.specs.Reel.{reelOf}
 use Rattle.write_reel.specs.Writing.{lengthOf, writeCauses, writeEnd, writeOutcome}
-use Rattle.look_up.specs.LookUp.{found, isNone, fieldIn, fieldAt, foundNumber, lookUpCauses, numberSaid, lookUpOutcome}
+use Rattle.look_up.specs.LookUp.{Found, found, none, isNone, fieldIn, fieldAt, headerNumber, foundNumber, fieldCauses, lookUpCauses, numberSaid, lookUpOutcome}
 use Rattle.reel_theorems.proofs.TestLaws.{atPlace, Between, Tests, apart, fine-where, refused-where, holds-where, row-where, then-row, then-first, then-second, and-both, test-between, test-room, test-by, not-enough, too-short, fine-none}
 use Rattle.reel_theorems.proofs.Refusals.{Row, exact-causes, no-cause}
 use Rattle.reel_theorems.proofs.Same.{record-size}
@@ -116,7 +116,7 @@ readNumbers s = tracesOf s ∷ samplesOf s ∷ reading.lengthOf s ∷ []
 pub data ReadRow (s : List ℕ) (room : ℕ) : ℕ → ℕ → Type 0 where
   -- 1 to 9: as the table of these says
   by-reel : {number place : ℕ} → Row s number place → ReadRow s room number place
-  -- 10: none of them applies, and the output is too short for the record, with the record's length
+  -- 10: none of them applies, and the output is too short for the record, with the record's length, 3273 + T × (186 + 6N)
   short-output : ((number place : ℕ) → ¬ (Row s number place)) → room < reading.lengthOf s → ReadRow s room 10 (reading.lengthOf s)
 
 -- The causes of reading are these rows.
@@ -199,9 +199,9 @@ example-taken = refl
 
 -- ## Writing a reel
 
--- T and N as the record holds them, and the reel'r length: 3600 + T × (240 + N × the bytes of a sample).
+-- The numbers that writing returns: T and N as the record holds them, and the reel's length, 3600 + T × (240 + N × the bytes of a sample).
 abbrev pub writtenNumbers : List ℕ → ℕ → List ℕ
-writtenNumbers r code = heldTraces r (heldSamples r) ∷ heldSamples r ∷ reelLength code (heldTraces r (heldSamples r)) (heldSamples r) ∷ []
+writtenNumbers r code = heldTraces r (heldSamples r) ∷ heldSamples r ∷ lengthOf r code ∷ []
 
 module _ (r : List ℕ) (code : ℕ) (out : List ℕ) where
   -- What writing says, by what its checks answer.
@@ -211,7 +211,7 @@ module _ (r : List ℕ) (code : ℕ) (out : List ℕ) where
   -- THEOREM. "Each refusal has the number and place that document 01 sets, in just the cases set there": writing is refused exactly when a
   -- row applies, by its number and place.
   -- Rules out a writer that declines every record, and one that says output too short before working out the length: 10 needs a valid record
-  -- whose samples all fit, and has the reel'r length beside it. By 14, normalising by single bits, pushing C below 0 and shifting up for a
+  -- whose samples all fit, and has the reel's length beside it. By 14, normalising by single bits, pushing C below 0 and shifting up for a
   -- negative e: a sample is refused exactly where no word of the code has its value.
   pub write-refused : (number place : ℕ) → Iff (writeOutcome r code out .said ≡ refused number place) (WriteRow r code (length out) number place)
   unfolding writeSays
@@ -219,7 +219,7 @@ module _ (r : List ℕ) (code : ℕ) (out : List ℕ) where
       both (says-refused writeSays (writtenNumbers r code) refl (λ n p. refl) (writeCauses r code (length out)) number place)
       (exact-writing r code (length out) number place)
 
-  -- THEOREM. And it is taken, with T, N and the reel'r length, exactly when no row applies.
+  -- THEOREM. And it is taken, with T, N and the reel's length, exactly when no row applies.
   -- Rules out a writer that declines every record, and one whose T or length is invented.
   pub write-taken : Iff (writeOutcome r code out .said ≡ taken (writtenNumbers r code)) ((number place : ℕ) → ¬ (WriteRow r code (length out) number place))
   unfolding writeSays
@@ -234,7 +234,7 @@ module _ (r : List ℕ) (code : ℕ) (out : List ℕ) where
       ap (λ (c : Check). writeEnd r code out c .bytes)
       (says-refused writeSays (writtenNumbers r code) refl (λ n p. refl) (writeCauses r code (length out)) number place .0 e)
 
-  -- THEOREM. A taken call leaves the output'r length, and each byte behind the length returned, as they were.
+  -- THEOREM. A taken call leaves the output's length, and each byte behind the length returned, as they were.
   -- Alone it rules out none of the list.
   pub write-rest : (t n l : ℕ) → writeOutcome r code out .said ≡ taken (t ∷ n ∷ l ∷ [])
       → (length (writeOutcome r code out .bytes) ≡ length out) × (drop l (writeOutcome r code out .bytes) ≡ drop l out)
@@ -278,6 +278,23 @@ none-found b (f ∷ fs) = go (eqb (f .byteNo) b) refl (none-found b fs)
         → Iff (isNone (pick c (found f) (fieldIn b fs)) ≡ true) ((¬ (f .byteNo ≡ b)) × All (λ g. ¬ (g .byteNo ≡ b)) fs)
     go true e r = (λ q. absurd (apart q), λ h. absurd (h .0 (eqb-true (f .byteNo) b e)))
     go false e r = (λ q. (eqb-false (f .byteNo) b e, r .0 q), λ h. r .1 (h .1))
+
+-- The field that is found begins there.
+found-begins : (b : ℕ) (fs : List Field) (f : Field) → fieldIn b fs ≡ found f → f .byteNo ≡ b
+unfolding fieldIn
+found-begins b [] f e = absurd (apart (sym (ap isNone e)))
+found-begins b (g ∷ fs) f e = go (λ h. found-begins b fs f h) (eqb (g .byteNo) b) refl e
+  where
+    go : (fieldIn b fs ≡ found f → f .byteNo ≡ b) → (c : Bool) → eqb (g .byteNo) b ≡ c → pick c (found g) (fieldIn b fs) ≡ found f → f .byteNo ≡ b
+    go rest true q e = let h : g ≡ f = cc in ap (λ (x : Field). x .byteNo) (sym h) ∙ eqb-true (g .byteNo) b q
+    go rest false q e = rest e
+
+-- z is the number of an assigned field of header k that begins at byte number b.
+pub record LookedUp (s : List ℕ) (k : ℕ) (b : ByteNo) (z : ℤ) : Type 0 where
+  pub field : Field
+  pub assigned : fieldAt k b ≡ found field
+  pub begins : field .byteNo ≡ byteNo b
+  pub number : z ≡ headerNumber s k field
 
 -- A test that refuses where a truth value is true.
 test-flag : (b : Bool) (number at : ℕ) → Tests (b ≡ false) number at (refuseIf b number at)
@@ -330,6 +347,27 @@ module _ (s : List ℕ) (k : ℕ) (b : ByteNo) where
   unfolding lookUpSays lookUpOutcome
   look-up-taken =
       both (says-taken lookUpSays [] refl (λ n p. refl) (lookUpCauses s k b)) (fine-none (LookUpRow s k b) (lookUpCauses s k b) look-up-exact)
+
+  -- THEOREM. Where it is taken, some assigned field of that header begins at the byte number, and the number is that field's: of the binary
+  -- header as on the reel, of a trace with 115 and 117 filled in.
+  -- Rules out a look-up that gives one fixed number, one that looks in the first trace for the rest, and filling field 115 only for the first
+  -- trace.
+  pub look-up-number : lookUpOutcome s k b .said ≡ taken [] → LookedUp s k b (lookUpOutcome s k b .number)
+  unfolding lookUpOutcome
+  look-up-number e = go (lookUpCauses s k b) refl e
+    where
+      at : (x : Found) → fieldAt k b ≡ x → isNone x ≡ false → LookedUp s k b (foundNumber s k (fieldAt k b))
+      at (found f) q n =
+          record { field = f; assigned = q; begins = found-begins (byteNo b) (headerFields k) f q; number = ap (foundNumber s k) q }
+      at none q n = absurd (apart (sym n))
+
+      go : (c : Check) → lookUpCauses s k b ≡ c → numberSaid c (foundNumber s k (fieldAt k b)) .said ≡ taken []
+          → LookedUp s k b (numberSaid c (foundNumber s k (fieldAt k b)) .number)
+      go Fine q e =
+          let a = then-fine (causesOf s) (fieldCauses (tracesOf s) k (isNone (fieldAt k b))) q in
+          let d = then-fine (refuseIf (ltb (tracesOf s) k) 15 0) _ (a .1) in
+          at (fieldAt k b) refl (passed (isNone (fieldAt k b)) 16 0 (then-fine (refuseIf (isNone (fieldAt k b)) 16 0) Fine (d .1) .0))
+      go (Refused n p) q e = absurd (not-taken e)
 
   -- THEOREM. Beside a refusal the number is 0.
   -- Alone it rules out none of the list.

@@ -12,9 +12,9 @@
 --   it, and the output is long enough.
 -- - `written`: where writing is taken, the record is valid, the numbers returned are its T and N and the reel's length, the output's first
 --   bytes are the reel of what the record holds, of that length, and the rest of the output keeps its content.
--- - `back`: reading the reel that was written, into an output long enough, is taken with the same T and N, and gives the record again byte
+-- - `read-back`: reading the reel that was written, into an output long enough, is taken with the same T and N, and gives the record again byte
 --   for byte.
--- - `round`: the second sentence at once. A valid record, a code of 1 to 4 that holds every sample exactly and an output long enough: the
+-- - `round-trip`: the second sentence at once. A valid record, a code of 1 to 4 that holds every sample exactly and an output long enough: the
 --   writing is taken, and reading what it wrote gives the record again.
 --
 -- Valid means that neither 12 nor 13 applies, and `valid-is` in `Determined` spells it out. Each byte of a reel and of a record is below 256;
@@ -95,22 +95,17 @@ pub record CanBeWritten (r : List ℕ) (code : ℕ) (out : List ℕ) : Type 0 wh
 -- Rules out a writer that declines every record, and one that says output too short before working out the length (the rest of that is
 -- `write-refused`).
 pub writing : (r : List ℕ) (code : ℕ) (out : List ℕ) → Bytes r → formCauses r ≡ Fine
-    → Iff ((numbers : List ℕ) × (writeOutcome r code out .said ≡ taken numbers)) (CanBeWritten r code out)
-writing r code out b v = (there, here)
-  where
-    there : (numbers : List ℕ) × (writeOutcome r code out .said ≡ taken numbers) → CanBeWritten r code out
-    there e =
-        let w = written-needs r code out (e .0) (e .1) in
-        record {
-          code-is = w .code-is;
-          held = fitting-words code (heldSamples r) (heldInterval r) (heldBy r) (held-proper r b v) (w .code-is) (fit-is r code .0 (w .fit));
-          room = w .room;
-        }
-
-    here : CanBeWritten r code out → (numbers : List ℕ) × (writeOutcome r code out .said ≡ taken numbers)
-    here h =
-        let w = needs r code out b v (h .code-is) (h .held) (h .room) in
-        (_, ap (λ (o : Outcome). o .said) (write-taken r code out w))
+    → Iff (writeOutcome r code out .said ≡ taken (heldTraces r (heldSamples r) ∷ heldSamples r ∷ (3600 + heldTraces r (heldSamples r) * (240 + heldSamples r * sampleBytes code)) ∷ []))
+    (CanBeWritten r code out)
+writing r code out b v = (
+  λ e. let w = written-needs r code out _ e in
+  record {
+    code-is = w .code-is;
+    held = fitting-words code (heldSamples r) (heldInterval r) (heldBy r) (held-proper r b v) (w .code-is) (fit-is r code .0 (w .fit));
+    room = w .room;
+  },
+  λ h. ap (λ (o : Outcome). o .said) (write-taken r code out (needs r code out b v (h .code-is) (h .held) (h .room))),
+)
 
 -- What writing a record gives, where it returns t, n and the length l.
 pub record ReelWritten (r : List ℕ) (code : ℕ) (out : List ℕ) (t n l : ℕ) : Type 0 where
@@ -153,9 +148,9 @@ written r code out t n l b e =
 -- THEOREM. Reading that reel gives the record again, byte for byte and with the same T and N, in every output that is long enough.
 -- Rules out a fixed record or reel, writing nothing and saying taken, copying the first trace for the rest, and an invented length. That T
 -- and N are the record's own, and not merely the same both times, is `reading` and `written`.
-pub back : (r : List ℕ) (code : ℕ) (out out₂ : List ℕ) (t n l : ℕ) → Bytes r → writeOutcome r code out .said ≡ taken (t ∷ n ∷ l ∷ []) → length r ≤ length out₂
+pub read-back : (r : List ℕ) (code : ℕ) (out out₂ : List ℕ) (t n l : ℕ) → Bytes r → writeOutcome r code out .said ≡ taken (t ∷ n ∷ l ∷ []) → length r ≤ length out₂
     → readOutcome (take l (writeOutcome r code out .bytes)) out₂ ≡ record { said = taken (t ∷ n ∷ length r ∷ []); bytes = r ++ drop (length r) out₂ }
-back r code out out₂ t n l b e h =
+read-back r code out out₂ t n l b e h =
     let w = written-needs r code out (t ∷ n ∷ l ∷ []) e in
     let k = written r code out t n l b e in
     ap (λ (s : List ℕ). readOutcome s out₂) (k .content)
@@ -164,14 +159,13 @@ back r code out out₂ t n l b e h =
 
 -- THEOREM. A valid record is written as a reel in any code that holds every sample exactly, if the output is long enough, and reading that
 -- reel gives the record again.
--- Rules out a writer that declines every record, and what `back` rules out.
-pub round : (r : List ℕ) (code : ℕ) (out out₂ : List ℕ) → Bytes r → formCauses r ≡ Fine → CanBeWritten r code out → length r ≤ length out₂
-    → (t n l : ℕ) × (writeOutcome r code out .said ≡ taken (t ∷ n ∷ l ∷ []))
-    × (readOutcome (take l (writeOutcome r code out .bytes)) out₂ ≡ record { said = taken (t ∷ n ∷ length r ∷ []); bytes = r ++ drop (length r) out₂ })
-round r code out out₂ b v h room =
-    let w = needs r code out b v (h .code-is) (h .held) (h .room) in
-    let n = heldSamples r in
+-- Rules out a writer that declines every record, and what `read-back` rules out.
+pub round-trip : (r : List ℕ) (code : ℕ) (out out₂ : List ℕ) → Bytes r → formCauses r ≡ Fine → CanBeWritten r code out → length r ≤ length out₂
+    → let n = heldSamples r in
     let t = heldTraces r n in
-    let l = reelLength code t n in
-    let e : writeOutcome r code out .said ≡ taken (t ∷ n ∷ l ∷ []) = ap (λ (o : Outcome). o .said) (write-taken r code out w) in
-    (t, n, l, e, back r code out out₂ t n l b e room)
+    let l = 3600 + t * (240 + n * sampleBytes code) in
+    (writeOutcome r code out .said ≡ taken (t ∷ n ∷ l ∷ []))
+    × (readOutcome (take l (writeOutcome r code out .bytes)) out₂ ≡ record { said = taken (t ∷ n ∷ length r ∷ []); bytes = r ++ drop (length r) out₂ })
+round-trip r code out out₂ b v h room =
+    let e = writing r code out b v .1 h in
+    (e, read-back r code out out₂ _ _ _ b e room)

@@ -7,15 +7,15 @@
 -- A record or a written reel is the output's first bytes, as many as the length returned. Values are compared V by V, whole numbers over
 -- 16^70 (`sixteen`, `by-sample`). `MeanTheSame` looks at the two reels' bytes only.
 --
--- - `same`: where the readings of two reels are taken, each in any code and each into any output, the two records are equal exactly when the
+-- - `records-equal`: where the readings of two reels are taken, each in any code and each into any output, the two records are equal exactly when the
 --   reels mean the same.
--- - `again`: where the reading of a reel is taken, and the writing of its record under any code is taken, the writing returns the same T and N
+-- - `reel-again`: where the reading of a reel is taken, and the writing of its record under any code is taken, the writing returns the same T and N
 --   and the length of such a reel; no cause of 1 to 9 applies to the reel that was written, it is in that code, it means the same as the
 --   first reel and has the same record; and reading it into an output long enough is taken with the same T, N and length, and gives that
 --   record.
--- - `held`: so that `again` is no empty promise, the record of a reel whose reading is taken is written under every code of 1 to 4 that has a
+-- - `written-in-each-code`: so that `reel-again` is no empty promise, the record of a reel whose reading is taken is written under every code of 1 to 4 that has a
 --   word for each of the reel's sample values, into every output that is long enough.
--- - `own`: the reel's own code is one of those, and under it a reel of the same length is written.
+-- - `own-code`: the reel's own code is one of those, and under it a reel of the same length is written.
 --
 -- Each byte of a reel is below 256; nothing else is assumed.
 use mathlib.Core.Path.{_≡_, refl, sym, ap, ap₂, _∙_, subst}
@@ -51,7 +51,7 @@ use Rattle.reel_theorems.proofs.Same.{same-records}
 use Rattle.reel_theorems.proofs.Output.{taken-reel, same-outputs}
 use Rattle.demands.proofs.Fitting.{HasWord}
 use Rattle.demands.proofs.Taken.{written-needs, needs, write-taken, written-bytes, written-no-cause, written-code, written-record}
-use Rattle.demands.proofs.Demand2.{reading, written, back}
+use Rattle.demands.proofs.Demand2.{reading, written, read-back}
 use Rattle.demands.proofs.Determined.{read-valid}
 
 -- ## Two reels
@@ -60,10 +60,10 @@ use Rattle.demands.proofs.Determined.{read-valid}
 -- Rules out a reader that gives one fixed record, and one that converts the first trace and copies it for the rest; two's complement for the
 -- IBM fraction, keeping minus zero, and filling field 115 only for the first trace. Also copying the words through, since two words of one
 -- value must give one pair.
-pub same : (s₁ s₂ out₁ out₂ : List ℕ) (t₁ n₁ l₁ t₂ n₂ l₂ : ℕ) → Bytes s₁ → Bytes s₂
+pub records-equal : (s₁ s₂ out₁ out₂ : List ℕ) (t₁ n₁ l₁ t₂ n₂ l₂ : ℕ) → Bytes s₁ → Bytes s₂
     → readOutcome s₁ out₁ .said ≡ taken (t₁ ∷ n₁ ∷ l₁ ∷ []) → readOutcome s₂ out₂ .said ≡ taken (t₂ ∷ n₂ ∷ l₂ ∷ [])
     → Iff (take l₁ (readOutcome s₁ out₁ .bytes) ≡ take l₂ (readOutcome s₂ out₂ .bytes)) (MeanTheSame s₁ s₂)
-same = same-outputs
+records-equal = same-outputs
 
 -- ## Sample by sample
 
@@ -101,7 +101,7 @@ unfolding meaningOf traceMeaning traceValues
 all-values s = map-walk (λ (t : Trace). t .values) (traceMeaning s (codeOf s) (samplesOf s) (intervalOf s)) (strideOf s) (tracesOf s) firstTrace
 
 -- THEOREM. Where two reels mean the same, sample j of trace k has the same exact value in both.
--- Alone it rules out none of the list: it spells out what `same` compares.
+-- Alone it rules out none of the list: it spells out what `records-equal` compares.
 pub by-sample : (s₁ s₂ : List ℕ) → MeanTheSame s₁ s₂ → (k j : ℕ) → k < tracesOf s₁ → j < samplesOf s₁ → sampleValue s₁ k j ≡ sampleValue s₂ k j
 unfolding traceValues
 by-sample s₁ s₂ m k j l h =
@@ -131,10 +131,10 @@ pub record ReelAgain (s : List ℕ) (t n l : ℕ) (r : List ℕ) (code t₂ n₂
 -- THEOREM. Every reel written from such a record is read without refusal, means the same and has the same record.
 -- Rules out a writer that writes nothing and says taken, a writer or a reader that converts the first trace and copies it for the rest, and
 -- either with a length that is invented, or a T that the other doesn't have. That T is the reel's own is `reading`.
-pub again : (s out : List ℕ) (t n l : ℕ) (code : ℕ) (out₂ : List ℕ) (t₂ n₂ l₂ : ℕ) → Bytes s → readOutcome s out .said ≡ taken (t ∷ n ∷ l ∷ [])
+pub reel-again : (s out : List ℕ) (t n l : ℕ) (code : ℕ) (out₂ : List ℕ) (t₂ n₂ l₂ : ℕ) → Bytes s → readOutcome s out .said ≡ taken (t ∷ n ∷ l ∷ [])
     → writeOutcome (take l (readOutcome s out .bytes)) code out₂ .said ≡ taken (t₂ ∷ n₂ ∷ l₂ ∷ [])
     → ReelAgain s t n l (take l (readOutcome s out .bytes)) code t₂ n₂ l₂ (take l₂ (writeOutcome (take l (readOutcome s out .bytes)) code out₂ .bytes))
-again s out t n l code out₂ t₂ n₂ l₂ b e e₂ =
+reel-again s out t n l code out₂ t₂ n₂ l₂ b e e₂ =
     let r = take l (readOutcome s out .bytes) in
     let x = reading s out t n l b e in
     let v = read-valid s out t n l b e in
@@ -154,7 +154,7 @@ again s out t n l code out₂ t₂ n₂ l₂ b e e₂ =
       means = subst (MeanTheSame s) (sym (k .content)) means;
       has = ap reelRecord (k .content) ∙ has;
       read = λ out₃ room.
-          back r code out₂ out₃ t₂ n₂ l₂ h e₂ (rw size room)
+          read-back r code out₂ out₃ t₂ n₂ l₂ h e₂ (rw size room)
           ∙ ap (λ (j : ℕ). record { said = taken (t₂ ∷ n₂ ∷ j ∷ []); bytes = r ++ drop j out₃ }) size
           ∙ ap₂ (λ (i j : ℕ). record { said = taken (i ∷ j ∷ l ∷ []); bytes = r ++ drop l out₃ }) (k .traces ∙ v .traces) (k .samples ∙ v .samples);
     }
@@ -164,11 +164,11 @@ again s out t n l code out₂ t₂ n₂ l₂ b e e₂ =
 -- THEOREM. The record of a reel read without refusal is written under every code of 1 to 4 that has a word for each of the reel's sample
 -- values, into every output that is long enough.
 -- Rules out a writer that declines every record, and one whose T or length is invented.
-pub held : (s out : List ℕ) (t n l : ℕ) (code : ℕ) (out₂ : List ℕ) → Bytes s → readOutcome s out .said ≡ taken (t ∷ n ∷ l ∷ [])
+pub written-in-each-code : (s out : List ℕ) (t n l : ℕ) (code : ℕ) (out₂ : List ℕ) → Bytes s → readOutcome s out .said ≡ taken (t ∷ n ∷ l ∷ [])
     → isCode code ≡ true → All (λ (x : Trace). All (HasWord code) (x .values)) (meaningOf s .traces)
     → 3600 + t * (240 + n * sampleBytes code) ≤ length out₂
     → writeOutcome (take l (readOutcome s out .bytes)) code out₂ .said ≡ taken (t ∷ n ∷ (3600 + t * (240 + n * sampleBytes code)) ∷ [])
-held s out t n l code out₂ b e c f h =
+written-in-each-code s out t n l code out₂ b e c f h =
     let r = take l (readOutcome s out .bytes) in
     let v = read-valid s out t n l b e in
     let size = ap₂ (reelLength code) (v .traces) (v .samples) in
@@ -204,8 +204,8 @@ reel-words s h f =
     first-all (traceCauses s code n i) (traceMeaning s code n i) (λ (x : Trace). All (HasWord code) (x .values)) (trace-words s h code n i) (strideOf s) (tracesOf s) firstTrace (reel-fine s f .traces)
 
 -- It has the bytes of its headers and its whole traces, and no others.
-reel-size : (s : List ℕ) → causesOf s ≡ Fine → reelLength (codeOf s) (tracesOf s) (samplesOf s) ≡ length s
-reel-size s f =
+own-size : (s : List ℕ) → causesOf s ≡ Fine → reelLength (codeOf s) (tracesOf s) (samplesOf s) ≡ length s
+own-size s f =
     let v = reel-fine s f in
     omega (arith, v .long, v .whole, div-add-mod' (length s - firstTrace) (strideOf s))
 
@@ -219,16 +219,16 @@ pub record OwnCode (s : List ℕ) (t n : ℕ) (r : List ℕ) : Type 0 where
 
 -- THEOREM. The reel's own code has a word for each of the reel's sample values, and its record is written under that code.
 -- Rules out a writer that declines every record, and one whose T or length is invented.
-pub own : (s out : List ℕ) (t n l : ℕ) → Bytes s → readOutcome s out .said ≡ taken (t ∷ n ∷ l ∷ []) → OwnCode s t n (take l (readOutcome s out .bytes))
-own s out t n l b e =
+pub own-code : (s out : List ℕ) (t n l : ℕ) → Bytes s → readOutcome s out .said ≡ taken (t ∷ n ∷ l ∷ []) → OwnCode s t n (take l (readOutcome s out .bytes))
+own-code s out t n l b e =
     let f = taken-reel s out (t ∷ n ∷ l ∷ []) e in
     let x = reading s out t n l b e in
     let k = reel-fine s f .numbers in
     let c : isCode (codeOf s) ≡ true = rw (le-leb 1 (codeOf s) (k .code-low), le-leb (codeOf s) 4 (k .code-high)) in
-    let size : reelLength (codeOf s) t n ≡ length s = ap₂ (reelLength (codeOf s)) (x .traces) (x .samples) ∙ reel-size s f in
+    let size : reelLength (codeOf s) t n ≡ length s = ap₂ (reelLength (codeOf s)) (x .traces) (x .samples) ∙ own-size s f in
     record {
       code-is = c;
       words = reel-words s b f;
       writes = λ out₂ room.
-          held s out t n l (codeOf s) out₂ b e c (reel-words s b f) (rw size room) ∙ ap (λ (j : ℕ). taken (t ∷ n ∷ j ∷ [])) size;
+          written-in-each-code s out t n l (codeOf s) out₂ b e c (reel-words s b f) (rw size room) ∙ ap (λ (j : ℕ). taken (t ∷ n ∷ j ∷ [])) size;
     }

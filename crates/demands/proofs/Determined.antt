@@ -86,6 +86,6 @@ pub held-same : (r₁ r₂ : List ℕ) → Bytes r₁ → Bytes r₂ → formCau
 held-same r₁ r₂ b₁ b₂ v₁ v₂ e = sym (held-again r₁ b₁ v₁) ∙ ap recordOf e ∙ held-again r₂ b₂ v₂
 
 -- THEOREM. A valid record is the record of what it holds.
--- Alone it rules out none of the list; `back` and `again`, which do, rest on it.
+-- Alone it rules out none of the list; `read-back` and `reel-again`, which do, rest on it.
 pub held-record : (r : List ℕ) → Bytes r → formCauses r ≡ Fine → recordOf (heldBy r) ≡ r
 held-record = held-again
