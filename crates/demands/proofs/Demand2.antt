@@ -8,8 +8,8 @@
 --
 -- - `reading`: where reading a reel is taken, the numbers returned are the reel's T and N and 3273 + T × (186 + 6N), the output's first
 --   bytes are the record of what the reel means, of that length, and the rest of the output keeps its content.
--- - `writing`: writing a valid record is taken exactly when the code is from 1 to 4, every sample that the record holds has a word under
---   it, and the output is long enough.
+-- - `writing`: writing a valid record is taken, with the record's T and N and the reel's length, exactly when the code is from 1 to 4, every
+--   sample that the record holds has a word under it, and the output is long enough.
 -- - `written`: where writing is taken, the record is valid, the numbers returned are its T and N and the reel's length, the output's first
 --   bytes are the reel of what the record holds, of that length, and the rest of the output keeps its content.
 -- - `read-back`: reading the reel that was written, into an output long enough, is taken with the same T and N, and gives the record again byte
@@ -27,12 +27,11 @@ use lib.ListN.{length, take, drop}
 use lib.Seq.{take-at, drop-at}
 use Rattle.numbers.specs.Outcome.{taken, Outcome}
 use Rattle.numbers.specs.declared.Check.the-variants.{Fine}
-use Rattle.numbers.proofs.WalkLaws.{All}
 use Rattle.numbers.proofs.ByteLaws.{Bytes}
 use Rattle.sample.specs.Reading.{isCode}
 use Rattle.sample_theorems.proofs.Pairs.{Iff}
 use Rattle.reel.specs.Layout.{samplesOf, tracesOf, sampleBytes}
-use Rattle.reel.specs.Meaning.{Trace, meaningOf}
+use Rattle.reel.specs.Meaning.{meaningOf}
 use Rattle.record.specs.Record.{recordOf}
 use Rattle.record.specs.Form.{heldInterval, heldSamples, heldTraces, formCauses}
 use Rattle.record.specs.Held.{heldBy}
@@ -42,8 +41,9 @@ use Rattle.write_reel.specs.Writing.{writeEnd, writeOutcome}
 use Rattle.reel_theorems.proofs.Same.{record-size}
 use Rattle.reel_theorems.proofs.Output.{taken-reel, taken-outcome, taken-numbers, output-record}
 use Rattle.demands.proofs.ProperLaws.{held-proper}
-use Rattle.demands.proofs.Fitting.{fit-is, HasWord}
-use Rattle.demands.proofs.Taken.{fitting-words, needs, written-needs, write-taken, written-size, written-read}
+use Rattle.demands.proofs.Fitting.{fit-is, Worded}
+use Rattle.demands.proofs.WrittenSize.{reel-size}
+use Rattle.demands.proofs.Taken.{fitting-words, needs, written-needs, write-taken, written-read}
 
 -- ## A reel becomes its record
 
@@ -87,13 +87,13 @@ reading s out t n l b e =
 -- What it takes to write a record: the code is from 1 to 4, it holds every sample exactly, and the output is long enough.
 pub record CanBeWritten (r : List ℕ) (code : ℕ) (out : List ℕ) : Type 0 where
   pub code-is : isCode code ≡ true
-  pub held : All (λ (t : Trace). All (HasWord code) (t .values)) (heldBy r .traces)
+  pub held : Worded code (heldBy r .traces)
   pub room : 3600 + heldTraces r (heldSamples r) * (240 + heldSamples r * sampleBytes code) ≤ length out
 
 -- THEOREM. A valid record is written as a reel in any code that holds every sample exactly, if the output is long enough; and in no other
 -- case.
--- Rules out a writer that declines every record, and one that says output too short before working out the length (the rest of that is
--- `write-refused`).
+-- Rules out a writer that declines every record, one that says output too short before working out the length (the rest of that is
+-- `write-refused`), and one whose T or length is invented.
 pub writing : (r : List ℕ) (code : ℕ) (out : List ℕ) → Bytes r → formCauses r ≡ Fine
     → Iff (writeOutcome r code out .said ≡ taken (heldTraces r (heldSamples r) ∷ heldSamples r ∷ (3600 + heldTraces r (heldSamples r) * (240 + heldSamples r * sampleBytes code)) ∷ []))
     (CanBeWritten r code out)
@@ -131,7 +131,7 @@ written r code out t n l b e =
     let w = written-needs r code out (t ∷ n ∷ l ∷ []) e in
     let o : writeOutcome r code out ≡ writeEnd r code out Fine = write-taken r code out w in
     let k = same-numbers (sym e ∙ ap (λ (x : Outcome). x .said) o) in
-    let whole : length (reelOf code (heldBy r)) ≡ l = written-size r b code out w ∙ sym (k .2) in
+    let whole : length (reelOf code (heldBy r)) ≡ l = reel-size r code ∙ sym (k .2) in
     record {
       valid = w .form;
       traces = k .0;

@@ -9,12 +9,12 @@
 --
 -- - `records-equal`: where the readings of two reels are taken, each in any code and each into any output, the two records are equal exactly when the
 --   reels mean the same.
--- - `reel-again`: where the reading of a reel is taken, and the writing of its record under any code is taken, the writing returns the same T and N
---   and the length of such a reel; no cause of 1 to 9 applies to the reel that was written, it is in that code, it means the same as the
---   first reel and has the same record; and reading it into an output long enough is taken with the same T, N and length, and gives that
---   record.
--- - `written-in-each-code`: so that `reel-again` is no empty promise, the record of a reel whose reading is taken is written under every code of 1 to 4 that has a
---   word for each of the reel's sample values, into every output that is long enough.
+-- - `reel-again`: where the reading of a reel is taken, and the writing of its record under any code is taken, the writing returns the same T
+--   and N and the length of such a reel; no cause of 1 to 9 applies to the reel that was written, it is in that code, it means the same as
+--   the first reel and has the same record; and reading it into an output long enough is taken with the same T, N and length, and gives
+--   that record.
+-- - `written-in-each-code`: so that `reel-again` is no empty promise, the record of a reel whose reading is taken is written under every code
+--   of 1 to 4 that has a word for each of the reel's sample values, into every output that is long enough.
 -- - `own-code`: the reel's own code is one of those, and under it a reel of the same length is written.
 --
 -- Each byte of a reel is below 256; nothing else is assumed.
@@ -49,7 +49,7 @@ use Rattle.reel_theorems.proofs.TestLaws.{at-zero, at-suc}
 use Rattle.reel_theorems.proofs.Refusals.{sampleAt}
 use Rattle.reel_theorems.proofs.Same.{same-records}
 use Rattle.reel_theorems.proofs.Output.{taken-reel, same-outputs}
-use Rattle.demands.proofs.Fitting.{HasWord}
+use Rattle.demands.proofs.Fitting.{HasWord, Worded}
 use Rattle.demands.proofs.Taken.{written-needs, needs, write-taken, written-bytes, written-no-cause, written-code, written-record}
 use Rattle.demands.proofs.Demand2.{reading, written, read-back}
 use Rattle.demands.proofs.Determined.{read-valid}
@@ -165,14 +165,14 @@ reel-again s out t n l code out₂ t₂ n₂ l₂ b e e₂ =
 -- values, into every output that is long enough.
 -- Rules out a writer that declines every record, and one whose T or length is invented.
 pub written-in-each-code : (s out : List ℕ) (t n l : ℕ) (code : ℕ) (out₂ : List ℕ) → Bytes s → readOutcome s out .said ≡ taken (t ∷ n ∷ l ∷ [])
-    → isCode code ≡ true → All (λ (x : Trace). All (HasWord code) (x .values)) (meaningOf s .traces)
+    → isCode code ≡ true → Worded code (meaningOf s .traces)
     → 3600 + t * (240 + n * sampleBytes code) ≤ length out₂
     → writeOutcome (take l (readOutcome s out .bytes)) code out₂ .said ≡ taken (t ∷ n ∷ (3600 + t * (240 + n * sampleBytes code)) ∷ [])
 written-in-each-code s out t n l code out₂ b e c f h =
     let r = take l (readOutcome s out .bytes) in
     let v = read-valid s out t n l b e in
     let size = ap₂ (reelLength code) (v .traces) (v .samples) in
-    let words = subst (λ (m : Meaning). All (λ (x : Trace). All (HasWord code) (x .values)) (m .traces)) (sym (v .holds)) f in
+    let words = subst (λ (m : Meaning). Worded code (m .traces)) (sym (v .holds)) f in
     let w = needs r code out₂ (v .bytes) (v .valid) c words (rw size h) in
     ap (λ (o : Outcome). o .said) (write-taken r code out₂ w) ∙ ap taken (cons-eq (v .traces) (cons-eq (v .samples) (cons-eq size refl)))
 
@@ -195,7 +195,7 @@ trace-words s h code n i at e =
         }
 
 -- Each sample value of a reel to which no cause of 1 to 9 applies has a word under the reel's own code.
-reel-words : (s : List ℕ) → Bytes s → causesOf s ≡ Fine → All (λ (x : Trace). All (HasWord (codeOf s)) (x .values)) (meaningOf s .traces)
+reel-words : (s : List ℕ) → Bytes s → causesOf s ≡ Fine → Worded (codeOf s) (meaningOf s .traces)
 unfolding meaningOf
 reel-words s h f =
     let code = codeOf s in
@@ -213,7 +213,7 @@ own-size s f =
 pub record OwnCode (s : List ℕ) (t n : ℕ) (r : List ℕ) : Type 0 where
   -- The code is one of the four, and each sample value has a word under it.
   pub code-is : isCode (codeOf s) ≡ true
-  pub words : All (λ (x : Trace). All (HasWord (codeOf s)) (x .values)) (meaningOf s .traces)
+  pub words : Worded (codeOf s) (meaningOf s .traces)
   -- The record is written under it into any output with room for the reel, as a reel of the same length.
   pub writes : (out : List ℕ) → length s ≤ length out → writeOutcome r (codeOf s) out .said ≡ taken (t ∷ n ∷ length s ∷ [])
 

@@ -81,6 +81,10 @@ pub record HasWord (code : ℕ) (v : ℤ) : Type 0 where
   pub good : badGain code word ≡ false
   pub value : exactValue code word ≡ v
 
+-- Each sample of a list of traces has a word under the code.
+abbrev pub Worded : ℕ → List Trace → Type 0
+Worded code l = All (λ (t : Trace). All (HasWord code) (t .values)) l
+
 -- The bytes of a number are bytes.
 bytes-of : (k n : ℕ) → Bytes (bytesOf k n)
 bytes-of zero n = tt

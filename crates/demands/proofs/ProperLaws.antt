@@ -5,7 +5,7 @@
 use mathlib.Core.Path.{_≡_, refl, ap, _∙_}
 use mathlib.Core.List.{List, [], _∷_, map}
 use mathlib.Core.Bool.{Bool, true, false}
-use Prim.Native.Nat.{ℕ, zero, suc, _+_, _^_, _≤_, _<_}
+use Prim.Native.Nat.{ℕ, zero, suc, _+_, _^_, _<_}
 use native.Mathlib.Omega.{arith}
 use borrow.Author.Tests.{lt-ltb, eqb-true, ne-eqb, not-false}
 use lib.Dec.{eqb}
@@ -25,7 +25,7 @@ use Rattle.reel.specs.Layout.{cardBytes, binaryWidths, binaryFields, traceWidth
 use Rattle.reel.specs.Causes.{mostTraces, neither, traceCauses, causesOf}
 use Rattle.reel.specs.Meaning.{blank, cardText, binaryNumbers, filled, traceMeaning, meaningOf}
 use Rattle.reel.proofs.CheckLaws.{reel-fine}
-use Rattle.record.specs.Form.{heldInterval, heldSamples, firstField, heldStride, tagsFrom, heldTraces, formCauses}
+use Rattle.record.specs.Form.{heldInterval, heldSamples, firstField, heldStride, heldTraces, formCauses}
 use Rattle.record.specs.Held.{heldValue, heldTrace, heldBy}
 use Rattle.record.proofs.HeaderLaws.{binary-front, binary-back, size-cards}
 use Rattle.record.proofs.FormLaws.{tags-most}
