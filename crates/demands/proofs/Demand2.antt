@@ -99,11 +99,11 @@ pub writing : (r : List ℕ) (code : ℕ) (out : List ℕ) → Bytes r → formC
     (CanBeWritten r code out)
 writing r code out b v = (
   λ e. let w = written-needs r code out _ e in
-  record {
-    code-is = w .code-is;
-    held = fitting-words code (heldSamples r) (heldInterval r) (heldBy r) (held-proper r b v) (w .code-is) (fit-is r code .0 (w .fit));
-    room = w .room;
-  },
+      record {
+        code-is = w .code-is;
+        held = fitting-words code (heldSamples r) (heldInterval r) (heldBy r) (held-proper r b v) (w .code-is) (fit-is r code .0 (w .fit));
+        room = w .room;
+      },
   λ h. ap (λ (o : Outcome). o .said) (write-taken r code out (needs r code out b v (h .code-is) (h .held) (h .room))),
 )
 

@@ -31,7 +31,7 @@ use Rattle.demands.proofs.Proper.{Proper}
 use Rattle.demands.proofs.ProperLaws.{reel-proper}
 use Rattle.demands.proofs.RecordBack.{record-bytes, record-samples, record-traces, record-no-cause, record-again}
 use Rattle.demands.proofs.Taken.{meant-count}
-use Rattle.demands.proofs.WriteRefusals.{RecordRight, record-fine, record-right}
+use Rattle.demands.proofs.Valid.{RecordRight, record-fine, record-right}
 use Rattle.demands.proofs.Demand2.{reading}
 
 -- ## The record that reading gives

@@ -255,7 +255,7 @@ module _ (code n i : ℕ) (m : Meaning) (p : Proper n i m) (c : isCode code ≡ 
   size-traces = flat-size (traceWritten code) (Ready code n i) (stride n (sampleBytes code)) (size-trace code n i c) (m .traces) ready
 
   -- LAW. The reel of T traces of N samples has the 3,600 bytes of its headers, and for each trace 240 and those of N samples.
-  pub reel-length : length (reelOf code m) ≡ reelLength code (length (m .traces)) n
+  reel-length : length (reelOf code m) ≡ reelLength code (length (m .traces)) n
   unfolding reelOf
   reel-length = simp length-append (omega (arith, p .size, size-binary n i m p code, size-zeros 340, size-traces))
 
