@@ -350,8 +350,8 @@ module _ (s : List ℕ) (k : ℕ) (b : ByteNo) where
 
   -- THEOREM. Where it is taken, some assigned field of that header begins at the byte number, and the number is that field's: of the binary
   -- header as on the reel, of a trace with 115 and 117 filled in.
-  -- Rules out a look-up that gives one fixed number, one that looks in the first trace for the rest, and filling field 115 only for the first
-  -- trace.
+  -- Rules out a look-up that gives one fixed number, one that takes the first trace's number for the rest, and filling field 115 only for
+  -- the first trace.
   pub look-up-number : lookUpOutcome s k b .said ≡ taken [] → LookedUp s k b (lookUpOutcome s k b .number)
   unfolding lookUpOutcome
   look-up-number e = go (lookUpCauses s k b) refl e

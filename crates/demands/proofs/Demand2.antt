@@ -12,13 +12,13 @@
 --   sample that the record holds has a word under it, and the output is long enough.
 -- - `written`: where writing is taken, the record is valid, the numbers returned are its T and N and the reel's length, the output's first
 --   bytes are the reel of what the record holds, of that length, and the rest of the output keeps its content.
--- - `read-back`: reading the reel that was written, into an output long enough, is taken with the same T and N, and gives the record again byte
---   for byte.
--- - `round-trip`: the second sentence at once. A valid record, a code of 1 to 4 that holds every sample exactly and an output long enough: the
---   writing is taken, and reading what it wrote gives the record again.
+-- - `read-back`: reading the reel that was written, into an output long enough, is taken with the same T and N, and gives the record again
+--   byte for byte.
+-- - `round-trip`: the second sentence at once. A valid record, a code of 1 to 4 that holds every sample exactly and an output long enough:
+--   the writing is taken, and reading what it wrote gives the record again.
 --
--- Valid means that neither 12 nor 13 applies, and `valid-is` in `Determined` spells it out. Each byte of a reel and of a record is below 256;
--- nothing else is assumed. Every reel, record, code and output is meant.
+-- Valid means that neither 12 nor 13 applies, and `valid-is` in `Determined` spells it out. Each byte of a reel and of a record is below
+-- 256, which `written` doesn't ask for; nothing else is assumed. Every reel, record, code and output is meant.
 use mathlib.Core.Path.{_≡_, sym, ap, ap₂, _∙_}
 use mathlib.Core.List.{List, [], _∷_, _++_}
 use mathlib.Core.Bool.{true}
@@ -125,9 +125,9 @@ pub record ReelWritten (r : List ℕ) (code : ℕ) (out : List ℕ) (t n l : ℕ
 -- with the smallest gain (`writing-least`), unassigned bytes 0.
 -- Rules out a writer that writes nothing and says taken, one that converts the first trace and copies it for the rest, and one whose T or
 -- length is invented; normalising by single bits, pushing C below 0, and shifting up for a negative e.
-pub written : (r : List ℕ) (code : ℕ) (out : List ℕ) (t n l : ℕ) → Bytes r → writeOutcome r code out .said ≡ taken (t ∷ n ∷ l ∷ [])
+pub written : (r : List ℕ) (code : ℕ) (out : List ℕ) (t n l : ℕ) → writeOutcome r code out .said ≡ taken (t ∷ n ∷ l ∷ [])
     → ReelWritten r code out t n l
-written r code out t n l b e =
+written r code out t n l e =
     let w = written-needs r code out (t ∷ n ∷ l ∷ []) e in
     let o : writeOutcome r code out ≡ writeEnd r code out Fine = write-taken r code out w in
     let k = same-numbers (sym e ∙ ap (λ (x : Outcome). x .said) o) in
@@ -152,14 +152,14 @@ pub read-back : (r : List ℕ) (code : ℕ) (out out₂ : List ℕ) (t n l : ℕ
     → readOutcome (take l (writeOutcome r code out .bytes)) out₂ ≡ record { said = taken (t ∷ n ∷ length r ∷ []); bytes = r ++ drop (length r) out₂ }
 read-back r code out out₂ t n l b e h =
     let w = written-needs r code out (t ∷ n ∷ l ∷ []) e in
-    let k = written r code out t n l b e in
+    let k = written r code out t n l e in
     ap (λ (s : List ℕ). readOutcome s out₂) (k .content)
     ∙ written-read r b code out w out₂ h
     ∙ ap₂ (λ (x y : ℕ). record { said = taken (x ∷ y ∷ length r ∷ []); bytes = r ++ drop (length r) out₂ }) (sym (k .traces)) (sym (k .samples))
 
 -- THEOREM. A valid record is written as a reel in any code that holds every sample exactly, if the output is long enough, and reading that
 -- reel gives the record again.
--- Rules out a writer that declines every record, and what `read-back` rules out.
+-- Rules out a writer that declines every record, one whose T is invented, and what `read-back` rules out.
 pub round-trip : (r : List ℕ) (code : ℕ) (out out₂ : List ℕ) → Bytes r → formCauses r ≡ Fine → CanBeWritten r code out → length r ≤ length out₂
     → let n = heldSamples r in
     let t = heldTraces r n in

@@ -7,14 +7,14 @@
 -- A record or a written reel is the output's first bytes, as many as the length returned. Values are compared V by V, whole numbers over
 -- 16^70 (`sixteen`, `by-sample`). `MeanTheSame` looks at the two reels' bytes only.
 --
--- - `records-equal`: where the readings of two reels are taken, each in any code and each into any output, the two records are equal exactly when the
---   reels mean the same.
--- - `reel-again`: where the reading of a reel is taken, and the writing of its record under any code is taken, the writing returns the same T
---   and N and the length of such a reel; no cause of 1 to 9 applies to the reel that was written, it is in that code, it means the same as
---   the first reel and has the same record; and reading it into an output long enough is taken with the same T, N and length, and gives
+-- - `records-equal`: where the readings of two reels are taken, each in any code and each into any output, the two records are equal
+--   exactly when the reels mean the same.
+-- - `reel-again`: where the reading of a reel is taken, and the writing of its record under any code is taken, the writing returns the same
+--   T and N and the length of such a reel; no cause of 1 to 9 applies to the reel that was written, it is in that code, it means the same
+--   as the first reel and has the same record; and reading it into an output long enough is taken with the same T, N and length, and gives
 --   that record.
--- - `written-in-each-code`: so that `reel-again` is no empty promise, the record of a reel whose reading is taken is written under every code
---   of 1 to 4 that has a word for each of the reel's sample values, into every output that is long enough.
+-- - `written-in-each-code`: so that `reel-again` is no empty promise, the record of a reel whose reading is taken is written under every
+--   code of 1 to 4 that has a word for each of the reel's sample values, into every output that is long enough.
 -- - `own-code`: the reel's own code is one of those, and under it a reel of the same length is written.
 --
 -- Each byte of a reel is below 256; nothing else is assumed.
@@ -118,7 +118,7 @@ pub record ReelAgain (s : List ℕ) (t n l : ℕ) (r : List ℕ) (code t₂ n₂
   pub traces : t₂ ≡ t
   pub samples : n₂ ≡ n
   pub size : l₂ ≡ 3600 + t * (240 + n * sampleBytes code)
-  -- No cause of 1 to 9 applies to it, and its format code is the one asked for.
+  -- No cause of 1 to 9 applies to the reel that was written, and its format code is the one asked for.
   pub no-cause : causesOf reel ≡ Fine
   pub code-is : codeOf reel ≡ code
   -- It means the same as the reel s.
@@ -140,7 +140,7 @@ reel-again s out t n l code out₂ t₂ n₂ l₂ b e e₂ =
     let v = read-valid s out t n l b e in
     let h = v .bytes in
     let w = written-needs r code out₂ (t₂ ∷ n₂ ∷ l₂ ∷ []) e₂ in
-    let k = written r code out₂ t₂ n₂ l₂ h e₂ in
+    let k = written r code out₂ t₂ n₂ l₂ e₂ in
     let size : length r ≡ l = ap length (x .content) ∙ x .whole in
     let f = written-no-cause r h code out₂ w in
     let has = written-record r h code out₂ w in

@@ -3,9 +3,9 @@
 -- "A record is valid when neither 12 nor 13 applies to it"; "a record or a written reel is the output's first bytes, as many as the length
 -- returned."
 --
--- - `valid-is`: valid means that neither 12 nor 13 applies, and this spells it out, tag by tag.
 -- - `read-valid`: where reading a reel is taken, the record in the output is valid, it holds what the reel means, and its T and N are those
 --   returned.
+-- - `valid-is`: valid means that neither 12 nor 13 applies, and this spells it out, tag by tag.
 -- - `held-same`: two valid records that hold the same are equal byte for byte.
 -- - `held-record`: a valid record is the record of what it holds.
 --
