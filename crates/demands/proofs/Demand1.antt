@@ -114,7 +114,7 @@ readNumbers s = tracesOf s ∷ samplesOf s ∷ reading.lengthOf s ∷ []
 
 -- The rows of reading into an output of `room` bytes.
 pub data ReadRow (s : List ℕ) (room : ℕ) : ℕ → ℕ → Type 0 where
-  -- 1 to 9: as the table of these says
+  -- 1 to 9: a row of their table applies to the reel
   by-reel : {number place : ℕ} → Row s number place → ReadRow s room number place
   -- 10: none of them applies, and the output is too short for the record, with the record's length, 3273 + T × (186 + 6N)
   short-output : ((number place : ℕ) → ¬ (Row s number place)) → room < reading.lengthOf s → ReadRow s room 10 (reading.lengthOf s)
@@ -261,7 +261,7 @@ NoField k b = All (λ f. ¬ (f .byteNo ≡ byteNo b)) (headerFields k)
 
 -- The rows of looking up byte number b of header k.
 pub data LookUpRow (s : List ℕ) (k : ℕ) (b : ByteNo) : ℕ → ℕ → Type 0 where
-  -- 1 to 9: as the table of these says
+  -- 1 to 9: a row of their table applies to the reel
   by-reel : {number place : ℕ} → Row s number place → LookUpRow s k b number place
   -- 15: the reel has no trace k
   no-trace : ((number place : ℕ) → ¬ (Row s number place)) → tracesOf s < k → LookUpRow s k b 15 0
