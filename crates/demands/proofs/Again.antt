@@ -1,9 +1,9 @@
 -- # A valid record is the record of what it holds
 --
 -- Each byte of the record is below 256, and neither 12 nor 13 applies to it; nothing else is assumed.
-use mathlib.Core.Path.{_≡_, refl, sym, ap, ap₂, _∙_}
+use mathlib.Core.Path.{_≡_, refl, sym, ap, ap₂, _∙_, subst}
 use mathlib.Core.List.{List, _∷_, _++_, map}
-use Prim.Native.Nat.{ℕ, zero, suc, _+_, _*_}
+use Prim.Native.Nat.{ℕ, zero, suc, _+_, _*_, _<_}
 use native.Mathlib.Nat.{zero-mul, suc-mul, add-zero, mul-comm}
 use native.Mathlib.Omega.{arith}
 use lib.ListN.{length}
@@ -12,7 +12,7 @@ use lib.IntN.{pos}
 use Rattle.numbers.specs.Walk.{walk, flat, bytesAt}
 use Rattle.numbers.specs.BigEndian.{bytesOf}
 use Rattle.numbers.specs.declared.Check.the-variants.{Fine}
-use Rattle.numbers.proofs.WalkLaws.{All, all-walk, cons-eq, size-walk, size-bytes, bytes-part}
+use Rattle.numbers.proofs.WalkLaws.{cons-eq, size-walk, size-bytes, bytes-part}
 use Rattle.numbers.proofs.ByteLaws.{Bytes, bytes-at, bytes-again, bytes-append}
 use Rattle.sample.specs.Calls.{pairLength, pairBytes, pairIn}
 use Rattle.sample.specs.declared.Pair.{Pair}
@@ -20,11 +20,12 @@ use Rattle.sample_theorems.proofs.Pairs.{value-pair-back, pair-bytes}
 use Rattle.reel.specs.Layout.{fieldsFrom, cardBytes, binaryWidths, binaryFields, traceWidths, traceFields, fieldNumber}
 use Rattle.reel.specs.Meaning.{otherThan}
 use Rattle.record.specs.Record.{field, numberBytes, binaryBytes, valueBytes, samplesField, traceBytes, recordOf}
-use Rattle.record.specs.Form.{heldInterval, heldSamples, heldCode, firstField, heldStride, heldTraces, formCauses}
+use Rattle.record.specs.Form.{heldSamples, heldCode, firstField, heldStride, heldTraces, formCauses}
 use Rattle.record.specs.Held.{heldValue, heldTrace, heldBy}
 use Rattle.record.proofs.NumberLaws.{fields-again, numbers-append}
 use Rattle.record.proofs.HeaderLaws.{binary-front, binary-back, counts}
-use Rattle.demands.proofs.Valid.{Stands, CanonicalAt, TraceStands, lastField, Valid, valid}
+use Rattle.reel_theorems.proofs.TestLaws.{at-zero, at-suc}
+use Rattle.demands.proofs.Valid.{Stands, CanonicalAt, tracePlace, pairPlace, TraceRight, RecordRight, record-right}
 
 -- ## Lists joined
 
@@ -39,11 +40,12 @@ bytes-join s at k j next sum p q =
 
 -- Where what stands at each offset of a walk is encoded in the w bytes that stand there, the encodings joined are all those bytes.
 pub walk-again : {A : Type 0} (g : A → List ℕ) (f : ℕ → A) (s : List ℕ) (w k at : ℕ)
-    → All (λ a. g (f a) ≡ bytesAt s a w) (walk (λ a. a) w k at) → flat (map g (walk f w k at)) ≡ bytesAt s at (k * w)
+    → ((j : ℕ) → j < k → g (f (at + j * w)) ≡ bytesAt s (at + j * w) w) → flat (map g (walk f w k at)) ≡ bytesAt s at (k * w)
 unfolding bytesAt
 walk-again g f s w zero at h = ap (bytesAt s at) (sym (zero-mul w))
 walk-again g f s w (suc k) at h =
-    join (h .0) (walk-again g f s w k (at + w) (h .1))
+    let same : ℕ → Type 0 = λ a. g (f a) ≡ bytesAt s a w in
+    join (subst same (at-zero at w) (h 0 (omega arith))) (walk-again g f s w k (at + w) (λ j l. subst same (at-suc at w j) (h (suc j) (omega arith))))
     ∙ bytes-join s at w (k * w) (at + w) (suc k * w) refl (omega (arith, suc-mul k w))
 
 -- ## Fields
@@ -84,15 +86,17 @@ unfolding traceFields
 header-again s h at =
     fields-again s h at 1 traceWidths (omega arith) ∙ ap₂ (λ (a k : ℕ). bytesAt s a k) (add-zero at) (counts .3)
 
--- A trace that stands in a record, by what it holds and written again.
-trace-again : (s : List ℕ) → Bytes s → (n i at : ℕ) → TraceStands s n i at → traceBytes (heldTrace s n at) ≡ bytesAt s at (heldStride n)
+-- Trace k of a record, by what it holds and written again.
+trace-again : (s : List ℕ) → Bytes s → (k : ℕ) → TraceRight s k
+    → traceBytes (heldTrace s (heldSamples s) (tracePlace s k)) ≡ bytesAt s (tracePlace s k) (heldStride (heldSamples s))
 unfolding traceBytes samplesField heldTrace
-trace-again s h n i at t =
-    let next : at + 183 + 3 ≡ at + 186 = omega arith in
+trace-again s h k t =
+    let n = heldSamples s in
+    let at = tracePlace s k in
+    let next : at + 186 ≡ at + 183 + 3 = omega arith in
     let values : flat (map valueBytes (walk (heldValue s) pairLength n (at + 186))) ≡ bytesAt s (at + 183 + 3) (pairLength * n) =
-    ap (λ (a : ℕ). flat (map valueBytes (walk (heldValue s) pairLength n a))) (sym next)
-    ∙ walk-again valueBytes (heldValue s) s pairLength n (at + 183 + 3) (all-walk (CanonicalAt s) (λ a. valueBytes (heldValue s a) ≡ bytesAt s a pairLength) (λ a. a) (λ a. a) (value-again s h) pairLength n (at + 183 + 3) (t .pairs))
-    ∙ ap (bytesAt s (at + 183 + 3)) (mul-comm n pairLength) in
+    walk-again valueBytes (heldValue s) s pairLength n (at + 186) (λ j l. value-again s h (pairPlace s k j) (t .pairs j l))
+    ∙ ap₂ (λ (a c : ℕ). bytesAt s a c) next (mul-comm n pairLength) in
     join (field-again s h 3 180 at _ (t .header) (header-again s h (at + 3))) (field-again s h 4 (pairLength * n) (at + 183) _ (t .samples) values)
     ∙ bytes-join s at 183 (3 + pairLength * n) (at + 183) (heldStride n) refl (omega arith)
 
@@ -103,24 +107,25 @@ all-bytes : (s : List ℕ) → bytesAt s 0 (length s) ≡ s
 all-bytes s = sym (bytes-part s 0 (length s) (omega arith)) ∙ take-all (length s) s (omega arith)
 
 -- The four pieces of a valid record, each from what it holds.
-pieces-again : (s : List ℕ) → Bytes s → Valid s → recordOf (heldBy s) ≡ s
+pieces-again : (s : List ℕ) → Bytes s → RecordRight s (heldTraces s (heldSamples s)) → recordOf (heldBy s) ≡ s
 unfolding recordOf heldBy
 pieces-again s h v =
     let n = heldSamples s in
-    let i = heldInterval s in
     let t = heldTraces s n in
     let w = heldStride n in
-    let cards = field-again s h 1 cardBytes 0 (bytesAt s 3 cardBytes) (v .cards) refl in
-    let binary = field-again s h 2 60 3203 _ (v .binary) (binary-again s h (v .code-is)) in
-    let traces = walk-again traceBytes (heldTrace s n) s w t firstField (all-walk (TraceStands s n i) (λ a. traceBytes (heldTrace s n a) ≡ bytesAt s a w) (λ a. a) (λ a. a) (trace-again s h n i) w t firstField (v .traces)) in
-    let count : bytesOf 4 (length (walk (heldTrace s n) w t firstField)) ≡ bytesAt s (lastField s + 3) 4 =
-    ap (bytesOf 4) (size-walk (heldTrace s n) w t firstField ∙ sym (v .count-is)) ∙ bytes-again s h (lastField s + 3) 4 in
-    let end = field-again s h 5 4 (lastField s) _ (v .count) count in
-    let behind = join traces end ∙ bytes-join s firstField (t * w) 7 (lastField s) (t * w + 7) refl refl in
+    let last = tracePlace s t in
+    let head = v .end .until .head in
+    let cards = field-again s h 1 cardBytes 0 (bytesAt s 3 cardBytes) (head .front .cards) refl in
+    let binary = field-again s h 2 60 3203 _ (head .binary) (binary-again s h (head .code)) in
+    let traces = walk-again traceBytes (heldTrace s n) s w t firstField (λ k l. trace-again s h k (v .end .until .before k l)) in
+    let count : bytesOf 4 (length (walk (heldTrace s n) w t firstField)) ≡ bytesAt s (last + 3) 4 =
+    ap (bytesOf 4) (size-walk (heldTrace s n) w t firstField ∙ sym (v .count)) ∙ bytes-again s h (last + 3) 4 in
+    let end = field-again s h 5 4 last _ (v .field) count in
+    let behind = join traces end ∙ bytes-join s firstField (t * w) 7 last (t * w + 7) refl refl in
     join cards (join binary behind ∙ bytes-join s 3203 63 (t * w + 7) firstField (63 + (t * w + 7)) refl refl)
-    ∙ bytes-join s 0 3203 (63 + (t * w + 7)) 3203 (length s) refl (omega (arith, v .count .whole, v .last))
+    ∙ bytes-join s 0 3203 (63 + (t * w + 7)) 3203 (length s) refl (omega (arith, v .field .whole, v .last))
     ∙ all-bytes s
 
--- THEOREM. A valid record is the record of what it holds.
+-- LAW. A valid record is the record of what it holds.
 pub held-again : (r : List ℕ) → Bytes r → formCauses r ≡ Fine → recordOf (heldBy r) ≡ r
-held-again r h e = pieces-again r h (valid r e)
+held-again r h e = pieces-again r h (record-right r e)

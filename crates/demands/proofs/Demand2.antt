@@ -8,16 +8,17 @@
 --
 -- - `reading`: where reading a reel is taken, the numbers returned are the reel's T and N and 3273 + T × (186 + 6N), the output's first
 --   bytes are the record of what the reel means, of that length, and the rest of the output keeps its content.
--- - `writing`: writing a valid record is taken exactly when the code is from 1 to 4, every sample that the record holds has a word under
---   it, and the output is long enough.
+-- - `writing`: writing a valid record is taken, with the record's T and N and the reel's length, exactly when the code is from 1 to 4, every
+--   sample that the record holds has a word under it, and the output is long enough.
 -- - `written`: where writing is taken, the record is valid, the numbers returned are its T and N and the reel's length, the output's first
 --   bytes are the reel of what the record holds, of that length, and the rest of the output keeps its content.
--- - `back`: reading the reel that was written, into an output long enough, is taken with the same T and N, and gives the record again byte
---   for byte.
--- - `round`: the second sentence at once. A valid record, a code of 1 to 4 that holds every sample exactly and an output long enough: the
---   writing is taken, and reading what it wrote gives the record again.
+-- - `read-back`: reading the reel that was written, into an output long enough, is taken with the same T and N, and gives the record again
+--   byte for byte.
+-- - `round-trip`: the second sentence at once. A valid record, a code of 1 to 4 that holds every sample exactly and an output long enough:
+--   the writing is taken, and reading what it wrote gives the record again.
 --
--- Each byte of a reel and of a record is below 256; nothing else is assumed. Every reel, record, code and output is meant.
+-- Valid means that neither 12 nor 13 applies, and `valid-is` in `Determined` spells it out. Each byte of a reel and of a record is below
+-- 256, which `written` doesn't ask for; nothing else is assumed. Every reel, record, code and output is meant.
 use mathlib.Core.Path.{_≡_, sym, ap, ap₂, _∙_}
 use mathlib.Core.List.{List, [], _∷_, _++_}
 use mathlib.Core.Bool.{true}
@@ -26,12 +27,11 @@ use lib.ListN.{length, take, drop}
 use lib.Seq.{take-at, drop-at}
 use Rattle.numbers.specs.Outcome.{taken, Outcome}
 use Rattle.numbers.specs.declared.Check.the-variants.{Fine}
-use Rattle.numbers.proofs.WalkLaws.{All}
 use Rattle.numbers.proofs.ByteLaws.{Bytes}
 use Rattle.sample.specs.Reading.{isCode}
 use Rattle.sample_theorems.proofs.Pairs.{Iff}
 use Rattle.reel.specs.Layout.{samplesOf, tracesOf, sampleBytes}
-use Rattle.reel.specs.Meaning.{Trace, meaningOf}
+use Rattle.reel.specs.Meaning.{meaningOf}
 use Rattle.record.specs.Record.{recordOf}
 use Rattle.record.specs.Form.{heldInterval, heldSamples, heldTraces, formCauses}
 use Rattle.record.specs.Held.{heldBy}
@@ -41,8 +41,9 @@ use Rattle.write_reel.specs.Writing.{writeEnd, writeOutcome}
 use Rattle.reel_theorems.proofs.Same.{record-size}
 use Rattle.reel_theorems.proofs.Output.{taken-reel, taken-outcome, taken-numbers, output-record}
 use Rattle.demands.proofs.ProperLaws.{held-proper}
-use Rattle.demands.proofs.Fitting.{fit-is, HasWord}
-use Rattle.demands.proofs.Taken.{fitting-words, needs, written-needs, write-taken, written-size, written-read}
+use Rattle.demands.proofs.Fitting.{fit-is, Worded}
+use Rattle.demands.proofs.WrittenSize.{reel-size}
+use Rattle.demands.proofs.Taken.{fitting-words, needs, written-needs, write-taken, written-read}
 
 -- ## A reel becomes its record
 
@@ -64,7 +65,8 @@ same-numbers e = (cc, cc, cc)
 
 -- THEOREM. A reel becomes the record that SEG-Y revision 0 and the IBM word define.
 -- Rules out a reader that gives one fixed record, one that writes nothing and says taken, one that converts the first trace and copies it
--- for the rest, and one whose T or length is invented.
+-- for the rest, and one whose T or length is invented; two's complement for the IBM fraction, keeping minus zero, and filling field 115 only
+-- for the first trace.
 pub reading : (s out : List ℕ) (t n l : ℕ) → Bytes s → readOutcome s out .said ≡ taken (t ∷ n ∷ l ∷ []) → RecordRead s out t n l
 reading s out t n l b e =
     let k = same-numbers (sym e ∙ taken-numbers s out (t ∷ n ∷ l ∷ []) e) in
@@ -85,29 +87,25 @@ reading s out t n l b e =
 -- What it takes to write a record: the code is from 1 to 4, it holds every sample exactly, and the output is long enough.
 pub record CanBeWritten (r : List ℕ) (code : ℕ) (out : List ℕ) : Type 0 where
   pub code-is : isCode code ≡ true
-  pub held : All (λ (t : Trace). All (HasWord code) (t .values)) (heldBy r .traces)
+  pub held : Worded code (heldBy r .traces)
   pub room : 3600 + heldTraces r (heldSamples r) * (240 + heldSamples r * sampleBytes code) ≤ length out
 
 -- THEOREM. A valid record is written as a reel in any code that holds every sample exactly, if the output is long enough; and in no other
 -- case.
--- Rules out a writer that declines every record, and one that says output too short before working out the length.
+-- Rules out a writer that declines every record, one that says output too short before working out the length (the rest of that is
+-- `write-refused`), and one whose T or length is invented.
 pub writing : (r : List ℕ) (code : ℕ) (out : List ℕ) → Bytes r → formCauses r ≡ Fine
-    → Iff ((numbers : List ℕ) × (writeOutcome r code out .said ≡ taken numbers)) (CanBeWritten r code out)
-writing r code out b v = (there, here)
-  where
-    there : (numbers : List ℕ) × (writeOutcome r code out .said ≡ taken numbers) → CanBeWritten r code out
-    there e =
-        let w = written-needs r code out (e .0) (e .1) in
-        record {
-          code-is = w .code-is;
-          held = fitting-words code (heldSamples r) (heldInterval r) (heldBy r) (held-proper r b v) (w .code-is) (fit-is r code .0 (w .fit));
-          room = w .room;
-        }
-
-    here : CanBeWritten r code out → (numbers : List ℕ) × (writeOutcome r code out .said ≡ taken numbers)
-    here h =
-        let w = needs r code out b v (h .code-is) (h .held) (h .room) in
-        (_, ap (λ (o : Outcome). o .said) (write-taken r code out w))
+    → Iff (writeOutcome r code out .said ≡ taken (heldTraces r (heldSamples r) ∷ heldSamples r ∷ (3600 + heldTraces r (heldSamples r) * (240 + heldSamples r * sampleBytes code)) ∷ []))
+    (CanBeWritten r code out)
+writing r code out b v = (
+  λ e. let w = written-needs r code out _ e in
+      record {
+        code-is = w .code-is;
+        held = fitting-words code (heldSamples r) (heldInterval r) (heldBy r) (held-proper r b v) (w .code-is) (fit-is r code .0 (w .fit));
+        room = w .room;
+      },
+  λ h. ap (λ (o : Outcome). o .said) (write-taken r code out (needs r code out b v (h .code-is) (h .held) (h .room))),
+)
 
 -- What writing a record gives, where it returns t, n and the length l.
 pub record ReelWritten (r : List ℕ) (code : ℕ) (out : List ℕ) (t n l : ℕ) : Type 0 where
@@ -123,16 +121,17 @@ pub record ReelWritten (r : List ℕ) (code : ℕ) (out : List ℕ) (t n l : ℕ
   -- The rest of the output keeps its content.
   pub rest : drop l (writeOutcome r code out .bytes) ≡ drop l out
 
--- THEOREM. What is written is the reel of what the record holds.
+-- THEOREM. What is written is the reel of what the record holds: under code 1 each sample by its normal word (`writing-normal`), under code 4
+-- with the smallest gain (`writing-least`), unassigned bytes 0.
 -- Rules out a writer that writes nothing and says taken, one that converts the first trace and copies it for the rest, and one whose T or
--- length is invented.
-pub written : (r : List ℕ) (code : ℕ) (out : List ℕ) (t n l : ℕ) → Bytes r → writeOutcome r code out .said ≡ taken (t ∷ n ∷ l ∷ [])
+-- length is invented; normalising by single bits, pushing C below 0, and shifting up for a negative e.
+pub written : (r : List ℕ) (code : ℕ) (out : List ℕ) (t n l : ℕ) → writeOutcome r code out .said ≡ taken (t ∷ n ∷ l ∷ [])
     → ReelWritten r code out t n l
-written r code out t n l b e =
+written r code out t n l e =
     let w = written-needs r code out (t ∷ n ∷ l ∷ []) e in
     let o : writeOutcome r code out ≡ writeEnd r code out Fine = write-taken r code out w in
     let k = same-numbers (sym e ∙ ap (λ (x : Outcome). x .said) o) in
-    let whole : length (reelOf code (heldBy r)) ≡ l = written-size r b code out w ∙ sym (k .2) in
+    let whole : length (reelOf code (heldBy r)) ≡ l = reel-size r code ∙ sym (k .2) in
     record {
       valid = w .form;
       traces = k .0;
@@ -147,27 +146,26 @@ written r code out t n l b e =
 -- ## Reading the reel that was written
 
 -- THEOREM. Reading that reel gives the record again, byte for byte and with the same T and N, in every output that is long enough.
--- Rules out a reader and a writer that each give one fixed answer, that write nothing and say taken, that convert the first trace and copy
--- it for the rest, or whose T or length is invented.
-pub back : (r : List ℕ) (code : ℕ) (out out₂ : List ℕ) (t n l : ℕ) → Bytes r → writeOutcome r code out .said ≡ taken (t ∷ n ∷ l ∷ []) → length r ≤ length out₂
+-- Rules out a fixed record or reel, writing nothing and saying taken, copying the first trace for the rest, and an invented length. That T
+-- and N are the record's own, and not merely the same both times, is `reading` and `written`.
+pub read-back : (r : List ℕ) (code : ℕ) (out out₂ : List ℕ) (t n l : ℕ) → Bytes r → writeOutcome r code out .said ≡ taken (t ∷ n ∷ l ∷ []) → length r ≤ length out₂
     → readOutcome (take l (writeOutcome r code out .bytes)) out₂ ≡ record { said = taken (t ∷ n ∷ length r ∷ []); bytes = r ++ drop (length r) out₂ }
-back r code out out₂ t n l b e h =
+read-back r code out out₂ t n l b e h =
     let w = written-needs r code out (t ∷ n ∷ l ∷ []) e in
-    let k = written r code out t n l b e in
+    let k = written r code out t n l e in
     ap (λ (s : List ℕ). readOutcome s out₂) (k .content)
     ∙ written-read r b code out w out₂ h
     ∙ ap₂ (λ (x y : ℕ). record { said = taken (x ∷ y ∷ length r ∷ []); bytes = r ++ drop (length r) out₂ }) (sym (k .traces)) (sym (k .samples))
 
 -- THEOREM. A valid record is written as a reel in any code that holds every sample exactly, if the output is long enough, and reading that
 -- reel gives the record again.
--- Rules out a writer that declines every record, and what `back` rules out.
-pub round : (r : List ℕ) (code : ℕ) (out out₂ : List ℕ) → Bytes r → formCauses r ≡ Fine → CanBeWritten r code out → length r ≤ length out₂
-    → (t n l : ℕ) × (writeOutcome r code out .said ≡ taken (t ∷ n ∷ l ∷ []))
-    × (readOutcome (take l (writeOutcome r code out .bytes)) out₂ ≡ record { said = taken (t ∷ n ∷ length r ∷ []); bytes = r ++ drop (length r) out₂ })
-round r code out out₂ b v h room =
-    let w = needs r code out b v (h .code-is) (h .held) (h .room) in
-    let n = heldSamples r in
+-- Rules out a writer that declines every record, one whose T is invented, and what `read-back` rules out.
+pub round-trip : (r : List ℕ) (code : ℕ) (out out₂ : List ℕ) → Bytes r → formCauses r ≡ Fine → CanBeWritten r code out → length r ≤ length out₂
+    → let n = heldSamples r in
     let t = heldTraces r n in
-    let l = reelLength code t n in
-    let e : writeOutcome r code out .said ≡ taken (t ∷ n ∷ l ∷ []) = ap (λ (o : Outcome). o .said) (write-taken r code out w) in
-    (t, n, l, e, back r code out out₂ t n l b e room)
+    let l = 3600 + t * (240 + n * sampleBytes code) in
+    (writeOutcome r code out .said ≡ taken (t ∷ n ∷ l ∷ []))
+    × (readOutcome (take l (writeOutcome r code out .bytes)) out₂ ≡ record { said = taken (t ∷ n ∷ length r ∷ []); bytes = r ++ drop (length r) out₂ })
+round-trip r code out out₂ b v h room =
+    let e = writing r code out b v .1 h in
+    (e, read-back r code out out₂ _ _ _ b e room)

@@ -4,34 +4,37 @@
 -- every assigned header field but the format code, same count of traces, sample by sample the same exact value, all taken from the reel's
 -- own bytes and never from a record. Every reel written from such a record is read without refusal, means the same and has the same record."
 --
--- A record or a written reel is the output's first bytes, as many as the length returned.
+-- A record or a written reel is the output's first bytes, as many as the length returned. Values are compared V by V, whole numbers over
+-- 16^70 (`sixteen`, `by-sample`). `MeanTheSame` looks at the two reels' bytes only.
 --
--- - `same`: where the readings of two reels are taken, each in any code and each into any output, the two records are equal exactly when the
---   reels mean the same.
--- - `again`: where the reading of a reel is taken, and the writing of its record under any code is taken, no cause of 1 to 9 applies to the
---   reel that was written, it is in that code, it means the same as the first reel and has the same record; and reading it into an output
---   long enough is taken with the same T, N and length, and gives that record.
--- - `held`: so that `again` is no empty promise, the record of a reel whose reading is taken is written under every code of 1 to 4 that has a
---   word for each of the reel's sample values, into every output that is long enough.
--- - `own`: the reel's own code is one of those, and under it a reel of the same length is written.
+-- - `records-equal`: where the readings of two reels are taken, each in any code and each into any output, the two records are equal
+--   exactly when the reels mean the same.
+-- - `reel-again`: where the reading of a reel is taken, and the writing of its record under any code is taken, the writing returns the same
+--   T and N and the length of such a reel; no cause of 1 to 9 applies to the reel that was written, it is in that code, it means the same
+--   as the first reel and has the same record; and reading it into an output long enough is taken with the same T, N and length, and gives
+--   that record.
+-- - `written-in-each-code`: so that `reel-again` is no empty promise, the record of a reel whose reading is taken is written under every
+--   code of 1 to 4 that has a word for each of the reel's sample values, into every output that is long enough.
+-- - `own-code`: the reel's own code is one of those, and under it a reel of the same length is written.
 --
 -- Each byte of a reel is below 256; nothing else is assumed.
 use mathlib.Core.Path.{_≡_, refl, sym, ap, ap₂, _∙_, subst}
-use mathlib.Core.List.{List, [], _∷_, _++_}
+use mathlib.Core.List.{List, [], _∷_, _++_, map}
 use mathlib.Core.Bool.{true}
-use Prim.Native.Nat.{ℕ, _+_, _-_, _*_, _≤_}
-use native.Mathlib.Nat.{div-add-mod'}
+use Prim.Native.Nat.{ℕ, zero, suc, _+_, _-_, _*_, _^_, _≤_, _<_}
+use native.Mathlib.Nat.{div-add-mod', not-suc-le-zero}
 use native.Mathlib.Omega.{arith}
 use borrow.Author.Tests.{le-leb}
 use lib.ListN.{length, take, drop}
-use Rattle.numbers.specs.Walk.{bytesAt}
+use lib.IntN.{ℤ}
+use Rattle.numbers.specs.Walk.{walk, bytesAt}
 use Rattle.numbers.specs.Cause.{refuseIf}
 use Rattle.numbers.specs.Outcome.{taken, Outcome}
 use Rattle.numbers.specs.declared.Check.the-variants.{Fine}
 use Rattle.numbers.proofs.WalkLaws.{All, cons-eq, size-bytes}
 use Rattle.numbers.proofs.ByteLaws.{Bytes, bytes-at}
 use Rattle.numbers.proofs.CauseLaws.{passed, then-fine, first-all}
-use Rattle.sample.specs.Value.{exactValue}
+use Rattle.sample.specs.Value.{denominatorPower, exactValue}
 use Rattle.sample.specs.Reading.{isCode}
 use Rattle.sample_theorems.proofs.Pairs.{Iff}
 use Rattle.reel.specs.Layout.{firstTrace, traceHeader, word, intervalOf, samplesOf, codeOf, sampleBytes, strideOf, tracesOf}
@@ -42,27 +45,80 @@ use Rattle.record.specs.Record.{reelRecord}
 use Rattle.transcribe.specs.Reading.{readOutcome}
 use Rattle.write_reel.specs.Reel.{reelLength}
 use Rattle.write_reel.specs.Writing.{writeOutcome}
+use Rattle.reel_theorems.proofs.TestLaws.{at-zero, at-suc}
+use Rattle.reel_theorems.proofs.Refusals.{sampleAt}
 use Rattle.reel_theorems.proofs.Same.{same-records}
 use Rattle.reel_theorems.proofs.Output.{taken-reel, same-outputs}
-use Rattle.demands.proofs.Fitting.{HasWord}
+use Rattle.demands.proofs.Fitting.{HasWord, Worded}
 use Rattle.demands.proofs.Taken.{written-needs, needs, write-taken, written-bytes, written-no-cause, written-code, written-record}
-use Rattle.demands.proofs.Demand2.{reading, written, back}
+use Rattle.demands.proofs.Demand2.{reading, written, read-back}
 use Rattle.demands.proofs.Determined.{read-valid}
 
 -- ## Two reels
 
 -- THEOREM. Two reels that are read without refusal have records equal byte for byte exactly when they mean the same.
--- Rules out a reader that gives one fixed record, and one that converts the first trace and copies it for the rest.
-pub same : (s₁ s₂ out₁ out₂ : List ℕ) (t₁ n₁ l₁ t₂ n₂ l₂ : ℕ) → Bytes s₁ → Bytes s₂
+-- Rules out a reader that gives one fixed record, and one that converts the first trace and copies it for the rest; two's complement for the
+-- IBM fraction, keeping minus zero, and filling field 115 only for the first trace. Also copying the words through, since two words of one
+-- value must give one pair.
+pub records-equal : (s₁ s₂ out₁ out₂ : List ℕ) (t₁ n₁ l₁ t₂ n₂ l₂ : ℕ) → Bytes s₁ → Bytes s₂
     → readOutcome s₁ out₁ .said ≡ taken (t₁ ∷ n₁ ∷ l₁ ∷ []) → readOutcome s₂ out₂ .said ≡ taken (t₂ ∷ n₂ ∷ l₂ ∷ [])
     → Iff (take l₁ (readOutcome s₁ out₁ .bytes) ≡ take l₂ (readOutcome s₂ out₂ .bytes)) (MeanTheSame s₁ s₂)
-same = same-outputs
+records-equal = same-outputs
+
+-- ## Sample by sample
+
+-- THEOREM. The denominator of every exact value is 16^70. Alone it rules out none of the list.
+pub sixteen : 2 ^ denominatorPower ≡ 16 ^ 70
+sixteen = refl
+
+-- Where two walks give the same, each step of the one gives what that step of the other gives.
+walk-each : {A : Type 0} (f g : ℕ → A) (w v k m a b : ℕ) → walk f w k a ≡ walk g v m b → (j : ℕ) → j < k → f (a + j * w) ≡ g (b + j * v)
+walk-each f g w v zero m a b e j l = absurd (not-suc-le-zero l)
+walk-each f g w v (suc k) zero a b e j l = absurd (let z = ap length e in omega arith)
+walk-each f g w v (suc k) (suc m) a b e zero l =
+    let h : f a ≡ g b = cc in
+    ap f (at-zero a w) ∙ h ∙ sym (ap g (at-zero b v))
+walk-each f g w v (suc k) (suc m) a b e (suc j) l =
+    let t : walk f w k (a + w) ≡ walk g v m (b + v) = cc in
+    ap f (at-suc a w j) ∙ walk-each f g w v k m (a + w) (b + v) t j (omega arith) ∙ sym (ap g (at-suc b v j))
+
+-- A function of each thing that a walk gives is a walk.
+map-walk : {A B : Type 0} (h : A → B) (f : ℕ → A) (w k a : ℕ) → map h (walk f w k a) ≡ walk (λ x. h (f x)) w k a
+map-walk h f w zero a = refl
+map-walk h f w (suc k) a = ap (λ l. h (f a) ∷ l) (map-walk h f w k (a + w))
+
+-- The exact value V, over 16^70, of sample j of trace k, both counted from 0, by the four bytes where it stands.
+abbrev pub sampleValue : List ℕ → ℕ → ℕ → ℤ
+sampleValue s k j = exactValue (codeOf s) (bytesAt s (sampleAt s k j) 4)
+
+-- The values of the trace at a place.
+traceValues : List ℕ → ℕ → List ℤ
+traceValues s at = walk (λ p. exactValue (codeOf s) (bytesAt s p 4)) (sampleBytes (codeOf s)) (samplesOf s) (at + traceHeader)
+
+-- They are those that the reel means, trace by trace.
+all-values : (s : List ℕ) → map (λ (t : Trace). t .values) (meaningOf s .traces) ≡ walk (traceValues s) (strideOf s) (tracesOf s) firstTrace
+unfolding meaningOf traceMeaning traceValues
+all-values s = map-walk (λ (t : Trace). t .values) (traceMeaning s (codeOf s) (samplesOf s) (intervalOf s)) (strideOf s) (tracesOf s) firstTrace
+
+-- THEOREM. Where two reels mean the same, sample j of trace k has the same exact value in both.
+-- Alone it rules out none of the list: it spells out what `records-equal` compares.
+pub by-sample : (s₁ s₂ : List ℕ) → MeanTheSame s₁ s₂ → (k j : ℕ) → k < tracesOf s₁ → j < samplesOf s₁ → sampleValue s₁ k j ≡ sampleValue s₂ k j
+unfolding traceValues
+by-sample s₁ s₂ m k j l h =
+    let e = sym (all-values s₁) ∙ m .values ∙ all-values s₂ in
+    let t = walk-each (traceValues s₁) (traceValues s₂) (strideOf s₁) (strideOf s₂) (tracesOf s₁) (tracesOf s₂) firstTrace firstTrace e k l in
+    walk-each _ _ (sampleBytes (codeOf s₁)) (sampleBytes (codeOf s₂)) (samplesOf s₁) (samplesOf s₂) _ _ t j h
 
 -- ## A reel written from a record
 
--- What a reel is that was written, under a code, from the record r of the reel s, whose reading returned t, n and l.
-pub record ReelAgain (s : List ℕ) (t n l : ℕ) (r : List ℕ) (code : ℕ) (reel : List ℕ) : Type 0 where
-  -- No cause of 1 to 9 applies to it, and its format code is the one asked for.
+-- What a reel is that was written, under a code, from the record r of the reel s, where the reading returned t, n and l and the writing
+-- returned t₂, n₂ and l₂.
+pub record ReelAgain (s : List ℕ) (t n l : ℕ) (r : List ℕ) (code t₂ n₂ l₂ : ℕ) (reel : List ℕ) : Type 0 where
+  -- The writing returned the same T and N, and the length of a reel of T traces of N samples under the code.
+  pub traces : t₂ ≡ t
+  pub samples : n₂ ≡ n
+  pub size : l₂ ≡ 3600 + t * (240 + n * sampleBytes code)
+  -- No cause of 1 to 9 applies to the reel that was written, and its format code is the one asked for.
   pub no-cause : causesOf reel ≡ Fine
   pub code-is : codeOf reel ≡ code
   -- It means the same as the reel s.
@@ -74,28 +130,31 @@ pub record ReelAgain (s : List ℕ) (t n l : ℕ) (r : List ℕ) (code : ℕ) (r
 
 -- THEOREM. Every reel written from such a record is read without refusal, means the same and has the same record.
 -- Rules out a writer that writes nothing and says taken, a writer or a reader that converts the first trace and copies it for the rest, and
--- either with a T or a length that is invented.
-pub again : (s out : List ℕ) (t n l : ℕ) (code : ℕ) (out₂ : List ℕ) (t₂ n₂ l₂ : ℕ) → Bytes s → readOutcome s out .said ≡ taken (t ∷ n ∷ l ∷ [])
+-- either with a length that is invented, or a T that the other doesn't have. That T is the reel's own is `reading`.
+pub reel-again : (s out : List ℕ) (t n l : ℕ) (code : ℕ) (out₂ : List ℕ) (t₂ n₂ l₂ : ℕ) → Bytes s → readOutcome s out .said ≡ taken (t ∷ n ∷ l ∷ [])
     → writeOutcome (take l (readOutcome s out .bytes)) code out₂ .said ≡ taken (t₂ ∷ n₂ ∷ l₂ ∷ [])
-    → ReelAgain s t n l (take l (readOutcome s out .bytes)) code (take l₂ (writeOutcome (take l (readOutcome s out .bytes)) code out₂ .bytes))
-again s out t n l code out₂ t₂ n₂ l₂ b e e₂ =
+    → ReelAgain s t n l (take l (readOutcome s out .bytes)) code t₂ n₂ l₂ (take l₂ (writeOutcome (take l (readOutcome s out .bytes)) code out₂ .bytes))
+reel-again s out t n l code out₂ t₂ n₂ l₂ b e e₂ =
     let r = take l (readOutcome s out .bytes) in
     let x = reading s out t n l b e in
     let v = read-valid s out t n l b e in
     let h = v .bytes in
     let w = written-needs r code out₂ (t₂ ∷ n₂ ∷ l₂ ∷ []) e₂ in
-    let k = written r code out₂ t₂ n₂ l₂ h e₂ in
+    let k = written r code out₂ t₂ n₂ l₂ e₂ in
     let size : length r ≡ l = ap length (x .content) ∙ x .whole in
     let f = written-no-cause r h code out₂ w in
     let has = written-record r h code out₂ w in
     let means = same-records s _ b (written-bytes r h code out₂ w) (taken-reel s out (t ∷ n ∷ l ∷ []) e) f .0 (sym (x .content) ∙ sym has) in
     record {
+      traces = k .traces ∙ v .traces;
+      samples = k .samples ∙ v .samples;
+      size = k .size ∙ ap₂ (reelLength code) (k .traces ∙ v .traces) (k .samples ∙ v .samples);
       no-cause = ap causesOf (k .content) ∙ f;
       code-is = ap codeOf (k .content) ∙ written-code r h code out₂ w;
       means = subst (MeanTheSame s) (sym (k .content)) means;
       has = ap reelRecord (k .content) ∙ has;
       read = λ out₃ room.
-          back r code out₂ out₃ t₂ n₂ l₂ h e₂ (rw size room)
+          read-back r code out₂ out₃ t₂ n₂ l₂ h e₂ (rw size room)
           ∙ ap (λ (j : ℕ). record { said = taken (t₂ ∷ n₂ ∷ j ∷ []); bytes = r ++ drop j out₃ }) size
           ∙ ap₂ (λ (i j : ℕ). record { said = taken (i ∷ j ∷ l ∷ []); bytes = r ++ drop l out₃ }) (k .traces ∙ v .traces) (k .samples ∙ v .samples);
     }
@@ -105,15 +164,15 @@ again s out t n l code out₂ t₂ n₂ l₂ b e e₂ =
 -- THEOREM. The record of a reel read without refusal is written under every code of 1 to 4 that has a word for each of the reel's sample
 -- values, into every output that is long enough.
 -- Rules out a writer that declines every record, and one whose T or length is invented.
-pub held : (s out : List ℕ) (t n l : ℕ) (code : ℕ) (out₂ : List ℕ) → Bytes s → readOutcome s out .said ≡ taken (t ∷ n ∷ l ∷ [])
-    → isCode code ≡ true → All (λ (x : Trace). All (HasWord code) (x .values)) (meaningOf s .traces)
+pub written-in-each-code : (s out : List ℕ) (t n l : ℕ) (code : ℕ) (out₂ : List ℕ) → Bytes s → readOutcome s out .said ≡ taken (t ∷ n ∷ l ∷ [])
+    → isCode code ≡ true → Worded code (meaningOf s .traces)
     → 3600 + t * (240 + n * sampleBytes code) ≤ length out₂
     → writeOutcome (take l (readOutcome s out .bytes)) code out₂ .said ≡ taken (t ∷ n ∷ (3600 + t * (240 + n * sampleBytes code)) ∷ [])
-held s out t n l code out₂ b e c f h =
+written-in-each-code s out t n l code out₂ b e c f h =
     let r = take l (readOutcome s out .bytes) in
     let v = read-valid s out t n l b e in
     let size = ap₂ (reelLength code) (v .traces) (v .samples) in
-    let words = subst (λ (m : Meaning). All (λ (x : Trace). All (HasWord code) (x .values)) (m .traces)) (sym (v .holds)) f in
+    let words = subst (λ (m : Meaning). Worded code (m .traces)) (sym (v .holds)) f in
     let w = needs r code out₂ (v .bytes) (v .valid) c words (rw size h) in
     ap (λ (o : Outcome). o .said) (write-taken r code out₂ w) ∙ ap taken (cons-eq (v .traces) (cons-eq (v .samples) (cons-eq size refl)))
 
@@ -136,7 +195,7 @@ trace-words s h code n i at e =
         }
 
 -- Each sample value of a reel to which no cause of 1 to 9 applies has a word under the reel's own code.
-reel-words : (s : List ℕ) → Bytes s → causesOf s ≡ Fine → All (λ (x : Trace). All (HasWord (codeOf s)) (x .values)) (meaningOf s .traces)
+reel-words : (s : List ℕ) → Bytes s → causesOf s ≡ Fine → Worded (codeOf s) (meaningOf s .traces)
 unfolding meaningOf
 reel-words s h f =
     let code = codeOf s in
@@ -145,8 +204,8 @@ reel-words s h f =
     first-all (traceCauses s code n i) (traceMeaning s code n i) (λ (x : Trace). All (HasWord code) (x .values)) (trace-words s h code n i) (strideOf s) (tracesOf s) firstTrace (reel-fine s f .traces)
 
 -- It has the bytes of its headers and its whole traces, and no others.
-reel-size : (s : List ℕ) → causesOf s ≡ Fine → reelLength (codeOf s) (tracesOf s) (samplesOf s) ≡ length s
-reel-size s f =
+own-size : (s : List ℕ) → causesOf s ≡ Fine → reelLength (codeOf s) (tracesOf s) (samplesOf s) ≡ length s
+own-size s f =
     let v = reel-fine s f in
     omega (arith, v .long, v .whole, div-add-mod' (length s - firstTrace) (strideOf s))
 
@@ -154,22 +213,22 @@ reel-size s f =
 pub record OwnCode (s : List ℕ) (t n : ℕ) (r : List ℕ) : Type 0 where
   -- The code is one of the four, and each sample value has a word under it.
   pub code-is : isCode (codeOf s) ≡ true
-  pub words : All (λ (x : Trace). All (HasWord (codeOf s)) (x .values)) (meaningOf s .traces)
+  pub words : Worded (codeOf s) (meaningOf s .traces)
   -- The record is written under it into any output with room for the reel, as a reel of the same length.
   pub writes : (out : List ℕ) → length s ≤ length out → writeOutcome r (codeOf s) out .said ≡ taken (t ∷ n ∷ length s ∷ [])
 
 -- THEOREM. The reel's own code has a word for each of the reel's sample values, and its record is written under that code.
 -- Rules out a writer that declines every record, and one whose T or length is invented.
-pub own : (s out : List ℕ) (t n l : ℕ) → Bytes s → readOutcome s out .said ≡ taken (t ∷ n ∷ l ∷ []) → OwnCode s t n (take l (readOutcome s out .bytes))
-own s out t n l b e =
+pub own-code : (s out : List ℕ) (t n l : ℕ) → Bytes s → readOutcome s out .said ≡ taken (t ∷ n ∷ l ∷ []) → OwnCode s t n (take l (readOutcome s out .bytes))
+own-code s out t n l b e =
     let f = taken-reel s out (t ∷ n ∷ l ∷ []) e in
     let x = reading s out t n l b e in
     let k = reel-fine s f .numbers in
     let c : isCode (codeOf s) ≡ true = rw (le-leb 1 (codeOf s) (k .code-low), le-leb (codeOf s) 4 (k .code-high)) in
-    let size : reelLength (codeOf s) t n ≡ length s = ap₂ (reelLength (codeOf s)) (x .traces) (x .samples) ∙ reel-size s f in
+    let size : reelLength (codeOf s) t n ≡ length s = ap₂ (reelLength (codeOf s)) (x .traces) (x .samples) ∙ own-size s f in
     record {
       code-is = c;
       words = reel-words s b f;
       writes = λ out₂ room.
-          held s out t n l (codeOf s) out₂ b e c (reel-words s b f) (rw size room) ∙ ap (λ (j : ℕ). taken (t ∷ n ∷ j ∷ [])) size;
+          written-in-each-code s out t n l (codeOf s) out₂ b e c (reel-words s b f) (rw size room) ∙ ap (λ (j : ℕ). taken (t ∷ n ∷ j ∷ [])) size;
     }

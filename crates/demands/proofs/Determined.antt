@@ -1,10 +1,11 @@
--- # Theorem 4: a record and what it holds determine each other
+-- # A record and what it holds determine each other
 --
 -- "A record is valid when neither 12 nor 13 applies to it"; "a record or a written reel is the output's first bytes, as many as the length
 -- returned."
 --
 -- - `read-valid`: where reading a reel is taken, the record in the output is valid, it holds what the reel means, and its T and N are those
 --   returned.
+-- - `valid-is`: valid means that neither 12 nor 13 applies, and this spells it out, tag by tag.
 -- - `held-same`: two valid records that hold the same are equal byte for byte.
 -- - `held-record`: a valid record is the record of what it holds.
 --
@@ -23,19 +24,21 @@ use Rattle.record.specs.Record.{recordOf}
 use Rattle.record.specs.Form.{heldSamples, heldTraces, formCauses}
 use Rattle.record.specs.Held.{heldBy}
 use Rattle.transcribe.specs.Reading.{readOutcome}
+use Rattle.sample_theorems.proofs.Pairs.{Iff}
 use Rattle.reel_theorems.proofs.Output.{taken-reel}
 use Rattle.demands.proofs.Again.{held-again}
 use Rattle.demands.proofs.Proper.{Proper}
 use Rattle.demands.proofs.ProperLaws.{reel-proper}
 use Rattle.demands.proofs.RecordBack.{record-bytes, record-samples, record-traces, record-no-cause, record-again}
 use Rattle.demands.proofs.Taken.{meant-count}
+use Rattle.demands.proofs.Valid.{RecordRight, record-fine, record-right}
 use Rattle.demands.proofs.Demand2.{reading}
 
 -- ## The record that reading gives
 
 -- r is a valid record, with the T and N of t and n, that holds what the reel s means.
 pub record RecordHolds (s : List ℕ) (t n : ℕ) (r : List ℕ) : Type 0 where
-  -- It is a list of bytes, and neither 12 nor 13 applies to it.
+  -- It is a list of bytes, and it is valid: neither 12 nor 13 applies to it, which `valid-is` spells out.
   pub bytes : Bytes r
   pub valid : formCauses r ≡ Fine
   -- It holds what the reel means.
@@ -61,7 +64,8 @@ meant s b f =
 
 -- THEOREM. Every record that reading gives is valid and holds what the reel means.
 -- Rules out a reader that gives one fixed record, one that writes nothing and says taken, one that converts the first trace and copies it for
--- the rest, and one whose T or length is invented.
+-- the rest, and one whose T or length is invented; two's complement for the IBM fraction, keeping minus zero, and filling field 115 only for
+-- the first trace.
 pub read-valid : (s out : List ℕ) (t n l : ℕ) → Bytes s → readOutcome s out .said ≡ taken (t ∷ n ∷ l ∷ [])
     → RecordHolds s t n (take l (readOutcome s out .bytes))
 read-valid s out t n l b e =
@@ -71,12 +75,17 @@ read-valid s out t n l b e =
 
 -- ## Valid records
 
+-- THEOREM. Neither 12 nor 13 applies to a record exactly when it is right from tag 01 to its last byte, with some count of traces.
+-- Alone it rules out none of the list: it spells out what valid means.
+pub valid-is : (r : List ℕ) → Iff (formCauses r ≡ Fine) ((t : ℕ) × RecordRight r t)
+valid-is r = (λ e. (heldTraces r (heldSamples r), record-right r e), λ h. record-fine r (h .0) (h .1))
+
 -- THEOREM. Two valid records that hold the same are equal byte for byte.
--- With `read-valid` it leaves no second record to a reel. Alone it rules out no program of document 01's list, as it speaks of records only.
+-- With `read-valid` it leaves no second record to a reel. Alone it rules out none of the list, as it speaks of records only.
 pub held-same : (r₁ r₂ : List ℕ) → Bytes r₁ → Bytes r₂ → formCauses r₁ ≡ Fine → formCauses r₂ ≡ Fine → heldBy r₁ ≡ heldBy r₂ → r₁ ≡ r₂
 held-same r₁ r₂ b₁ b₂ v₁ v₂ e = sym (held-again r₁ b₁ v₁) ∙ ap recordOf e ∙ held-again r₂ b₂ v₂
 
 -- THEOREM. A valid record is the record of what it holds.
--- Rules out no program of the list alone; `back` and `again`, which do, rest on it.
+-- Alone it rules out none of the list; `read-back` and `reel-again`, which do, rest on it.
 pub held-record : (r : List ℕ) → Bytes r → formCauses r ≡ Fine → recordOf (heldBy r) ≡ r
 held-record = held-again

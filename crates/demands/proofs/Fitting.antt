@@ -61,7 +61,7 @@ trace-fit-is s code n at = (
   all-first (fitCause s code) (heldValue s) (λ v. isUnfit (wordOf code v) ≡ false) (λ a e. ap (λ (b : Bool). refuseIf b 14 a) e) pairLength n (at + 186),
 )
 
--- THEOREM. 14 finds nothing in a record exactly when each sample that it holds has a word under the code.
+-- LAW. 14 finds nothing in a record exactly when each sample that it holds has a word under the code.
 pub fit-is : (s : List ℕ) (code : ℕ) → Iff (fitCauses s code (heldSamples s) (heldTraces s (heldSamples s)) ≡ Fine) (Fitting code (heldBy s))
 unfolding fitCauses heldBy
 fit-is s code =
@@ -81,6 +81,10 @@ pub record HasWord (code : ℕ) (v : ℤ) : Type 0 where
   pub good : badGain code word ≡ false
   pub value : exactValue code word ≡ v
 
+-- Each sample of a list of traces has a word under the code.
+abbrev pub Worded : ℕ → List Trace → Type 0
+Worded code l = All (λ (t : Trace). All (HasWord code) (t .values)) l
+
 -- The bytes of a number are bytes.
 bytes-of : (k n : ℕ) → Bytes (bytesOf k n)
 bytes-of zero n = tt
@@ -91,7 +95,7 @@ fit-word : (r : Written) → isUnfit r ≡ false → Writes r
 fit-word (Word n) e = (n, refl)
 fit-word (Refused number) e = absurd (subst T e tt)
 
--- THEOREM. A value with a canonical pair fits a code exactly when the code has a word of that value.
+-- LAW. A value with a canonical pair fits a code exactly when the code has a word of that value.
 pub fits-is : (code : ℕ) (v : ℤ) → isCode code ≡ true → isCanonical (pairOf v) ≡ true → Iff (isUnfit (wordOf code v) ≡ false) (HasWord code v)
 fits-is code v h c = (there, back)
   where

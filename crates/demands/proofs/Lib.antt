@@ -9,7 +9,6 @@ pub mod Headers
 pub mod ReelBack
 pub mod RecordBack
 pub mod WrittenSize
-pub mod TestLaws
 pub mod Taken
 pub mod WriteRefusals
 pub mod Demand1

@@ -5,7 +5,8 @@
 use mathlib.Core.Path.{_≡_, refl, ap, _∙_}
 use mathlib.Core.List.{List, [], _∷_, map}
 use mathlib.Core.Bool.{Bool, true, false}
-use Prim.Native.Nat.{ℕ, zero, suc, _+_, _^_, _≤_, _<_}
+use Prim.Native.Nat.{ℕ, zero, suc, _+_, _^_, _<_}
+use native.Mathlib.Nat.{mul-one}
 use native.Mathlib.Omega.{arith}
 use borrow.Author.Tests.{lt-ltb, eqb-true, ne-eqb, not-false}
 use lib.Dec.{eqb}
@@ -15,7 +16,7 @@ use Rattle.numbers.specs.Walk.{pick, bytesAt}
 use Rattle.numbers.specs.TwosComplement.{signedOf}
 use Rattle.numbers.specs.Cause.{refuseIf}
 use Rattle.numbers.specs.declared.Check.the-variants.{Fine}
-use Rattle.numbers.proofs.WalkLaws.{All, all-walk, size-walk, size-bytes}
+use Rattle.numbers.proofs.WalkLaws.{All, size-walk, size-bytes}
 use Rattle.numbers.proofs.ByteLaws.{Bytes, bytes-at}
 use Rattle.numbers.proofs.CauseLaws.{passed, then-fine, first-all}
 use Rattle.sample.specs.Pair.{pairOf, isCanonical}
@@ -25,14 +26,14 @@ use Rattle.reel.specs.Layout.{cardBytes, binaryWidths, binaryFields, traceWidth
 use Rattle.reel.specs.Causes.{mostTraces, neither, traceCauses, causesOf}
 use Rattle.reel.specs.Meaning.{blank, cardText, binaryNumbers, filled, traceMeaning, meaningOf}
 use Rattle.reel.proofs.CheckLaws.{reel-fine}
-use Rattle.record.specs.Form.{heldInterval, heldSamples, firstField, heldStride, tagsFrom, heldTraces, formCauses}
+use Rattle.record.specs.Form.{heldInterval, heldSamples, firstField, heldStride, heldTraces, formCauses}
 use Rattle.record.specs.Held.{heldValue, heldTrace, heldBy}
 use Rattle.record.proofs.HeaderLaws.{binary-front, binary-back, size-cards}
 use Rattle.record.proofs.FormLaws.{tags-most}
 use Rattle.reel_theorems.proofs.Ranges.{Fit, Some, fields-fit}
 use Rattle.reel_theorems.proofs.Same.{allSome, some-of, binary-front-some, binary-back-some, trace-like, eighth}
 use Rattle.demands.proofs.Proper.{ProperTrace, Proper}
-use Rattle.demands.proofs.Valid.{CanonicalAt, TraceStands, valid}
+use Rattle.demands.proofs.Valid.{CanonicalAt, tracePlace, pairPlace, TraceRight, record-right, all-each}
 
 -- ## Numbers and lists
 
@@ -72,44 +73,53 @@ held-interval : (s : List ℕ) (at : ℕ) → getD (map (fieldNumber s (at + 3))
 unfolding traceFields traceWidths
 held-interval s at = let e : at + 3 + 116 ≡ at + 119 = omega arith in ap (λ (p : ℕ). signedOf 16 (word s p)) e
 
--- A trace that stands in a record holds a proper trace.
-trace-held : (s : List ℕ) → Bytes s → (n i at : ℕ) → n < 2 ^ 15 → i < 2 ^ 15 → TraceStands s n i at → ProperTrace n i (heldTrace s n at)
+-- A trace of a record that is right holds a proper trace.
+trace-held : (s : List ℕ) → Bytes s → heldSamples s < 2 ^ 15 → heldInterval s < 2 ^ 15 → (k : ℕ) → TraceRight s k
+    → ProperTrace (heldSamples s) (heldInterval s) (heldTrace s (heldSamples s) (tracePlace s k))
 unfolding heldTrace traceFields
-trace-held s h n i at p q t =
-    let next : at + 183 + 3 ≡ at + 186 = omega arith in
+trace-held s h p q k t =
+    let n = heldSamples s in
+    let i = heldInterval s in
+    let at = tracePlace s k in
     record {
       fit = fields-fit s h (at + 3) 1 traceWidths trace-some;
-      n-is = held-count s at ∙ ap (signedOf 16) (t .n-is) ∙ signed-low n p;
-      i-is = held-interval s at ∙ ap (signedOf 16) (t .i-is) ∙ signed-low i q;
+      n-is = held-count s at ∙ ap (signedOf 16) (t .count) ∙ signed-low n p;
+      i-is = held-interval s at ∙ ap (signedOf 16) (t .interval) ∙ signed-low i q;
       size = size-walk (heldValue s) pairLength n (at + 186);
-      canonical =
-          rw next at
-          (all-walk (CanonicalAt s) (λ v. isCanonical (pairOf v) ≡ true) (λ a. a) (heldValue s) (value-held s) pairLength n (at + 183 + 3) (t .pairs));
+      canonical = all-each (λ v. isCanonical (pairOf v) ≡ true) (heldValue s) pairLength n (at + 186) (λ j l. value-held s (pairPlace s k j) (t .pairs j l));
     }
 
--- THEOREM. What a valid record holds is proper, with the record's N and interval.
+-- The card bytes that a valid record holds are not 00.
+cards-some : (s : List ℕ) → ((j : ℕ) → j < 3200 → ¬ (getD s (3 + j) 0 ≡ 0)) → All (λ b. 0 < b) (bytesAt s 3 cardBytes)
+unfolding bytesAt
+cards-some s h = all-each (λ b. 0 < b) (λ a. getD s a 0) 1 3200 3 (λ j l. rw (mul-one j) (some (getD s (3 + j) 0) (h j l)))
+  where
+    some : (b : ℕ) → ¬ (b ≡ 0) → 0 < b
+    some b n = omega arith
+
+-- LAW. What a valid record holds is proper, with the record's N and interval.
 pub held-proper : (r : List ℕ) → Bytes r → formCauses r ≡ Fine → Proper (heldSamples r) (heldInterval r) (heldBy r)
 unfolding heldBy binaryFields binaryWidths binary-front binary-back
 held-proper r h e =
-    let v = valid r e in
+    let v = record-right r e .end .until in
     let n = heldSamples r in
     let i = heldInterval r in
     let t = heldTraces r n in
-    let p : n < 2 ^ 15 = omega (arith, v .n-high) in
-    let q : i < 2 ^ 15 = omega (arith, v .i-high) in
+    let p : n < 2 ^ 15 = omega (arith, v .head .samples .1) in
+    let q : i < 2 ^ 15 = omega (arith, v .head .interval .1) in
     record {
-      n-low = v .n-low;
-      n-high = v .n-high;
-      i-low = v .i-low;
-      i-high = v .i-high;
+      n-low = v .head .samples .0;
+      n-high = v .head .samples .1;
+      i-low = v .head .interval .0;
+      i-high = v .head .interval .1;
       size = size-bytes r 3 cardBytes;
-      cards = all-both (λ b. 0 < b) (λ b. b < 256) (bytesAt r 3 cardBytes) (v .card-bytes) (bytes-at r h 3 cardBytes);
+      cards = all-both (λ b. 0 < b) (λ b. b < 256) (bytesAt r 3 cardBytes) (cards-some r (v .head .front .card-bytes)) (bytes-at r h 3 cardBytes);
       fit-front = fields-fit r h 6 3201 binary-front binary-front-some;
       fit-back = fields-fit r h 6 3227 binary-back binary-back-some;
       n-is = signed-low n p;
       i-is = signed-low i q;
       few = rw (size-walk (heldTrace r n) (heldStride n) t firstField) (tags-most mostTraces r (heldStride n) firstField);
-      traces = all-walk (TraceStands r n i) (ProperTrace n i) (λ a. a) (heldTrace r n) (λ a. trace-held r h n i a p q) (heldStride n) t firstField (v .traces);
+      traces = all-each (ProperTrace n i) (heldTrace r n) (heldStride n) t firstField (λ k l. trace-held r h p q k (v .before k l));
     }
 
 -- ## What a reel means
@@ -178,7 +188,7 @@ trace-meant s h code n i at p q e =
       canonical = l .canonical;
     }
 
--- THEOREM. What a reel means to which no cause of 1 to 9 applies is proper, with the reel's N and interval.
+-- LAW. What a reel means to which no cause of 1 to 9 applies is proper, with the reel's N and interval.
 pub reel-proper : (s : List ℕ) → Bytes s → causesOf s ≡ Fine → Proper (samplesOf s) (intervalOf s) (meaningOf s)
 unfolding meaningOf
 reel-proper s h e =

@@ -196,13 +196,13 @@ module _ (n i : ℕ) (m : Meaning) (p : Proper n i m) where
   size-traces : length (flat (map traceBytes (m .traces))) ≡ length (m .traces) * heldStride n
   size-traces = flat-size traceBytes (ProperTrace n i) (heldStride n) (size-trace n i) (m .traces) (p .traces)
 
-  -- THEOREM. A record of T traces of N samples is 3273 + T × (186 + 6N) bytes.
+  -- LAW. A record of T traces of N samples is 3273 + T × (186 + 6N) bytes.
   pub record-length : length (recordOf m) ≡ recordLength (length (m .traces)) n
   unfolding recordOf
   record-length =
       simp (length-append, size-field) (omega (arith, p .size, size-binary n i m p 0, size-traces, length-bytes 4 (length (m .traces))))
 
-  -- THEOREM. The record is a list of bytes.
+  -- LAW. The record is a list of bytes.
   pub record-bytes : Bytes (recordOf m)
   unfolding recordOf
   record-bytes =
@@ -240,15 +240,15 @@ module _ (n i : ℕ) (m : Meaning) (p : Proper n i m) where
       rw append-nil
       (from-behind (recordOf m) traceBytes (ProperTrace n i) (heldStride n) (size-trace n i) (m .traces) firstField _ (p .traces) from-traces)
 
-  -- THEOREM. N in the record is that of the meaning.
+  -- LAW. N in the record is that of the meaning.
   pub record-samples : heldSamples (recordOf m) ≡ n
   record-samples = samples-again n i m p 0 (recordOf m) record-bytes 6 _ from-binary
 
-  -- THEOREM. The interval in the record is that of the meaning.
+  -- LAW. The interval in the record is that of the meaning.
   pub record-interval : heldInterval (recordOf m) ≡ i
   record-interval = interval-again n i m p 0 (recordOf m) record-bytes 6 _ from-binary
 
-  -- THEOREM. The record has as many traces as the meaning.
+  -- LAW. The record has as many traces as the meaning.
   pub record-traces : heldTraces (recordOf m) n ≡ length (m .traces)
   unfolding field
   record-traces = tags-again n i (recordOf m) record-bytes mostTraces (m .traces) firstField 5 _ (p .traces) (p .few) refl from-traces
@@ -297,12 +297,12 @@ module _ (n i : ℕ) (m : Meaning) (p : Proper n i m) where
   unfolding bodyCauses
   body-fine = both-fine traces-fine end-fine
 
-  -- THEOREM. The record is valid: neither 12 nor 13 applies to it.
+  -- LAW. The record is valid: neither 12 nor 13 applies to it.
   pub record-no-cause : formCauses (recordOf m) ≡ Fine
   unfolding formCauses
   record-no-cause = both-fine front-fine (both-fine second-fine (rw (record-samples, record-interval, record-traces) body-fine))
 
-  -- THEOREM. The record holds the meaning.
+  -- LAW. The record holds the meaning.
   pub record-again : heldBy (recordOf m) ≡ m
   unfolding heldBy
   record-again = meaning-eq cards binary traces

@@ -254,12 +254,12 @@ module _ (code n i : ℕ) (m : Meaning) (p : Proper n i m) (c : isCode code ≡ 
   size-traces : length (flat (map (traceWritten code) (m .traces))) ≡ length (m .traces) * stride n (sampleBytes code)
   size-traces = flat-size (traceWritten code) (Ready code n i) (stride n (sampleBytes code)) (size-trace code n i c) (m .traces) ready
 
-  -- THEOREM. The reel of T traces of N samples has the 3,600 bytes of its headers, and for each trace 240 and those of N samples.
-  pub reel-length : length (reelOf code m) ≡ reelLength code (length (m .traces)) n
+  -- LAW. The reel of T traces of N samples has the 3,600 bytes of its headers, and for each trace 240 and those of N samples.
+  reel-length : length (reelOf code m) ≡ reelLength code (length (m .traces)) n
   unfolding reelOf
   reel-length = simp length-append (omega (arith, p .size, size-binary n i m p code, size-zeros 340, size-traces))
 
-  -- THEOREM. The reel is a list of bytes.
+  -- LAW. The reel is a list of bytes.
   pub reel-bytes : Bytes (reelOf code m)
   unfolding reelOf
   reel-bytes =
@@ -285,15 +285,15 @@ module _ (code n i : ℕ) (m : Meaning) (p : Proper n i m) (c : isCode code ≡ 
       rw append-nil
       (from-next (replicate 340 0) _ 340 (size-zeros 340) (from-next (binaryBytes code (m .binary)) _ 60 (size-binary n i m p code) from-binary))
 
-  -- THEOREM. The reel's format code is the code.
+  -- LAW. The reel's format code is the code.
   pub reel-code : codeOf (reelOf code m) ≡ code
   reel-code = code-again n i m p code (reelOf code m) reel-bytes 0 _ from-binary (omega (arith, code-high code c))
 
-  -- THEOREM. The reel's N is that of the meaning.
+  -- LAW. The reel's N is that of the meaning.
   pub reel-samples : samplesOf (reelOf code m) ≡ n
   reel-samples = samples-again n i m p code (reelOf code m) reel-bytes 0 _ from-binary
 
-  -- THEOREM. The reel's interval is that of the meaning.
+  -- LAW. The reel's interval is that of the meaning.
   pub reel-interval : intervalOf (reelOf code m) ≡ i
   reel-interval = interval-again n i m p code (reelOf code m) reel-bytes 0 _ from-binary
 
@@ -313,7 +313,7 @@ module _ (code n i : ℕ) (m : Meaning) (p : Proper n i m) (c : isCode code ≡ 
   over : overIn (length (reelOf code m)) (stride n (sampleBytes code)) ≡ 0
   over = ap (λ (k : ℕ). k % stride n (sampleBytes code)) behind ∙ mul-mod-left (length (m .traces)) (stride n (sampleBytes code))
 
-  -- THEOREM. The reel's T is the count of the meaning's traces.
+  -- LAW. The reel's T is the count of the meaning's traces.
   pub reel-traces : tracesOf (reelOf code m) ≡ length (m .traces)
   reel-traces = ap (wholeIn (length (reelOf code m))) reel-stride ∙ whole
 
@@ -332,14 +332,14 @@ module _ (code n i : ℕ) (m : Meaning) (p : Proper n i m) (c : isCode code ≡ 
   unfolding behindCauses
   behind-fine = rw (whole, over, le-ltb mostTraces (length (m .traces)) (p .few)) traces-fine
 
-  -- THEOREM. No cause of 1 to 9 applies to the reel.
+  -- LAW. No cause of 1 to 9 applies to the reel.
   pub reel-no-cause : causesOf (reelOf code m) ≡ Fine
   unfolding causesOf
   reel-no-cause =
       let long : ltb (length (reelOf code m)) firstTrace ≡ false = le-ltb (length (reelOf code m)) firstTrace (omega (arith, reel-length)) in
       rw (long, reel-code, reel-samples, reel-interval, headed) behind-fine
 
-  -- THEOREM. The reel means the meaning.
+  -- LAW. The reel means the meaning.
   pub reel-again : meaningOf (reelOf code m) ≡ m
   unfolding meaningOf cardText binaryNumbers
   reel-again = meaning-eq cards binary traces

@@ -25,7 +25,7 @@ use Rattle.record.specs.Held.{heldTrace, heldBy}
 use Rattle.record.specs.Target.{fitCauses, targetCauses}
 use Rattle.transcribe.specs.Reading as reading
 use Rattle.transcribe.specs.Reading.{readEnd, readOutcome}
-use Rattle.write_reel.specs.Reel.{reelOf, reelLength}
+use Rattle.write_reel.specs.Reel.{reelOf}
 use Rattle.write_reel.specs.Writing as writing
 use Rattle.write_reel.specs.Writing.{writeCauses, writeEnd, writeOutcome}
 use Rattle.reel_theorems.proofs.Same.{record-size}
@@ -33,8 +33,8 @@ use Rattle.reel_theorems.proofs.Output.{not-taken}
 use Rattle.demands.proofs.Proper.{ProperTrace, Proper}
 use Rattle.demands.proofs.Again.{held-again}
 use Rattle.demands.proofs.ProperLaws.{held-proper}
-use Rattle.demands.proofs.Fitting.{FittingTrace, Fitting, fit-is, HasWord, fits-is}
-use Rattle.demands.proofs.ReelBack.{reel-length, reel-bytes, reel-code, reel-samples, reel-traces, reel-no-cause, reel-again}
+use Rattle.demands.proofs.Fitting.{FittingTrace, Fitting, fit-is, HasWord, Worded, fits-is}
+use Rattle.demands.proofs.ReelBack.{reel-bytes, reel-code, reel-samples, reel-traces, reel-no-cause, reel-again}
 
 -- ## Words for every sample
 
@@ -42,10 +42,6 @@ use Rattle.demands.proofs.ReelBack.{reel-length, reel-bytes, reel-code,
 all-with : {A : Type 0} (P Q R : A → Type 0) → ((a : A) → P a → Q a → R a) → (l : List A) → All P l → All Q l → All R l
 all-with P Q R h [] p q = tt
 all-with P Q R h (a ∷ l) p q = (h a (p .0) (q .0), all-with P Q R h l (p .1) (q .1))
-
--- Each sample of a list of traces has a word under a code.
-abbrev pub Worded : ℕ → List Trace → Type 0
-Worded code l = All (λ (t : Trace). All (HasWord code) (t .values)) l
 
 -- The samples of a proper meaning fit a code of 1 to 4 exactly when each has a word under it.
 module _ (code n i : ℕ) (m : Meaning) (p : Proper n i m) (c : isCode code ≡ true) where
@@ -147,13 +143,7 @@ module _ (r : List ℕ) (b : Bytes r) (code : ℕ) (out : List ℕ) (w : Writabl
   fitting : Fitting code (heldBy r)
   fitting = fit-is r code .0 (w .fit)
 
-  -- Its reel has the length that the writing returns.
-  pub written-size : length (reelOf code (heldBy r)) ≡ writing.lengthOf r code
-  written-size =
-      reel-length code (heldSamples r) (heldInterval r) (heldBy r) proper (w .code-is) fitting
-      ∙ ap (λ (t : ℕ). reelLength code t (heldSamples r)) (held-count r)
-
-  -- It is a list of bytes.
+  -- Its reel is a list of bytes.
   pub written-bytes : Bytes (reelOf code (heldBy r))
   written-bytes = reel-bytes code (heldSamples r) (heldInterval r) (heldBy r) proper (w .code-is) fitting
 

@@ -1,28 +1,34 @@
--- What a record is that neither 12 nor 13 applies to: fields that stand whole one behind the other, and numbers within their limits.
--- Assumes nothing.
-use mathlib.Core.Path.{_≡_}
+-- # What a valid record is
+--
+-- A record is valid when neither 12 nor 13 applies to it: its fields stand whole one behind the other, and its numbers are within their
+-- limits. Assumes nothing.
+use mathlib.Core.Path.{_≡_, refl, sym, ap, _∙_, subst}
 use mathlib.Core.List.{List}
-use mathlib.Core.Bool.{true, not}
-use Prim.Native.Nat.{ℕ, _+_, _*_, _≤_, _<_}
+use mathlib.Core.Logic.{_⊎_, inl, inr, ⊎-elim}
+use mathlib.Core.Bool.{Bool, true, false, not}
+use Prim.Native.Nat.{ℕ, zero, suc, _+_, _-_, _*_, _≤_, _<_}
+use native.Mathlib.Nat.{mul-one, not-suc-le-zero}
 use native.Mathlib.Omega.{arith}
-use borrow.Author.Tests.{leb-true, eqb-true, eqb-false, ltb-false, not-false}
+use borrow.Author.Tests.{le-leb, eq-eqb, ne-eqb, leb-true, eqb-true, eqb-false}
 use lib.Dec.{leb, ltb, eqb}
 use lib.ListN.{length, getD}
-use Rattle.numbers.specs.Walk.{walk, bytesAt}
+use Rattle.numbers.specs.Walk.{pick, walk, bytesAt}
 use Rattle.numbers.specs.BigEndian.{number}
 use Rattle.numbers.specs.Cause.{refuseIf, firstOf}
+use Rattle.numbers.specs.declared.Check.{Check}
 use Rattle.numbers.specs.declared.Check.the-variants.{Fine}
 use Rattle.numbers.proofs.WalkLaws.{All}
-use Rattle.numbers.proofs.CauseLaws.{passed, then-fine, first-all}
+use Rattle.numbers.proofs.CauseLaws.{then-fine}
 use Rattle.sample.specs.Pair.{isCanonical}
 use Rattle.sample.specs.Calls.{pairLength, pairIn}
 use Rattle.sample_theorems.proofs.Held.{and-true}
-use Rattle.reel.specs.Layout.{cardBytes, word}
-use Rattle.reel.specs.Causes.{mostSamples, mostInterval, within}
-use Rattle.reel.proofs.CheckLaws.{in-limits}
-use Rattle.record.specs.Form.{isField, fieldCause, cardCause, cardsCauses, heldInterval, heldSamples, heldCode, binaryCauses, firstField, heldStride, pairCause, samplesCauses, traceForm, heldTraces, bodyCauses, formCauses}
+use Rattle.reel.specs.Layout.{word}
+use Rattle.reel.specs.Causes.{mostSamples, mostTraces, mostInterval, within}
+use Rattle.record.specs.Form.{isField, fieldCause, cardCause, cardsCauses, heldInterval, heldSamples, heldCode, binaryCauses, firstField, heldStride, pairCause, samplesCauses, traceForm, tagsFrom, heldTraces, endCauses, bodyCauses, formCauses}
+use Rattle.reel_theorems.proofs.TestLaws.{Between, Tests, test-by, fine-where, holds-where, then-second, and-both, test-between, test-same, test-room, at-zero, at-suc, none-is, none-of, walk-fine, walk-holds}
+use Rattle.record.proofs.FormLaws.{tags-most}
 
--- ## A field
+-- ## The terms
 
 -- A field of this tag and length stands whole at the place `at`.
 pub record Stands (s : List ℕ) (tag size at : ℕ) : Type 0 where
@@ -30,115 +36,359 @@ pub record Stands (s : List ℕ) (tag size at : ℕ) : Type 0 where
   pub tag-is : getD s at 0 ≡ tag
   pub size-is : word s (at + 1) ≡ size
 
--- A test whose failure is refused, and that is not refused, is true.
-pub holds-true : (t : _) (number place : ℕ) → refuseIf (not t) number place ≡ Fine → t ≡ true
-holds-true t number place e = not-false t (passed (not t) number place e)
-
--- A number that is not refused for being another is that number.
-pub holds-eq : (a b number place : ℕ) → refuseIf (not (eqb a b)) number place ≡ Fine → a ≡ b
-holds-eq a b number place e = eqb-true a b (holds-true (eqb a b) number place e)
-
--- Where 12 finds nothing at a field's place, the field stands there.
-pub stands : (s : List ℕ) (tag size at : ℕ) → fieldCause s tag size at ≡ Fine → Stands s tag size at
-stands s tag size at e =
-    let a = and-true (leb (at + (3 + size)) (length s)) _ (holds-true (isField s tag size at) 12 at e) in
-    let b = and-true (eqb (getD s at 0) tag) _ (a .1) in
-    record {
-      whole = leb-true (at + (3 + size)) (length s) (a .0);
-      tag-is = eqb-true (getD s at 0) tag (b .0);
-      size-is = eqb-true (word s (at + 1)) size (b .1);
-    }
-
--- ## A trace
-
 -- The pair at a place is canonical.
 abbrev pub CanonicalAt : List ℕ → ℕ → Type 0
 CanonicalAt s at = isCanonical (pairIn (bytesAt s at pairLength)) ≡ true
 
--- A trace of n samples with interval i stands at the place `at`: its two fields, its numbers 115 and 117, and n canonical pairs.
-pub record TraceStands (s : List ℕ) (n i at : ℕ) : Type 0 where
-  pub header : Stands s 3 180 at
-  pub n-is : word s (at + 117) ≡ n
-  pub i-is : word s (at + 119) ≡ i
-  pub samples : Stands s 4 (pairLength * n) (at + 183)
-  pub pairs : All (CanonicalAt s) (walk (λ a. a) pairLength n (at + 183 + 3))
+-- The place of trace k in a record, counted from 0; behind the last trace it is the place of tag 05.
+abbrev pub tracePlace : List ℕ → ℕ → ℕ
+tracePlace s k = firstField + k * heldStride (heldSamples s)
 
--- Where 12 and 13 find nothing in a trace, it stands.
-pub trace-stands : (s : List ℕ) (n i at : ℕ) → traceForm s n i at ≡ Fine → TraceStands s n i at
-unfolding traceForm samplesCauses
-trace-stands s n i at e =
-    let a = then-fine (fieldCause s 3 180 at) _ e in
-    let b = then-fine (refuseIf (not (eqb (word s (at + 117)) n)) 13 (at + 117)) _ (a .1) in
-    let c = then-fine (refuseIf (not (eqb (word s (at + 119)) i)) 13 (at + 119)) _ (b .1) in
-    let d = then-fine (fieldCause s 4 (pairLength * n) (at + 183)) _ (c .1) in
-    record {
-      header = stands s 3 180 at (a .0);
-      n-is = holds-eq (word s (at + 117)) n 13 (at + 117) (b .0);
-      i-is = holds-eq (word s (at + 119)) i 13 (at + 119) (c .0);
-      samples = stands s 4 (pairLength * n) (at + 183) (d .0);
-      pairs = first-all (pairCause s) (λ a. a) (CanonicalAt s) (λ a. holds-true (isCanonical (pairIn (bytesAt s a pairLength))) 13 a) pairLength n (at + 183 + 3) (d .1);
-    }
+-- The place of pair j of trace k, behind tag 03 with its 180 bytes and tag 04 with its length.
+abbrev pub pairPlace : List ℕ → ℕ → ℕ → ℕ
+pairPlace s k j = tracePlace s k + 186 + j * pairLength
 
--- ## The whole record
+-- Tag 01 stands at the front with its 3,200 card bytes, none of them 00.
+pub record CardsRight (s : List ℕ) : Type 0 where
+  pub cards : Stands s 1 3200 0
+  pub card-bytes : (j : ℕ) → j < 3200 → ¬ (getD s (3 + j) 0 ≡ 0)
 
--- The place behind the traces of a record.
-abbrev pub lastField : List ℕ → ℕ
-lastField s = firstField + heldTraces s (heldSamples s) * heldStride (heldSamples s)
-
--- A record that neither 12 nor 13 applies to.
-pub record Valid (s : List ℕ) : Type 0 where
-  pub cards : Stands s 1 cardBytes 0
-  pub card-bytes : All (λ b. 0 < b) (bytesAt s 3 cardBytes)
+-- Then tag 02 stands with its 60 bytes: interval and N are within their limits, and the format code is 0.
+pub record HeadRight (s : List ℕ) : Type 0 where
+  pub front : CardsRight s
   pub binary : Stands s 2 60 3203
-  pub i-low : 1 ≤ heldInterval s
-  pub i-high : heldInterval s ≤ mostInterval
-  pub n-low : 1 ≤ heldSamples s
-  pub n-high : heldSamples s ≤ mostSamples
-  pub code-is : heldCode s ≡ 0
-  pub traces : All (TraceStands s (heldSamples s) (heldInterval s)) (walk (λ a. a) (heldStride (heldSamples s)) (heldTraces s (heldSamples s)) firstField)
-  pub count : Stands s 5 4 (lastField s)
-  pub count-is : number (bytesAt s (lastField s + 3) 4) ≡ heldTraces s (heldSamples s)
-  pub last : length s ≤ lastField s + 7
+  pub interval : Between 1 32767 (heldInterval s)
+  pub samples : Between 1 8000 (heldSamples s)
+  pub code : heldCode s ≡ 0
 
--- Card bytes that are not refused are not 00.
-card-some : (s : List ℕ) (k at : ℕ) → firstOf (walk (cardCause s) 1 k at) ≡ Fine → All (λ b. 0 < b) (bytesAt s at k)
-unfolding bytesAt
-card-some s k at e = first-all (cardCause s) (λ a. getD s a 0) (λ b. 0 < b) (λ a q. some (getD s a 0) a q) 1 k at e
+-- Trace k stands: tag 03 with its 180 bytes, of which field 115 is N and field 117 the interval, then tag 04 with N canonical pairs.
+pub record TraceRight (s : List ℕ) (k : ℕ) : Type 0 where
+  pub header : Stands s 3 180 (tracePlace s k)
+  pub count : word s (tracePlace s k + 117) ≡ heldSamples s
+  pub interval : word s (tracePlace s k + 119) ≡ heldInterval s
+  pub samples : Stands s 4 (6 * heldSamples s) (tracePlace s k + 183)
+  pub pairs : (j : ℕ) → j < heldSamples s → CanonicalAt s (pairPlace s k j)
+
+-- All is right up to trace k: tags 01 and 02, and the k traces before it.
+pub record RightUntil (s : List ℕ) (k : ℕ) : Type 0 where
+  pub head : HeadRight s
+  pub before : (i : ℕ) → i < k → TraceRight s i
+
+-- All is right up to trace k, and another trace begins there: its tag is 03, and it is none beyond the 100,000th.
+pub record TraceNext (s : List ℕ) (k : ℕ) : Type 0 where
+  pub until : RightUntil s k
+  pub few : k < 100000
+  pub tag : getD s (tracePlace s k) 0 ≡ 3
+
+-- All is right up to the end of t traces, and tag 05 should follow: no tag 03 does, or it would be that of trace 100,001.
+pub record EndNext (s : List ℕ) (t : ℕ) : Type 0 where
+  pub until : RightUntil s t
+  pub few : t ≤ 100000
+  pub end : (t ≡ 100000) ⊎ (¬ (getD s (tracePlace s t) 0 ≡ 3))
+
+-- A valid record of t traces, to which neither 12 nor 13 applies: behind its traces tag 05 holds their count, and no byte comes after it.
+pub record RecordRight (s : List ℕ) (t : ℕ) : Type 0 where
+  pub end : EndNext s t
+  pub field : Stands s 5 4 (tracePlace s t)
+  pub count : number (bytesAt s (tracePlace s t + 3) 4) ≡ t
+  pub last : length s ≤ tracePlace s t + 7
+
+-- ## The tests, one by one
+
+-- A field at its place.
+pub test-field : (s : List ℕ) (tag size at : ℕ) → Tests (Stands s tag size at) 12 at (fieldCause s tag size at)
+test-field s tag size at =
+    test-by (Stands s tag size at) (isField s tag size at) 12 at there
+    (λ h. and-both (leb (at + (3 + size)) (length s)) _ (le-leb (at + (3 + size)) (length s) (h .whole)) (and-both (eqb (getD s at 0) tag) _ (eq-eqb (getD s at 0) tag (h .tag-is)) (eq-eqb (word s (at + 1)) size (h .size-is))))
   where
-    some : (b at : ℕ) → refuseIf (eqb b 0) 13 at ≡ Fine → 0 < b
-    some b at q = let no = eqb-false b 0 (passed (eqb b 0) 13 at q) in omega arith
+    there : isField s tag size at ≡ true → Stands s tag size at
+    there e =
+        let a = and-true (leb (at + (3 + size)) (length s)) _ e in
+        let b = and-true (eqb (getD s at 0) tag) _ (a .1) in
+        record {
+          whole = leb-true (at + (3 + size)) (length s) (a .0);
+          tag-is = eqb-true (getD s at 0) tag (b .0);
+          size-is = eqb-true (word s (at + 1)) size (b .1);
+        }
 
--- A record in which 12 and 13 find nothing is valid.
-pub valid : (s : List ℕ) → formCauses s ≡ Fine → Valid s
-unfolding formCauses cardsCauses binaryCauses bodyCauses
-valid s e =
-    let n = heldSamples s in
-    let i = heldInterval s in
-    let t = heldTraces s n in
-    let a = then-fine (cardsCauses s) _ e in
-    let b = then-fine (binaryCauses s) _ (a .1) in
-    let c = then-fine (fieldCause s 1 cardBytes 0) _ (a .0) in
-    let d = then-fine (fieldCause s 2 60 3203) _ (b .0) in
-    let f = then-fine (refuseIf (not (within 1 mostInterval i)) 13 3222) _ (d .1) in
-    let g = then-fine (refuseIf (not (within 1 mostSamples n)) 13 3226) _ (f .1) in
-    let h = then-fine (refuseIf (not (eqb (heldCode s) 0)) 13 3230) _ (g .1) in
-    let j = then-fine (firstOf (walk (traceForm s n i) (heldStride n) t firstField)) _ (b .1) in
-    let k = then-fine (fieldCause s 5 4 (lastField s)) _ (j .1) in
-    let l = then-fine (refuseIf (not (eqb (number (bytesAt s (lastField s + 3) 4)) t)) 12 (lastField s)) _ (k .1) in
-    let m = then-fine (refuseIf (ltb (lastField s + 7) (length s)) 12 (lastField s + 7)) _ (l .1) in
-    let x = in-limits 1 mostInterval i 13 3222 (f .0) in
-    let y = in-limits 1 mostSamples n 13 3226 (g .0) in
-    record {
-      cards = stands s 1 cardBytes 0 (c .0);
-      card-bytes = card-some s cardBytes 3 (c .1);
-      binary = stands s 2 60 3203 (d .0);
-      i-low = x .0;
-      i-high = x .1;
-      n-low = y .0;
-      n-high = y .1;
-      code-is = holds-eq (heldCode s) 0 13 3230 (h .0);
-      traces = first-all (traceForm s n i) (λ a. a) (TraceStands s n i) (trace-stands s n i) (heldStride n) t firstField (j .0);
-      count = stands s 5 4 (lastField s) (k .0);
-      count-is = holds-eq (number (bytesAt s (lastField s + 3) 4)) t 12 (lastField s) (l .0);
-      last = ltb-false (lastField s + 7) (length s) (passed _ _ _ (m .0));
-    }
+-- A card byte other than 00.
+test-card : (s : List ℕ) (at : ℕ) → Tests (¬ (getD s at 0 ≡ 0)) 13 at (cardCause s at)
+test-card s at = go (eqb (getD s at 0) 0) refl
+  where
+    go : (b : Bool) → eqb (getD s at 0) 0 ≡ b → Tests (¬ (getD s at 0 ≡ 0)) 13 at (refuseIf b 13 at)
+    go true e = inr (λ n. n (eqb-true (getD s at 0) 0 e), refl)
+    go false e = inl (eqb-false (getD s at 0) 0 e, refl)
+
+-- A pair that is canonical.
+test-pair : (s : List ℕ) (at : ℕ) → Tests (CanonicalAt s at) 13 at (pairCause s at)
+test-pair s at = test-by (CanonicalAt s at) (isCanonical (pairIn (bytesAt s at pairLength))) 13 at (λ e. e) (λ e. e)
+
+-- ## Tags 01 and 02
+
+module _ (s : List ℕ) where
+  -- The card bytes along tag 01.
+  pub card-tests : (j : ℕ) → j < 3200 → Tests (¬ (getD s (3 + j) 0 ≡ 0)) 13 (3 + j) (cardCause s (3 + j * 1))
+  card-tests j l = rw (mul-one j) (test-card s (3 + j))
+
+  -- Where tag 01 is right, 12 and 13 find nothing in it.
+  pub cards-fine : CardsRight s → cardsCauses s ≡ Fine
+  unfolding cardsCauses
+  cards-fine h =
+      then-second (fieldCause s 1 3200 0) _ (fine-where (test-field s 1 3200 0) (h .cards))
+      (walk-fine (λ j. ¬ (getD s (3 + j) 0 ≡ 0)) 13 (cardCause s) 1 3200 3 (λ j. 3 + j) card-tests (h .card-bytes))
+
+  -- And where they find nothing in it, it is right.
+  pub cards-right : cardsCauses s ≡ Fine → CardsRight s
+  unfolding cardsCauses
+  cards-right e =
+      let a = then-fine (fieldCause s 1 3200 0) _ e in
+      record {
+        cards = holds-where (test-field s 1 3200 0) (a .0);
+        card-bytes = walk-holds (λ j. ¬ (getD s (3 + j) 0 ≡ 0)) 13 (cardCause s) 1 3200 3 (λ j. 3 + j) card-tests (a .1);
+      }
+
+  -- Where tag 02 is right, 12 and 13 find nothing in it.
+  head-fine : HeadRight s → binaryCauses s ≡ Fine
+  unfolding binaryCauses
+  head-fine h =
+      then-second (fieldCause s 2 60 3203) _ (fine-where (test-field s 2 60 3203) (h .binary))
+      (then-second _ _ (fine-where (test-between 1 mostInterval (heldInterval s) 13 3222) (h .interval))
+      (then-second _ _ (fine-where (test-between 1 mostSamples (heldSamples s) 13 3226) (h .samples))
+      (then-second _ _ (fine-where (test-same (heldCode s) 0 13 3230) (h .code)) refl)))
+
+  -- And where they find nothing in it, it is right.
+  pub head-right : CardsRight s → binaryCauses s ≡ Fine → HeadRight s
+  unfolding binaryCauses
+  head-right c e =
+      let d = then-fine (fieldCause s 2 60 3203) _ e in
+      let f = then-fine (refuseIf (not (within 1 mostInterval (heldInterval s))) 13 3222) _ (d .1) in
+      let g = then-fine (refuseIf (not (within 1 mostSamples (heldSamples s))) 13 3226) _ (f .1) in
+      let h = then-fine (refuseIf (not (eqb (heldCode s) 0)) 13 3230) _ (g .1) in
+      record {
+        front = c;
+        binary = holds-where (test-field s 2 60 3203) (d .0);
+        interval = holds-where (test-between 1 mostInterval (heldInterval s) 13 3222) (f .0);
+        samples = holds-where (test-between 1 mostSamples (heldSamples s) 13 3226) (g .0);
+        code = holds-where (test-same (heldCode s) 0 13 3230) (h .0);
+      }
+
+-- ## Traces
+
+-- The checks of the trace at a place, with the N and interval that the record holds.
+abbrev pub formAt : List ℕ → ℕ → Check
+formAt s at = traceForm s (heldSamples s) (heldInterval s) at
+
+module _ (s : List ℕ) (k : ℕ) where
+  -- The pairs along tag 04.
+  pub pair-tests : (j : ℕ) → j < heldSamples s → Tests (CanonicalAt s (pairPlace s k j)) 13 (pairPlace s k j) (pairCause s (tracePlace s k + 183 + 3 + j * pairLength))
+  pair-tests j l =
+      let e : tracePlace s k + 183 + 3 + j * pairLength ≡ pairPlace s k j = omega arith in
+      rw e (test-pair s (pairPlace s k j))
+
+  -- Where a trace is right, 12 and 13 find nothing in it.
+  pub trace-fine : TraceRight s k → formAt s (tracePlace s k) ≡ Fine
+  unfolding traceForm samplesCauses
+  trace-fine h =
+      then-second _ _ (fine-where (test-field s 3 180 (tracePlace s k)) (h .header))
+      (then-second _ _ (fine-where (test-same (word s (tracePlace s k + 117)) (heldSamples s) 13 (tracePlace s k + 117)) (h .count))
+      (then-second _ _ (fine-where (test-same (word s (tracePlace s k + 119)) (heldInterval s) 13 (tracePlace s k + 119)) (h .interval))
+      (then-second _ _ (fine-where (test-field s 4 (6 * heldSamples s) (tracePlace s k + 183)) (h .samples))
+      (walk-fine (λ j. CanonicalAt s (pairPlace s k j)) 13 (pairCause s) pairLength (heldSamples s) (tracePlace s k + 183 + 3) (pairPlace s k) pair-tests (h .pairs)))))
+
+  -- And where they find nothing in it, it is right.
+  trace-right : formAt s (tracePlace s k) ≡ Fine → TraceRight s k
+  unfolding traceForm samplesCauses
+  trace-right e =
+      let n = heldSamples s in
+      let i = heldInterval s in
+      let at = tracePlace s k in
+      let a = then-fine (fieldCause s 3 180 at) _ e in
+      let b = then-fine (refuseIf (not (eqb (word s (at + 117)) n)) 13 (at + 117)) _ (a .1) in
+      let c = then-fine (refuseIf (not (eqb (word s (at + 119)) i)) 13 (at + 119)) _ (b .1) in
+      let d = then-fine (fieldCause s 4 (pairLength * n) (at + 183)) _ (c .1) in
+      record {
+        header = holds-where (test-field s 3 180 at) (a .0);
+        count = holds-where (test-same (word s (at + 117)) n 13 (at + 117)) (b .0);
+        interval = holds-where (test-same (word s (at + 119)) i 13 (at + 119)) (c .0);
+        samples = holds-where (test-field s 4 (6 * n) (at + 183)) (d .0);
+        pairs = walk-holds (λ j. CanonicalAt s (pairPlace s k j)) 13 (pairCause s) pairLength n (at + 183 + 3) (pairPlace s k) pair-tests (d .1);
+      }
+
+-- ## How many traces there are
+
+-- k tags 03, w bytes apart, are counted before those behind them.
+tags-more : (most : ℕ) (s : List ℕ) (w at k : ℕ) → k ≤ most → ((j : ℕ) → j < k → getD s (at + j * w) 0 ≡ 3)
+    → tagsFrom most s w at ≡ k + tagsFrom (most - k) s w (at + k * w)
+unfolding tagsFrom
+tags-more most s w at zero h t =
+    let a = at-zero at w in
+    let b : most - 0 ≡ most = omega arith in
+    rw (a, b) (omega arith)
+tags-more zero s w at (suc k) h t = absurd (not-suc-le-zero h)
+tags-more (suc most) s w at (suc k) h t =
+    let a = at-zero at w in
+    let b = at-suc at w k in
+    let c : suc most - suc k ≡ most - k = omega arith in
+    let here : getD s at 0 ≡ 3 = ap (λ (x : ℕ). getD s x 0) (sym a) ∙ t 0 (omega arith) in
+    let rest = tags-more most s w (at + w) k (omega arith) (λ j l. ap (λ (x : ℕ). getD s x 0) (sym (at-suc at w j)) ∙ t (suc j) (omega arith)) in
+    rw (eq-eqb (getD s at 0) 3 here, c, b) (omega (arith, rest))
+
+-- One tag 03 more is counted, where there is room for it.
+tags-next : (most : ℕ) (s : List ℕ) (w at : ℕ) → 0 < most → getD s at 0 ≡ 3 → 0 < tagsFrom most s w at
+unfolding tagsFrom
+tags-next zero s w at h t = absurd (not-suc-le-zero h)
+tags-next (suc most) s w at h t = rw (eq-eqb (getD s at 0) 3 t) (omega arith)
+
+-- None is counted where another byte stands, or there is no room.
+tags-none : (most : ℕ) (s : List ℕ) (w at : ℕ) → (most ≡ 0) ⊎ (¬ (getD s at 0 ≡ 3)) → tagsFrom most s w at ≡ 0
+unfolding tagsFrom
+tags-none zero s w at h = refl
+tags-none (suc most) s w at (inl e) = absurd (let z : suc most ≡ 0 = e in omega arith)
+tags-none (suc most) s w at (inr n) = rw (ne-eqb (getD s at 0) 3 n)
+
+-- Each tag that is counted is 03.
+tags-are : (most : ℕ) (s : List ℕ) (w at j : ℕ) → j < tagsFrom most s w at → getD s (at + j * w) 0 ≡ 3
+unfolding tagsFrom
+tags-are zero s w at j h = absurd (not-suc-le-zero h)
+tags-are (suc most) s w at j h = go (λ i l. tags-are most s w (at + w) i l) (eqb (getD s at 0) 3) refl j h
+  where
+    go : ((i : ℕ) → i < tagsFrom most s w (at + w) → getD s (at + w + i * w) 0 ≡ 3)
+        → (b : Bool) → eqb (getD s at 0) 3 ≡ b → (j : ℕ) → j < pick b (suc (tagsFrom most s w (at + w))) 0 → getD s (at + j * w) 0 ≡ 3
+    go rest false e j h = absurd (not-suc-le-zero h)
+    go rest true e zero h =
+        let a = at-zero at w in
+        rw a (eqb-true (getD s at 0) 3 e)
+    go rest true e (suc j) h =
+        let b = at-suc at w j in
+        rw b (rest j (omega arith))
+
+-- Behind the tags that are counted stands another byte, or there is no room for more.
+tags-end : (most : ℕ) (s : List ℕ) (w at : ℕ) → (tagsFrom most s w at ≡ most) ⊎ (¬ (getD s (at + tagsFrom most s w at * w) 0 ≡ 3))
+unfolding tagsFrom
+tags-end zero s w at = inl refl
+tags-end (suc most) s w at = go (eqb (getD s at 0) 3) refl (tags-end most s w (at + w))
+  where
+    c : ℕ
+    c = tagsFrom most s w (at + w)
+
+    go : (b : Bool) → eqb (getD s at 0) 3 ≡ b → (c ≡ most) ⊎ (¬ (getD s (at + w + c * w) 0 ≡ 3))
+        → (pick b (suc c) 0 ≡ suc most) ⊎ (¬ (getD s (at + pick b (suc c) 0 * w) 0 ≡ 3))
+    go true e (inl h) = inl (ap suc h)
+    go true e (inr h) =
+        let b = at-suc at w c in
+        inr (λ q. h (ap (λ (x : ℕ). getD s x 0) (sym b) ∙ q))
+    go false e h =
+        let a = at-zero at w in
+        inr (λ q. eqb-false (getD s at 0) 3 e (ap (λ (x : ℕ). getD s x 0) (sym a) ∙ q))
+
+-- The traces that a record holds, by the tags 03 that follow each other.
+abbrev pub countIn : List ℕ → ℕ
+countIn s = heldTraces s (heldSamples s)
+
+module _ (s : List ℕ) where
+  -- The tags of the traces up to trace k are 03.
+  tags-until : (k : ℕ) → RightUntil s k → (j : ℕ) → j < k → getD s (tracePlace s j) 0 ≡ 3
+  tags-until k h j l = h .before j l .header .tag-is
+
+  -- Where another trace begins behind k traces, more than k are counted.
+  pub next-counted : (k : ℕ) → TraceNext s k → k < countIn s
+  next-counted k h =
+      let w = heldStride (heldSamples s) in
+      let few : k < mostTraces = h .few in
+      let all = tags-more mostTraces s w firstField k (omega arith) (tags-until k (h .until)) in
+      let one = tags-next (mostTraces - k) s w (tracePlace s k) (omega arith) (h .tag) in
+      omega arith
+
+  -- Where tag 05 should follow t traces, t are counted.
+  pub end-counted : (t : ℕ) → EndNext s t → countIn s ≡ t
+  end-counted t h =
+      let w = heldStride (heldSamples s) in
+      let few : t ≤ mostTraces = h .few in
+      let all = tags-more mostTraces s w firstField t (omega arith) (tags-until t (h .until)) in
+      let none = tags-none (mostTraces - t) s w (tracePlace s t) (⊎-elim (λ e. inl (full e)) (λ n. inr n) (h .end)) in
+      omega arith
+    where
+      full : t ≡ 100000 → mostTraces - t ≡ 0
+      full e = omega arith
+
+  -- The traces up to trace t are right, as far as they are looked at.
+  until-fine : (t : ℕ) → RightUntil s t → firstOf (walk (formAt s) (heldStride (heldSamples s)) t firstField) ≡ Fine
+  until-fine t h = none-of (formAt s) (heldStride (heldSamples s)) t firstField (λ j l. trace-fine s j (h .before j l))
+
+  -- Where the traces that are counted are all right, tag 05 should follow them.
+  pub end-next : HeadRight s → firstOf (walk (formAt s) (heldStride (heldSamples s)) (countIn s) firstField) ≡ Fine → EndNext s (countIn s)
+  end-next h e =
+      let w = heldStride (heldSamples s) in
+      record {
+        until = record { head = h; before = λ i l. trace-right s i (none-is (formAt s) w (countIn s) firstField e i l) };
+        few = tags-most mostTraces s w firstField;
+        end = tags-end mostTraces s w firstField;
+      }
+
+  -- A trace that is counted, behind traces that are all right.
+  pub trace-next : HeadRight s → (k : ℕ) → k < countIn s → ((i : ℕ) → i < k → formAt s (tracePlace s i) ≡ Fine) → TraceNext s k
+  trace-next h k l b =
+      let w = heldStride (heldSamples s) in
+      let most = tags-most mostTraces s w firstField in
+      record {
+        until = record { head = h; before = λ i m. trace-right s i (b i m) };
+        few = omega arith;
+        tag = tags-are mostTraces s w firstField k l;
+      }
+
+  -- ## The end
+
+  -- At the end of a valid record 12 finds nothing.
+  end-fine : (t : ℕ) → RecordRight s t → endCauses s t (tracePlace s t) ≡ Fine
+  end-fine t h =
+      then-second _ _ (fine-where (test-field s 5 4 (tracePlace s t)) (h .field))
+      (then-second _ _ (fine-where (test-same (number (bytesAt s (tracePlace s t + 3) 4)) t 12 (tracePlace s t)) (h .count))
+      (then-second _ _ (fine-where (test-room (tracePlace s t + 7) (length s) 12 (tracePlace s t + 7)) (h .last)) refl))
+
+  -- And where it finds nothing at the end, the record is valid.
+  end-right : (t : ℕ) → EndNext s t → endCauses s t (tracePlace s t) ≡ Fine → RecordRight s t
+  end-right t h e =
+      let at = tracePlace s t in
+      let k = then-fine (fieldCause s 5 4 at) _ e in
+      let l = then-fine (refuseIf (not (eqb (number (bytesAt s (at + 3) 4)) t)) 12 at) _ (k .1) in
+      let m = then-fine (refuseIf (ltb (at + 7) (length s)) 12 (at + 7)) _ (l .1) in
+      record {
+        end = h;
+        field = holds-where (test-field s 5 4 at) (k .0);
+        count = holds-where (test-same (number (bytesAt s (at + 3) 4)) t 12 at) (l .0);
+        last = holds-where (test-room (at + 7) (length s) 12 (at + 7)) (m .0);
+      }
+
+  -- ## The whole record
+
+  -- Behind traces that are all right, the answer is that of the end.
+  pub body-end : (t : ℕ) → EndNext s t → {x : Check} → endCauses s t (tracePlace s t) ≡ x → bodyCauses s (heldSamples s) (heldInterval s) (countIn s) ≡ x
+  unfolding bodyCauses
+  body-end t h e = ap (bodyCauses s (heldSamples s) (heldInterval s)) (end-counted t h) ∙ then-second _ _ (until-fine t (h .until)) e
+
+  -- Behind tags 01 and 02 that are right, the answer is that of the traces and the end.
+  pub form-body : HeadRight s → {x : Check} → bodyCauses s (heldSamples s) (heldInterval s) (countIn s) ≡ x → formCauses s ≡ x
+  unfolding formCauses
+  form-body h e = then-second _ _ (cards-fine s (h .front)) (then-second _ _ (head-fine s h) e)
+
+  -- A valid record is refused by neither 12 nor 13.
+  pub record-fine : (t : ℕ) → RecordRight s t → formCauses s ≡ Fine
+  record-fine t h = form-body (h .end .until .head) (body-end t (h .end) (end-fine t h))
+
+  -- A record that neither refuses is valid, with the traces that are counted.
+  pub record-right : formCauses s ≡ Fine → RecordRight s (countIn s)
+  unfolding formCauses bodyCauses
+  record-right e =
+      let a = then-fine (cardsCauses s) _ e in
+      let b = then-fine (binaryCauses s) _ (a .1) in
+      let h = head-right s (cards-right s (a .0)) (b .0) in
+      let c = then-fine (firstOf (walk (formAt s) (heldStride (heldSamples s)) (countIn s) firstField)) _ (b .1) in
+      end-right (countIn s) (end-next h (c .0)) (c .1)
+
+-- ## Along a walk
+
+-- What holds at each step of a walk holds of all that it gives.
+pub all-each : {A : Type 0} (P : A → Type 0) (f : ℕ → A) (w k at : ℕ) → ((j : ℕ) → j < k → P (f (at + j * w))) → All P (walk f w k at)
+all-each P f w zero at h = tt
+all-each P f w (suc k) at h =
+    (subst (λ (a : ℕ). P (f a)) (at-zero at w) (h 0 (omega arith)), all-each P f w k (at + w) (λ j l. subst (λ (a : ℕ). P (f a)) (at-suc at w j) (h (suc j) (omega arith))))

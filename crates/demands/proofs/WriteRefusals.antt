@@ -5,95 +5,36 @@
 -- a place exactly when that row of the table applies, and it has no cause exactly when no row does. Assumes nothing.
 use mathlib.Core.Path.{_≡_, refl, sym, ap, _∙_}
 use mathlib.Core.List.{List}
-use mathlib.Core.Logic.{_⊎_, inl, inr, ⊎-elim}
+use mathlib.Core.Logic.{inl, inr}
 use mathlib.Core.Bool.{Bool, true, false, not}
-use Prim.Native.Nat.{ℕ, zero, suc, _+_, _-_, _*_, _≤_, _<_}
-use native.Mathlib.Nat.{add-zero, zero-mul, suc-mul, mul-one, not-suc-le-zero}
+use Prim.Native.Nat.{ℕ, zero, suc, _+_, _*_, _<_}
 use native.Mathlib.Omega.{arith}
-use borrow.Author.Tests.{lt-ltb, le-leb, eq-eqb, ne-eqb, leb-true, eqb-true, eqb-false}
+use borrow.Author.Tests.{le-leb}
 use lib.Dec.{leb, ltb, eqb}
 use lib.ListN.{length, getD}
-use Rattle.numbers.specs.Walk.{pick, walk, bytesAt}
+use Rattle.numbers.specs.Walk.{walk, bytesAt}
 use Rattle.numbers.specs.BigEndian.{number}
 use Rattle.numbers.specs.Cause.{refuseIf, firstOf}
-use Rattle.numbers.specs.declared.Place.{Place}
 use Rattle.numbers.specs.declared.Check.{Check}
 use Rattle.numbers.specs.declared.Check.the-variants.{Fine, Refused}
 use Rattle.numbers.proofs.CauseLaws.{not-fine, then-fine}
-use Rattle.sample.specs.Pair.{isCanonical}
 use Rattle.sample.specs.Reading.{isCode}
 use Rattle.sample.specs.Writing.{wordOf}
-use Rattle.sample.specs.Calls.{pairLength, pairIn}
-use Rattle.sample_theorems.proofs.Held.{and-true}
+use Rattle.sample.specs.Calls.{pairLength}
 use Rattle.sample_theorems.proofs.Pairs.{Iff}
 use Rattle.reel.specs.Layout.{word}
-use Rattle.reel.specs.Causes.{mostSamples, mostTraces, mostInterval, within}
-use Rattle.record.specs.Form.{isField, fieldCause, cardCause, cardsCauses, heldInterval, heldSamples, heldCode, binaryCauses, firstField, heldStride, pairCause, samplesCauses, traceForm, tagsFrom, heldTraces, endCauses, bodyCauses, formCauses}
+use Rattle.reel.specs.Causes.{mostSamples, mostInterval, within}
+use Rattle.record.specs.Form.{fieldCause, cardCause, cardsCauses, heldInterval, heldSamples, heldCode, binaryCauses, firstField, heldStride, pairCause, samplesCauses, traceForm, endCauses, bodyCauses, formCauses}
 use Rattle.record.specs.Held.{heldValue}
 use Rattle.record.specs.Target.{isUnfit, fitCause, traceFit, fitCauses, targetCauses}
 use Rattle.write_reel.specs.Reel.{reelLength}
 use Rattle.write_reel.specs.Writing.{writeCauses}
-use Rattle.reel_theorems.proofs.Refusals.{first-is, first-of, none-is, none-of}
-use Rattle.demands.proofs.TestLaws.{atPlace, Between, Tests, apart, test-by, fine-where, refused-where, holds-where, row-where, then-row, then-first, then-second, and-both, test-between, test-same, test-room, not-enough, walk-fine, walk-holds, walk-refused, walk-row}
-use Rattle.demands.proofs.Valid.{Stands, CanonicalAt}
+use Rattle.reel_theorems.proofs.TestLaws.{atPlace, Between, Tests, apart, fine-where, refused-where, holds-where, row-where, then-row, then-first, then-second, and-both, test-between, test-same, test-room, not-enough, too-short, first-is, first-of, none-is, none-of, walk-fine, walk-holds, walk-refused, walk-row, fine-none}
+use Rattle.demands.proofs.Valid.{Stands, CanonicalAt, tracePlace, pairPlace, CardsRight, HeadRight, RightUntil, TraceNext, EndNext, RecordRight, test-field, card-tests, cards-fine, cards-right, head-right, formAt, pair-tests, trace-fine, countIn, next-counted, end-counted, end-next, trace-next, body-end, form-body, record-fine, record-right}
 use Rattle.demands.proofs.ProperLaws.{value-held}
-use Rattle.record.proofs.FormLaws.{tags-most}
 use Rattle.demands.proofs.Fitting.{HasWord, fits-is}
 
 -- ## The terms of the table
-
--- The place of trace k in a record, counted from 0; behind the last trace it is the place of tag 05.
-abbrev pub tracePlace : List ℕ → ℕ → ℕ
-tracePlace s k = firstField + k * heldStride (heldSamples s)
-
--- The place of pair j of trace k, behind tag 03 with its 180 bytes and tag 04 with its length.
-abbrev pub pairPlace : List ℕ → ℕ → ℕ → ℕ
-pairPlace s k j = tracePlace s k + 186 + j * pairLength
-
--- Tag 01 stands at the front with its 3,200 card bytes, none of them 00.
-pub record CardsRight (s : List ℕ) : Type 0 where
-  pub cards : Stands s 1 3200 0
-  pub card-bytes : (j : ℕ) → j < 3200 → ¬ (getD s (3 + j) 0 ≡ 0)
-
--- Then tag 02 stands with its 60 bytes: interval and N are within their limits, and the format code is 0.
-pub record HeadRight (s : List ℕ) : Type 0 where
-  pub front : CardsRight s
-  pub binary : Stands s 2 60 3203
-  pub interval : Between 1 32767 (heldInterval s)
-  pub samples : Between 1 8000 (heldSamples s)
-  pub code : heldCode s ≡ 0
-
--- Trace k stands: tag 03 with its 180 bytes, of which field 115 is N and field 117 the interval, then tag 04 with N canonical pairs.
-pub record TraceRight (s : List ℕ) (k : ℕ) : Type 0 where
-  pub header : Stands s 3 180 (tracePlace s k)
-  pub count : word s (tracePlace s k + 117) ≡ heldSamples s
-  pub interval : word s (tracePlace s k + 119) ≡ heldInterval s
-  pub samples : Stands s 4 (6 * heldSamples s) (tracePlace s k + 183)
-  pub pairs : (j : ℕ) → j < heldSamples s → CanonicalAt s (pairPlace s k j)
-
--- All is right up to trace k: tags 01 and 02, and the k traces before it.
-pub record RightUntil (s : List ℕ) (k : ℕ) : Type 0 where
-  pub head : HeadRight s
-  pub before : (i : ℕ) → i < k → TraceRight s i
-
--- All is right up to trace k, and another trace begins there: its tag is 03, and it is none beyond the 100,000th.
-pub record TraceNext (s : List ℕ) (k : ℕ) : Type 0 where
-  pub until : RightUntil s k
-  pub few : k < 100000
-  pub tag : getD s (tracePlace s k) 0 ≡ 3
-
--- All is right up to the end of t traces, and tag 05 should follow: no tag 03 does, or it would be that of trace 100,001.
-pub record EndNext (s : List ℕ) (t : ℕ) : Type 0 where
-  pub until : RightUntil s t
-  pub few : t ≤ 100000
-  pub end : (t ≡ 100000) ⊎ (¬ (getD s (tracePlace s t) 0 ≡ 3))
-
--- A valid record of t traces, to which neither 12 nor 13 applies: behind its traces tag 05 holds their count, and no byte comes after it.
-pub record RecordRight (s : List ℕ) (t : ℕ) : Type 0 where
-  pub end : EndNext s t
-  pub field : Stands s 5 4 (tracePlace s t)
-  pub count : number (bytesAt s (tracePlace s t + 3) 4) ≡ t
-  pub last : length s ≤ tracePlace s t + 7
 
 -- Sample j of trace k fits the target: some word of the code has the value of its pair.
 abbrev pub Fits : List ℕ → ℕ → ℕ → ℕ → Type 0
@@ -102,89 +43,61 @@ Fits s code k j = HasWord code (heldValue s (pairPlace s k j))
 -- ## The table
 
 -- The rows, in document 01's order: in which case each applies, its number, and what stands beside it. Traces k and pairs j are counted from 0.
-pub data WriteRow (s : List ℕ) (code room : ℕ) : ℕ → Place → Type 0 where
+pub data WriteRow (s : List ℕ) (code room : ℕ) : ℕ → ℕ → Type 0 where
   -- 11: the target code is not 1 to 4
-  bad-target : ¬ (Between 1 4 code) → WriteRow s code room 11 (atPlace 0)
+  bad-target : ¬ (Between 1 4 code) → WriteRow s code room 11 0
   -- 12: tag 01 doesn't stand at the front, whole and with its 3,200 bytes
-  no-cards : Between 1 4 code → ¬ (Stands s 1 3200 0) → WriteRow s code room 12 (atPlace 0)
+  no-cards : Between 1 4 code → ¬ (Stands s 1 3200 0) → WriteRow s code room 12 0
   -- 13: a card byte is 00, the first such
   bad-card : (j : ℕ) → Between 1 4 code → Stands s 1 3200 0 → j < 3200 → ((i : ℕ) → i < j → ¬ (getD s (3 + i) 0 ≡ 0)) → getD s (3 + j) 0 ≡ 0
-      → WriteRow s code room 13 (atPlace (3 + j))
+      → WriteRow s code room 13 (3 + j)
   -- 12: tag 02 doesn't stand behind it, whole and with its 60 bytes
-  no-binary : Between 1 4 code → CardsRight s → ¬ (Stands s 2 60 3203) → WriteRow s code room 12 (atPlace 3203)
+  no-binary : Between 1 4 code → CardsRight s → ¬ (Stands s 2 60 3203) → WriteRow s code room 12 3203
   -- 13: in tag 02, first an interval that is not 1 to 32,767
-  bad-interval : Between 1 4 code → CardsRight s → Stands s 2 60 3203 → ¬ (Between 1 32767 (heldInterval s)) → WriteRow s code room 13 (atPlace 3222)
+  bad-held-interval : Between 1 4 code → CardsRight s → Stands s 2 60 3203 → ¬ (Between 1 32767 (heldInterval s)) → WriteRow s code room 13 3222
   -- 13: then N that is not 1 to 8,000
-  bad-samples : Between 1 4 code → CardsRight s → Stands s 2 60 3203 → Between 1 32767 (heldInterval s) → ¬ (Between 1 8000 (heldSamples s))
-      → WriteRow s code room 13 (atPlace 3226)
+  bad-held-samples : Between 1 4 code → CardsRight s → Stands s 2 60 3203 → Between 1 32767 (heldInterval s) → ¬ (Between 1 8000 (heldSamples s))
+      → WriteRow s code room 13 3226
   -- 13: then a format code other than 0
-  bad-code : Between 1 4 code → CardsRight s → Stands s 2 60 3203 → Between 1 32767 (heldInterval s) → Between 1 8000 (heldSamples s) → ¬ (heldCode s ≡ 0)
-      → WriteRow s code room 13 (atPlace 3230)
+  bad-held-code : Between 1 4 code → CardsRight s → Stands s 2 60 3203 → Between 1 32767 (heldInterval s) → Between 1 8000 (heldSamples s) → ¬ (heldCode s ≡ 0)
+      → WriteRow s code room 13 3230
   -- 12: tag 03 of trace k is cut short or has a wrong length
-  no-header : (k : ℕ) → Between 1 4 code → TraceNext s k → ¬ (Stands s 3 180 (tracePlace s k)) → WriteRow s code room 12 (atPlace (tracePlace s k))
+  no-header : (k : ℕ) → Between 1 4 code → TraceNext s k → ¬ (Stands s 3 180 (tracePlace s k)) → WriteRow s code room 12 (tracePlace s k)
   -- 13: its field 115 is not N
-  bad-115 : (k : ℕ) → Between 1 4 code → TraceNext s k → Stands s 3 180 (tracePlace s k) → ¬ (word s (tracePlace s k + 117) ≡ heldSamples s)
-      → WriteRow s code room 13 (atPlace (tracePlace s k + 117))
+  bad-held-115 : (k : ℕ) → Between 1 4 code → TraceNext s k → Stands s 3 180 (tracePlace s k) → ¬ (word s (tracePlace s k + 117) ≡ heldSamples s)
+      → WriteRow s code room 13 (tracePlace s k + 117)
   -- 13: its field 117 is not the interval
-  bad-117 : (k : ℕ) → Between 1 4 code → TraceNext s k → Stands s 3 180 (tracePlace s k) → word s (tracePlace s k + 117) ≡ heldSamples s
+  bad-held-117 : (k : ℕ) → Between 1 4 code → TraceNext s k → Stands s 3 180 (tracePlace s k) → word s (tracePlace s k + 117) ≡ heldSamples s
       → ¬ (word s (tracePlace s k + 119) ≡ heldInterval s)
-      → WriteRow s code room 13 (atPlace (tracePlace s k + 119))
+      → WriteRow s code room 13 (tracePlace s k + 119)
   -- 12: tag 04 of trace k doesn't stand behind it, whole and with its 6N bytes
   no-samples : (k : ℕ) → Between 1 4 code → TraceNext s k → Stands s 3 180 (tracePlace s k) → word s (tracePlace s k + 117) ≡ heldSamples s
       → word s (tracePlace s k + 119) ≡ heldInterval s → ¬ (Stands s 4 (6 * heldSamples s) (tracePlace s k + 183))
-      → WriteRow s code room 12 (atPlace (tracePlace s k + 183))
+      → WriteRow s code room 12 (tracePlace s k + 183)
   -- 13: a pair of it isn't canonical, the first such
   bad-pair : (k j : ℕ) → Between 1 4 code → TraceNext s k → Stands s 3 180 (tracePlace s k) → word s (tracePlace s k + 117) ≡ heldSamples s
       → word s (tracePlace s k + 119) ≡ heldInterval s → Stands s 4 (6 * heldSamples s) (tracePlace s k + 183)
       → j < heldSamples s → ((i : ℕ) → i < j → CanonicalAt s (pairPlace s k i)) → ¬ (CanonicalAt s (pairPlace s k j))
-      → WriteRow s code room 13 (atPlace (pairPlace s k j))
+      → WriteRow s code room 13 (pairPlace s k j)
   -- 12: tag 05 does not stand behind t traces, whole and with its 4 bytes; another tag, so also that of trace 100,001, may stand there
-  no-end : (t : ℕ) → Between 1 4 code → EndNext s t → ¬ (Stands s 5 4 (tracePlace s t)) → WriteRow s code room 12 (atPlace (tracePlace s t))
+  no-end : (t : ℕ) → Between 1 4 code → EndNext s t → ¬ (Stands s 5 4 (tracePlace s t)) → WriteRow s code room 12 (tracePlace s t)
   -- 12: the count in tag 05 is not t, at its tag
   bad-count : (t : ℕ) → Between 1 4 code → EndNext s t → Stands s 5 4 (tracePlace s t) → ¬ (number (bytesAt s (tracePlace s t + 3) 4) ≡ t)
-      → WriteRow s code room 12 (atPlace (tracePlace s t))
+      → WriteRow s code room 12 (tracePlace s t)
   -- 12: bytes come after tag 05, at the first of them
   after : (t : ℕ) → Between 1 4 code → EndNext s t → Stands s 5 4 (tracePlace s t) → number (bytesAt s (tracePlace s t + 3) 4) ≡ t
       → tracePlace s t + 7 < length s
-      → WriteRow s code room 12 (atPlace (tracePlace s t + 7))
+      → WriteRow s code room 12 (tracePlace s t + 7)
   -- 14: a sample doesn't fit the target, the first such, at its pair
   unfit : (t k j : ℕ) → Between 1 4 code → RecordRight s t → k < t → j < heldSamples s → ((h i : ℕ) → h < k → i < heldSamples s → Fits s code h i)
       → ((i : ℕ) → i < j → Fits s code k i) → ¬ (Fits s code k j)
-      → WriteRow s code room 14 (atPlace (pairPlace s k j))
+      → WriteRow s code room 14 (pairPlace s k j)
   -- 10: the output is too short for the reel, with the reel's length
-  short : (t : ℕ) → Between 1 4 code → RecordRight s t → ((k j : ℕ) → k < t → j < heldSamples s → Fits s code k j)
+  short-output : (t : ℕ) → Between 1 4 code → RecordRight s t → ((k j : ℕ) → k < t → j < heldSamples s → Fits s code k j)
       → room < reelLength code t (heldSamples s)
-      → WriteRow s code room 10 (atPlace (reelLength code t (heldSamples s)))
+      → WriteRow s code room 10 (reelLength code t (heldSamples s))
 
--- ## The tests, one by one
-
--- A field at its place.
-test-field : (s : List ℕ) (tag size at : ℕ) → Tests (Stands s tag size at) 12 at (fieldCause s tag size at)
-test-field s tag size at =
-    test-by (Stands s tag size at) (isField s tag size at) 12 at there
-    (λ h. and-both (leb (at + (3 + size)) (length s)) _ (le-leb (at + (3 + size)) (length s) (h .whole)) (and-both (eqb (getD s at 0) tag) _ (eq-eqb (getD s at 0) tag (h .tag-is)) (eq-eqb (word s (at + 1)) size (h .size-is))))
-  where
-    there : isField s tag size at ≡ true → Stands s tag size at
-    there e =
-        let a = and-true (leb (at + (3 + size)) (length s)) _ e in
-        let b = and-true (eqb (getD s at 0) tag) _ (a .1) in
-        record {
-          whole = leb-true (at + (3 + size)) (length s) (a .0);
-          tag-is = eqb-true (getD s at 0) tag (b .0);
-          size-is = eqb-true (word s (at + 1)) size (b .1);
-        }
-
--- A card byte other than 00.
-test-card : (s : List ℕ) (at : ℕ) → Tests (¬ (getD s at 0 ≡ 0)) 13 at (cardCause s at)
-test-card s at = go (eqb (getD s at 0) 0) refl
-  where
-    go : (b : Bool) → eqb (getD s at 0) 0 ≡ b → Tests (¬ (getD s at 0 ≡ 0)) 13 at (refuseIf b 13 at)
-    go true e = inr (λ n. n (eqb-true (getD s at 0) 0 e), refl)
-    go false e = inl (eqb-false (getD s at 0) 0 e, refl)
-
--- A pair that is canonical.
-test-pair : (s : List ℕ) (at : ℕ) → Tests (CanonicalAt s at) 13 at (pairCause s at)
-test-pair s at = test-by (CanonicalAt s at) (isCanonical (pairIn (bytesAt s at pairLength))) 13 at (λ e. e) (λ e. e)
+-- ## The test of 14
 
 -- A canonical pair that fits the target.
 test-fit : (s : List ℕ) (code at : ℕ) → isCode code ≡ true → CanonicalAt s at → Tests (HasWord code (heldValue s at)) 14 at (fitCause s code at)
@@ -197,292 +110,27 @@ test-fit s code at h c = go (isUnfit (wordOf code (heldValue s at))) refl
     go true e = inr (λ w. apart (sym (both .1 w) ∙ e), refl)
     go false e = inl (both .0 e, refl)
 
--- ## Tags 01 and 02
-
-module _ (s : List ℕ) where
-  -- The card bytes along tag 01.
-  card-tests : (j : ℕ) → j < 3200 → Tests (¬ (getD s (3 + j) 0 ≡ 0)) 13 (3 + j) (cardCause s (3 + j * 1))
-  card-tests j l = rw (mul-one j) (test-card s (3 + j))
-
-  -- Where tag 01 is right, 12 and 13 find nothing in it.
-  cards-fine : CardsRight s → cardsCauses s ≡ Fine
-  unfolding cardsCauses
-  cards-fine h =
-      then-second (fieldCause s 1 3200 0) _ (fine-where (test-field s 1 3200 0) (h .cards))
-      (walk-fine (λ j. ¬ (getD s (3 + j) 0 ≡ 0)) 13 (cardCause s) 1 3200 3 (λ j. 3 + j) card-tests (h .card-bytes))
-
-  -- And where they find nothing in it, it is right.
-  cards-right : cardsCauses s ≡ Fine → CardsRight s
-  unfolding cardsCauses
-  cards-right e =
-      let a = then-fine (fieldCause s 1 3200 0) _ e in
-      record {
-        cards = holds-where (test-field s 1 3200 0) (a .0);
-        card-bytes = walk-holds (λ j. ¬ (getD s (3 + j) 0 ≡ 0)) 13 (cardCause s) 1 3200 3 (λ j. 3 + j) card-tests (a .1);
-      }
-
-  -- Where tag 02 is right, 12 and 13 find nothing in it.
-  head-fine : HeadRight s → binaryCauses s ≡ Fine
-  unfolding binaryCauses
-  head-fine h =
-      then-second (fieldCause s 2 60 3203) _ (fine-where (test-field s 2 60 3203) (h .binary))
-      (then-second _ _ (fine-where (test-between 1 mostInterval (heldInterval s) 13 3222) (h .interval))
-      (then-second _ _ (fine-where (test-between 1 mostSamples (heldSamples s) 13 3226) (h .samples))
-      (then-second _ _ (fine-where (test-same (heldCode s) 0 13 3230) (h .code)) refl)))
-
-  -- And where they find nothing in it, it is right.
-  head-right : CardsRight s → binaryCauses s ≡ Fine → HeadRight s
-  unfolding binaryCauses
-  head-right c e =
-      let d = then-fine (fieldCause s 2 60 3203) _ e in
-      let f = then-fine (refuseIf (not (within 1 mostInterval (heldInterval s))) 13 3222) _ (d .1) in
-      let g = then-fine (refuseIf (not (within 1 mostSamples (heldSamples s))) 13 3226) _ (f .1) in
-      let h = then-fine (refuseIf (not (eqb (heldCode s) 0)) 13 3230) _ (g .1) in
-      record {
-        front = c;
-        binary = holds-where (test-field s 2 60 3203) (d .0);
-        interval = holds-where (test-between 1 mostInterval (heldInterval s) 13 3222) (f .0);
-        samples = holds-where (test-between 1 mostSamples (heldSamples s) 13 3226) (g .0);
-        code = holds-where (test-same (heldCode s) 0 13 3230) (h .0);
-      }
-
--- ## Traces
-
--- The checks of the trace at a place, with the N and interval that the record holds.
-abbrev formAt : List ℕ → ℕ → Check
-formAt s at = traceForm s (heldSamples s) (heldInterval s) at
-
-module _ (s : List ℕ) (k : ℕ) where
-  -- The pairs along tag 04.
-  pair-tests : (j : ℕ) → j < heldSamples s → Tests (CanonicalAt s (pairPlace s k j)) 13 (pairPlace s k j) (pairCause s (tracePlace s k + 183 + 3 + j * pairLength))
-  pair-tests j l =
-      let e : tracePlace s k + 183 + 3 + j * pairLength ≡ pairPlace s k j = omega arith in
-      rw e (test-pair s (pairPlace s k j))
-
-  -- Where a trace is right, 12 and 13 find nothing in it.
-  trace-fine : TraceRight s k → formAt s (tracePlace s k) ≡ Fine
-  unfolding traceForm samplesCauses
-  trace-fine h =
-      then-second _ _ (fine-where (test-field s 3 180 (tracePlace s k)) (h .header))
-      (then-second _ _ (fine-where (test-same (word s (tracePlace s k + 117)) (heldSamples s) 13 (tracePlace s k + 117)) (h .count))
-      (then-second _ _ (fine-where (test-same (word s (tracePlace s k + 119)) (heldInterval s) 13 (tracePlace s k + 119)) (h .interval))
-      (then-second _ _ (fine-where (test-field s 4 (6 * heldSamples s) (tracePlace s k + 183)) (h .samples))
-      (walk-fine (λ j. CanonicalAt s (pairPlace s k j)) 13 (pairCause s) pairLength (heldSamples s) (tracePlace s k + 183 + 3) (pairPlace s k) pair-tests (h .pairs)))))
-
-  -- And where they find nothing in it, it is right.
-  trace-right : formAt s (tracePlace s k) ≡ Fine → TraceRight s k
-  unfolding traceForm samplesCauses
-  trace-right e =
-      let n = heldSamples s in
-      let i = heldInterval s in
-      let at = tracePlace s k in
-      let a = then-fine (fieldCause s 3 180 at) _ e in
-      let b = then-fine (refuseIf (not (eqb (word s (at + 117)) n)) 13 (at + 117)) _ (a .1) in
-      let c = then-fine (refuseIf (not (eqb (word s (at + 119)) i)) 13 (at + 119)) _ (b .1) in
-      let d = then-fine (fieldCause s 4 (pairLength * n) (at + 183)) _ (c .1) in
-      record {
-        header = holds-where (test-field s 3 180 at) (a .0);
-        count = holds-where (test-same (word s (at + 117)) n 13 (at + 117)) (b .0);
-        interval = holds-where (test-same (word s (at + 119)) i 13 (at + 119)) (c .0);
-        samples = holds-where (test-field s 4 (6 * n) (at + 183)) (d .0);
-        pairs = walk-holds (λ j. CanonicalAt s (pairPlace s k j)) 13 (pairCause s) pairLength n (at + 183 + 3) (pairPlace s k) pair-tests (d .1);
-      }
-
--- ## How many traces there are
-
--- k tags 03, w bytes apart, are counted before those behind them.
-tags-more : (most : ℕ) (s : List ℕ) (w at k : ℕ) → k ≤ most → ((j : ℕ) → j < k → getD s (at + j * w) 0 ≡ 3)
-    → tagsFrom most s w at ≡ k + tagsFrom (most - k) s w (at + k * w)
-unfolding tagsFrom
-tags-more most s w at zero h t =
-    let a : at + 0 * w ≡ at = rw (zero-mul, add-zero) in
-    let b : most - 0 ≡ most = omega arith in
-    rw (a, b) (omega arith)
-tags-more zero s w at (suc k) h t = absurd (not-suc-le-zero h)
-tags-more (suc most) s w at (suc k) h t =
-    let a : at + 0 * w ≡ at = rw (zero-mul, add-zero) in
-    let b : at + w + k * w ≡ at + suc k * w = rw suc-mul (omega arith) in
-    let c : suc most - suc k ≡ most - k = omega arith in
-    let here : getD s at 0 ≡ 3 = ap (λ (x : ℕ). getD s x 0) (sym a) ∙ t 0 (omega arith) in
-    let rest = tags-more most s w (at + w) k (omega arith) (λ j l. ap (λ (x : ℕ). getD s x 0) (next j) ∙ t (suc j) (omega arith)) in
-    rw (eq-eqb (getD s at 0) 3 here, c, sym b) (omega (arith, rest))
-  where
-    next : (j : ℕ) → at + w + j * w ≡ at + suc j * w
-    next j = rw suc-mul (omega arith)
-
--- One tag 03 more is counted, where there is room for it.
-tags-next : (most : ℕ) (s : List ℕ) (w at : ℕ) → 0 < most → getD s at 0 ≡ 3 → 0 < tagsFrom most s w at
-unfolding tagsFrom
-tags-next zero s w at h t = absurd (not-suc-le-zero h)
-tags-next (suc most) s w at h t = rw (eq-eqb (getD s at 0) 3 t) (omega arith)
-
--- None is counted where another byte stands, or there is no room.
-tags-none : (most : ℕ) (s : List ℕ) (w at : ℕ) → (most ≡ 0) ⊎ (¬ (getD s at 0 ≡ 3)) → tagsFrom most s w at ≡ 0
-unfolding tagsFrom
-tags-none zero s w at h = refl
-tags-none (suc most) s w at (inl e) = absurd (let z : suc most ≡ 0 = e in omega arith)
-tags-none (suc most) s w at (inr n) = rw (ne-eqb (getD s at 0) 3 n)
-
--- Each tag that is counted is 03.
-tags-are : (most : ℕ) (s : List ℕ) (w at j : ℕ) → j < tagsFrom most s w at → getD s (at + j * w) 0 ≡ 3
-unfolding tagsFrom
-tags-are zero s w at j h = absurd (not-suc-le-zero h)
-tags-are (suc most) s w at j h = go (λ i l. tags-are most s w (at + w) i l) (eqb (getD s at 0) 3) refl j h
-  where
-    go : ((i : ℕ) → i < tagsFrom most s w (at + w) → getD s (at + w + i * w) 0 ≡ 3)
-        → (b : Bool) → eqb (getD s at 0) 3 ≡ b → (j : ℕ) → j < pick b (suc (tagsFrom most s w (at + w))) 0 → getD s (at + j * w) 0 ≡ 3
-    go rest false e j h = absurd (not-suc-le-zero h)
-    go rest true e zero h =
-        let a : at + 0 * w ≡ at = rw (zero-mul, add-zero) in
-        rw a (eqb-true (getD s at 0) 3 e)
-    go rest true e (suc j) h =
-        let b : at + suc j * w ≡ at + w + j * w = rw suc-mul (omega arith) in
-        rw b (rest j (omega arith))
-
--- Behind the tags that are counted stands another byte, or there is no room for more.
-tags-end : (most : ℕ) (s : List ℕ) (w at : ℕ) → (tagsFrom most s w at ≡ most) ⊎ (¬ (getD s (at + tagsFrom most s w at * w) 0 ≡ 3))
-unfolding tagsFrom
-tags-end zero s w at = inl refl
-tags-end (suc most) s w at = go (eqb (getD s at 0) 3) refl (tags-end most s w (at + w))
-  where
-    c : ℕ
-    c = tagsFrom most s w (at + w)
-
-    go : (b : Bool) → eqb (getD s at 0) 3 ≡ b → (c ≡ most) ⊎ (¬ (getD s (at + w + c * w) 0 ≡ 3))
-        → (pick b (suc c) 0 ≡ suc most) ⊎ (¬ (getD s (at + pick b (suc c) 0 * w) 0 ≡ 3))
-    go true e (inl h) = inl (ap suc h)
-    go true e (inr h) =
-        let b : at + suc c * w ≡ at + w + c * w = rw suc-mul (omega arith) in
-        inr (λ q. h (ap (λ (x : ℕ). getD s x 0) (sym b) ∙ q))
-    go false e h =
-        let a : at + 0 * w ≡ at = rw (zero-mul, add-zero) in
-        inr (λ q. eqb-false (getD s at 0) 3 e (ap (λ (x : ℕ). getD s x 0) (sym a) ∙ q))
-
--- The traces that a record holds, by the tags 03 that follow each other.
-abbrev countIn : List ℕ → ℕ
-countIn s = heldTraces s (heldSamples s)
-
-module _ (s : List ℕ) where
-  -- The tags of the traces up to trace k are 03.
-  tags-until : (k : ℕ) → RightUntil s k → (j : ℕ) → j < k → getD s (tracePlace s j) 0 ≡ 3
-  tags-until k h j l = h .before j l .header .tag-is
-
-  -- Where another trace begins behind k traces, more than k are counted.
-  next-counted : (k : ℕ) → TraceNext s k → k < countIn s
-  next-counted k h =
-      let w = heldStride (heldSamples s) in
-      let few : k < mostTraces = h .few in
-      let all = tags-more mostTraces s w firstField k (omega arith) (tags-until k (h .until)) in
-      let one = tags-next (mostTraces - k) s w (tracePlace s k) (omega arith) (h .tag) in
-      omega arith
-
-  -- Where tag 05 should follow t traces, t are counted.
-  end-counted : (t : ℕ) → EndNext s t → countIn s ≡ t
-  end-counted t h =
-      let w = heldStride (heldSamples s) in
-      let few : t ≤ mostTraces = h .few in
-      let all = tags-more mostTraces s w firstField t (omega arith) (tags-until t (h .until)) in
-      let none = tags-none (mostTraces - t) s w (tracePlace s t) (⊎-elim (λ e. inl (full e)) (λ n. inr n) (h .end)) in
-      omega arith
-    where
-      full : t ≡ 100000 → mostTraces - t ≡ 0
-      full e = omega arith
-
-  -- The traces up to trace t are right, as far as they are looked at.
-  until-fine : (t : ℕ) → RightUntil s t → firstOf (walk (formAt s) (heldStride (heldSamples s)) t firstField) ≡ Fine
-  until-fine t h = none-of (formAt s) (heldStride (heldSamples s)) t firstField (λ j l. trace-fine s j (h .before j l))
-
-  -- Where the traces that are counted are all right, tag 05 should follow them.
-  end-next : HeadRight s → firstOf (walk (formAt s) (heldStride (heldSamples s)) (countIn s) firstField) ≡ Fine → EndNext s (countIn s)
-  end-next h e =
-      let w = heldStride (heldSamples s) in
-      record {
-        until = record { head = h; before = λ i l. trace-right s i (none-is (formAt s) w (countIn s) firstField e i l) };
-        few = tags-most mostTraces s w firstField;
-        end = tags-end mostTraces s w firstField;
-      }
-
-  -- A trace that is counted, behind traces that are all right.
-  trace-next : HeadRight s → (k : ℕ) → k < countIn s → ((i : ℕ) → i < k → formAt s (tracePlace s i) ≡ Fine) → TraceNext s k
-  trace-next h k l b =
-      let w = heldStride (heldSamples s) in
-      let most = tags-most mostTraces s w firstField in
-      record {
-        until = record { head = h; before = λ i m. trace-right s i (b i m) };
-        few = omega arith;
-        tag = tags-are mostTraces s w firstField k l;
-      }
-
-  -- ## The end
-
-  -- At the end of a valid record 12 finds nothing.
-  end-fine : (t : ℕ) → RecordRight s t → endCauses s t (tracePlace s t) ≡ Fine
-  end-fine t h =
-      then-second _ _ (fine-where (test-field s 5 4 (tracePlace s t)) (h .field))
-      (then-second _ _ (fine-where (test-same (number (bytesAt s (tracePlace s t + 3) 4)) t 12 (tracePlace s t)) (h .count))
-      (then-second _ _ (fine-where (test-room (tracePlace s t + 7) (length s) 12 (tracePlace s t + 7)) (h .last)) refl))
-
-  -- And where it finds nothing at the end, the record is valid.
-  end-right : (t : ℕ) → EndNext s t → endCauses s t (tracePlace s t) ≡ Fine → RecordRight s t
-  end-right t h e =
-      let at = tracePlace s t in
-      let k = then-fine (fieldCause s 5 4 at) _ e in
-      let l = then-fine (refuseIf (not (eqb (number (bytesAt s (at + 3) 4)) t)) 12 at) _ (k .1) in
-      let m = then-fine (refuseIf (ltb (at + 7) (length s)) 12 (at + 7)) _ (l .1) in
-      record {
-        end = h;
-        field = holds-where (test-field s 5 4 at) (k .0);
-        count = holds-where (test-same (number (bytesAt s (at + 3) 4)) t 12 at) (l .0);
-        last = holds-where (test-room (at + 7) (length s) 12 (at + 7)) (m .0);
-      }
-
-  -- ## The whole record
-
-  -- Behind traces that are all right, the answer is that of the end.
-  body-end : (t : ℕ) → EndNext s t → {x : Check} → endCauses s t (tracePlace s t) ≡ x → bodyCauses s (heldSamples s) (heldInterval s) (countIn s) ≡ x
-  unfolding bodyCauses
-  body-end t h e = ap (bodyCauses s (heldSamples s) (heldInterval s)) (end-counted t h) ∙ then-second _ _ (until-fine t (h .until)) e
-
-  -- Behind tags 01 and 02 that are right, the answer is that of the traces and the end.
-  form-body : HeadRight s → {x : Check} → bodyCauses s (heldSamples s) (heldInterval s) (countIn s) ≡ x → formCauses s ≡ x
-  unfolding formCauses
-  form-body h e = then-second _ _ (cards-fine s (h .front)) (then-second _ _ (head-fine s h) e)
-
-  -- A valid record is refused by neither 12 nor 13.
-  pub record-fine : (t : ℕ) → RecordRight s t → formCauses s ≡ Fine
-  record-fine t h = form-body (h .end .until .head) (body-end t (h .end) (end-fine t h))
-
-  -- A record that neither refuses is valid, with the traces that are counted.
-  pub record-right : formCauses s ≡ Fine → RecordRight s (countIn s)
-  unfolding formCauses bodyCauses
-  record-right e =
-      let a = then-fine (cardsCauses s) _ e in
-      let b = then-fine (binaryCauses s) _ (a .1) in
-      let h = head-right s (cards-right s (a .0)) (b .0) in
-      let c = then-fine (firstOf (walk (formAt s) (heldStride (heldSamples s)) (countIn s) firstField)) _ (b .1) in
-      end-right (countIn s) (end-next h (c .0)) (c .1)
-
 -- ## From the rows to the causes
 
 module _ (s : List ℕ) (code room : ℕ) where
   -- Under a target code of 1 to 4, what 12 or 13 refuses is refused.
-  from-form : {n : ℕ} {p : Place} → Between 1 4 code → formCauses s ≡ Refused n p → writeCauses s code room ≡ Refused n p
+  from-form : {n p : ℕ} → Between 1 4 code → formCauses s ≡ Refused n (atPlace p) → writeCauses s code room ≡ Refused n (atPlace p)
   unfolding targetCauses
   from-form g e =
       then-first (targetCauses s code) _ (then-second _ _ (fine-where (test-between 1 4 code 11 0) g) (then-first (formCauses s) _ e))
 
   -- So for tag 01.
-  from-cards : {n : ℕ} {p : Place} → Between 1 4 code → cardsCauses s ≡ Refused n p → writeCauses s code room ≡ Refused n p
+  from-cards : {n p : ℕ} → Between 1 4 code → cardsCauses s ≡ Refused n (atPlace p) → writeCauses s code room ≡ Refused n (atPlace p)
   unfolding formCauses
   from-cards g e = from-form g (then-first (cardsCauses s) _ e)
 
   -- So for tag 02, where tag 01 is right.
-  from-binary : {n : ℕ} {p : Place} → Between 1 4 code → CardsRight s → binaryCauses s ≡ Refused n p → writeCauses s code room ≡ Refused n p
+  from-binary : {n p : ℕ} → Between 1 4 code → CardsRight s → binaryCauses s ≡ Refused n (atPlace p) → writeCauses s code room ≡ Refused n (atPlace p)
   unfolding formCauses
   from-binary g h e = from-form g (then-second _ _ (cards-fine s h) (then-first (binaryCauses s) _ e))
 
   -- So for trace k, where all is right up to it.
-  from-trace : {n : ℕ} {p : Place} (k : ℕ) → Between 1 4 code → TraceNext s k → formAt s (tracePlace s k) ≡ Refused n p → writeCauses s code room ≡ Refused n p
+  from-trace : {n p : ℕ} (k : ℕ) → Between 1 4 code → TraceNext s k → formAt s (tracePlace s k) ≡ Refused n (atPlace p) → writeCauses s code room ≡ Refused n (atPlace p)
   unfolding bodyCauses
   from-trace {n} {p} k g h e =
       from-form g
@@ -490,7 +138,7 @@ module _ (s : List ℕ) (code room : ℕ) where
       (then-first _ _ (first-of (formAt s) (heldStride (heldSamples s)) (countIn s) firstField n p (record { j = k; below = next-counted s k h; before = λ i l. trace-fine s i (h .until .before i l); here = e }))))
 
   -- So for the end, where all is right up to it.
-  from-end : {n : ℕ} {p : Place} (t : ℕ) → Between 1 4 code → EndNext s t → endCauses s t (tracePlace s t) ≡ Refused n p → writeCauses s code room ≡ Refused n p
+  from-end : {n p : ℕ} (t : ℕ) → Between 1 4 code → EndNext s t → endCauses s t (tracePlace s t) ≡ Refused n (atPlace p) → writeCauses s code room ≡ Refused n (atPlace p)
   from-end t g h e = from-form g (form-body s (h .until .head) (body-end s t h e))
 
   -- The samples of trace k of a valid record, by whether they fit.
@@ -544,7 +192,7 @@ module _ (s : List ℕ) (code room : ℕ) where
   unfolding fitCauses traceFit
   from-unfit t k j g h l m f b n =
       let size = heldSamples s in
-      first-of (traceFit s code size) (heldStride size) t firstField 14 (atPlace (pairPlace s k j))
+      first-of (traceFit s code size) (heldStride size) t firstField 14 (pairPlace s k j)
       (record {
         j = k;
         below = l;
@@ -553,7 +201,7 @@ module _ (s : List ℕ) (code room : ℕ) where
       })
 
   -- Each row is the answer where it applies: all that comes before it finds nothing, and its own test refuses.
-  from-row : {n : ℕ} {p : Place} → WriteRow s code room n p → writeCauses s code room ≡ Refused n p
+  from-row : {n p : ℕ} → WriteRow s code room n p → writeCauses s code room ≡ Refused n (atPlace p)
   unfolding targetCauses cardsCauses binaryCauses traceForm samplesCauses
   from-row (bad-target h) = then-first (targetCauses s code) _ (then-first _ _ (refused-where (test-between 1 4 code 11 0) h))
   from-row (no-cards g h) = from-cards g (then-first (fieldCause s 1 3200 0) _ (refused-where (test-field s 1 3200 0) h))
@@ -562,27 +210,27 @@ module _ (s : List ℕ) (code room : ℕ) where
       (then-second _ _ (fine-where (test-field s 1 3200 0) c)
       (walk-refused (λ i. ¬ (getD s (3 + i) 0 ≡ 0)) 13 (cardCause s) 1 3200 3 (λ i. 3 + i) (card-tests s) j l b (λ n. n z)))
   from-row (no-binary g c h) = from-binary g c (then-first (fieldCause s 2 60 3203) _ (refused-where (test-field s 2 60 3203) h))
-  from-row (bad-interval g c f h) =
+  from-row (bad-held-interval g c f h) =
       from-binary g c
       (then-second _ _ (fine-where (test-field s 2 60 3203) f)
       (then-first _ _ (refused-where (test-between 1 mostInterval (heldInterval s) 13 3222) h)))
-  from-row (bad-samples g c f i h) =
+  from-row (bad-held-samples g c f i h) =
       from-binary g c
       (then-second _ _ (fine-where (test-field s 2 60 3203) f)
       (then-second _ _ (fine-where (test-between 1 mostInterval (heldInterval s) 13 3222) i)
       (then-first _ _ (refused-where (test-between 1 mostSamples (heldSamples s) 13 3226) h))))
-  from-row (bad-code g c f i m h) =
+  from-row (bad-held-code g c f i m h) =
       from-binary g c
       (then-second _ _ (fine-where (test-field s 2 60 3203) f)
       (then-second _ _ (fine-where (test-between 1 mostInterval (heldInterval s) 13 3222) i)
       (then-second _ _ (fine-where (test-between 1 mostSamples (heldSamples s) 13 3226) m)
       (then-first _ _ (refused-where (test-same (heldCode s) 0 13 3230) h)))))
   from-row (no-header k g t h) = from-trace k g t (then-first _ _ (refused-where (test-field s 3 180 (tracePlace s k)) h))
-  from-row (bad-115 k g t f h) =
+  from-row (bad-held-115 k g t f h) =
       from-trace k g t
       (then-second _ _ (fine-where (test-field s 3 180 (tracePlace s k)) f)
       (then-first _ _ (refused-where (test-same (word s (tracePlace s k + 117)) (heldSamples s) 13 (tracePlace s k + 117)) h)))
-  from-row (bad-117 k g t f c h) =
+  from-row (bad-held-117 k g t f c h) =
       from-trace k g t
       (then-second _ _ (fine-where (test-field s 3 180 (tracePlace s k)) f)
       (then-second _ _ (fine-where (test-same (word s (tracePlace s k + 117)) (heldSamples s) 13 (tracePlace s k + 117)) c)
@@ -609,14 +257,14 @@ module _ (s : List ℕ) (code room : ℕ) where
       from-end t g e
       (then-second _ _ (fine-where (test-field s 5 4 (tracePlace s t)) f)
       (then-second _ _ (fine-where (test-same (number (bytesAt s (tracePlace s t + 3) 4)) t 12 (tracePlace s t)) c)
-      (then-first _ _ (ap (λ (b : Bool). refuseIf b 12 (tracePlace s t + 7)) (lt-ltb (tracePlace s t + 7) (length s) h)))))
+      (then-first _ _ (refused-where (test-room (tracePlace s t + 7) (length s) 12 (tracePlace s t + 7)) (too-short (tracePlace s t + 7) (length s) h)))))
   from-row (unfit t k j g h l m f b n) =
       then-first (targetCauses s code) _ (from-fits t g h (from-unfit t k j g h l m f b n))
-  from-row (short t g h f l) =
+  from-row (short-output t g h f l) =
       let size = reelLength code t (heldSamples s) in
       then-second _ _ (from-fits t g h (all-fit t g h f))
       (ap (λ (x : ℕ). refuseIf (ltb room (reelLength code x (heldSamples s))) 10 (reelLength code x (heldSamples s))) (end-counted s t (h .end))
-      ∙ ap (λ (b : Bool). refuseIf b 10 size) (lt-ltb room size l))
+      ∙ refused-where (test-room room size 10 size) (too-short room size l))
 
 -- ## From the causes to the rows
 
@@ -625,9 +273,9 @@ not-other : (x : ℕ) → ¬ (¬ (x ≡ 0)) → x ≡ 0
 not-other zero h = refl
 not-other (suc x) h = absurd (h (λ e. absurd (let z : suc x ≡ 0 = e in omega arith)))
 
-module _ (s : List ℕ) (code room : ℕ) {n : ℕ} {p : Place} (g : Between 1 4 code) where
+module _ (s : List ℕ) (code room : ℕ) {n p : ℕ} (g : Between 1 4 code) where
   -- What is refused in tag 01 has its row.
-  to-cards : cardsCauses s ≡ Refused n p → WriteRow s code room n p
+  to-cards : cardsCauses s ≡ Refused n (atPlace p) → WriteRow s code room n p
   unfolding cardsCauses
   to-cards =
       then-row (WriteRow s code room) (fieldCause s 1 3200 0) _ (row-where (test-field s 1 3200 0) (WriteRow s code room) (no-cards g))
@@ -635,7 +283,7 @@ module _ (s : List ℕ) (code room : ℕ) {n : ℕ} {p : Place} (g : Between 1 4
       (λ j l b h. bad-card j g (holds-where (test-field s 1 3200 0) e) l b (not-other (getD s (3 + j) 0) h)))
 
   -- What is refused in tag 02 has its row, where tag 01 is right.
-  to-binary : CardsRight s → binaryCauses s ≡ Refused n p → WriteRow s code room n p
+  to-binary : CardsRight s → binaryCauses s ≡ Refused n (atPlace p) → WriteRow s code room n p
   unfolding binaryCauses
   to-binary c =
       let i = test-between 1 mostInterval (heldInterval s) 13 3222 in
@@ -644,14 +292,14 @@ module _ (s : List ℕ) (code room : ℕ) {n : ℕ} {p : Place} (g : Between 1 4
       let f = test-field s 2 60 3203 in
       then-row (WriteRow s code room) (fieldCause s 2 60 3203) _ (row-where f (WriteRow s code room) (no-binary g c))
       (λ e. let field = holds-where f e in
-      then-row (WriteRow s code room) (refuseIf (not (within 1 mostInterval (heldInterval s))) 13 3222) _ (row-where i (WriteRow s code room) (bad-interval g c field))
+      then-row (WriteRow s code room) (refuseIf (not (within 1 mostInterval (heldInterval s))) 13 3222) _ (row-where i (WriteRow s code room) (bad-held-interval g c field))
       (λ q. let interval = holds-where i q in
-      then-row (WriteRow s code room) (refuseIf (not (within 1 mostSamples (heldSamples s))) 13 3226) _ (row-where m (WriteRow s code room) (bad-samples g c field interval))
-      (λ r. then-row (WriteRow s code room) (refuseIf (not (eqb (heldCode s) 0)) 13 3230) _ (row-where z (WriteRow s code room) (bad-code g c field interval (holds-where m r)))
+      then-row (WriteRow s code room) (refuseIf (not (within 1 mostSamples (heldSamples s))) 13 3226) _ (row-where m (WriteRow s code room) (bad-held-samples g c field interval))
+      (λ r. then-row (WriteRow s code room) (refuseIf (not (eqb (heldCode s) 0)) 13 3230) _ (row-where z (WriteRow s code room) (bad-held-code g c field interval (holds-where m r)))
       (λ x y. absurd (not-fine (sym y))))))
 
   -- What is refused in trace k has its row, where all is right up to it.
-  to-trace : (k : ℕ) → TraceNext s k → formAt s (tracePlace s k) ≡ Refused n p → WriteRow s code room n p
+  to-trace : (k : ℕ) → TraceNext s k → formAt s (tracePlace s k) ≡ Refused n (atPlace p) → WriteRow s code room n p
   unfolding traceForm samplesCauses
   to-trace k t =
       let at = tracePlace s k in
@@ -662,16 +310,16 @@ module _ (s : List ℕ) (code room : ℕ) {n : ℕ} {p : Place} (g : Between 1 4
       let d = test-field s 4 (6 * size) (at + 183) in
       then-row (WriteRow s code room) (fieldCause s 3 180 at) _ (row-where f (WriteRow s code room) (no-header k g t))
       (λ e. let header = holds-where f e in
-      then-row (WriteRow s code room) (refuseIf (not (eqb (word s (at + 117)) size)) 13 (at + 117)) _ (row-where c (WriteRow s code room) (bad-115 k g t header))
+      then-row (WriteRow s code room) (refuseIf (not (eqb (word s (at + 117)) size)) 13 (at + 117)) _ (row-where c (WriteRow s code room) (bad-held-115 k g t header))
       (λ q. let count = holds-where c q in
-      then-row (WriteRow s code room) (refuseIf (not (eqb (word s (at + 119)) (heldInterval s))) 13 (at + 119)) _ (row-where i (WriteRow s code room) (bad-117 k g t header count))
+      then-row (WriteRow s code room) (refuseIf (not (eqb (word s (at + 119)) (heldInterval s))) 13 (at + 119)) _ (row-where i (WriteRow s code room) (bad-held-117 k g t header count))
       (λ r. let interval = holds-where i r in
       then-row (WriteRow s code room) (fieldCause s 4 (6 * size) (at + 183)) _ (row-where d (WriteRow s code room) (no-samples k g t header count interval))
       (λ x. walk-row (λ j. CanonicalAt s (pairPlace s k j)) 13 (pairCause s) pairLength size (at + 183 + 3) (pairPlace s k) (pair-tests s k) (WriteRow s code room)
       (λ j l b h. bad-pair k j g t header count interval (holds-where d x) l b h)))))
 
   -- What is refused at the end has its row, where all is right up to it.
-  to-end : (t : ℕ) → EndNext s t → endCauses s t (tracePlace s t) ≡ Refused n p → WriteRow s code room n p
+  to-end : (t : ℕ) → EndNext s t → endCauses s t (tracePlace s t) ≡ Refused n (atPlace p) → WriteRow s code room n p
   to-end t h =
       let at = tracePlace s t in
       let f = test-field s 5 4 at in
@@ -684,7 +332,7 @@ module _ (s : List ℕ) (code room : ℕ) {n : ℕ} {p : Place} (g : Between 1 4
       (λ x y. absurd (not-fine (sym y)))))
 
   -- What is refused behind tags 01 and 02 has its row, where these are right.
-  to-body : HeadRight s → bodyCauses s (heldSamples s) (heldInterval s) (countIn s) ≡ Refused n p → WriteRow s code room n p
+  to-body : HeadRight s → bodyCauses s (heldSamples s) (heldInterval s) (countIn s) ≡ Refused n (atPlace p) → WriteRow s code room n p
   unfolding bodyCauses
   to-body h =
       let w = heldStride (heldSamples s) in
@@ -694,7 +342,7 @@ module _ (s : List ℕ) (code room : ℕ) {n : ℕ} {p : Place} (g : Between 1 4
       (λ e. to-end (countIn s) (end-next s h e))
 
   -- What 12 or 13 refuses has its row.
-  to-form : formCauses s ≡ Refused n p → WriteRow s code room n p
+  to-form : formCauses s ≡ Refused n (atPlace p) → WriteRow s code room n p
   unfolding formCauses
   to-form =
       then-row (WriteRow s code room) (cardsCauses s) _ to-cards
@@ -702,7 +350,7 @@ module _ (s : List ℕ) (code room : ℕ) {n : ℕ} {p : Place} (g : Between 1 4
       then-row (WriteRow s code room) (binaryCauses s) _ (to-binary c) (λ q. to-body (head-right s c q)))
 
   -- What 14 refuses in a valid record has its row.
-  to-fits : (t : ℕ) → RecordRight s t → fitsOver s code room t ≡ Refused n p → WriteRow s code room n p
+  to-fits : (t : ℕ) → RecordRight s t → fitsOver s code room t ≡ Refused n (atPlace p) → WriteRow s code room n p
   unfolding fitCauses traceFit
   to-fits t h e =
       let size = heldSamples s in
@@ -714,7 +362,7 @@ module _ (s : List ℕ) (code room : ℕ) {n : ℕ} {p : Place} (g : Between 1 4
 
 module _ (s : List ℕ) (code room : ℕ) where
   -- What is refused has its row: the first that applies.
-  to-row : {n : ℕ} {p : Place} → writeCauses s code room ≡ Refused n p → WriteRow s code room n p
+  to-row : {n p : ℕ} → writeCauses s code room ≡ Refused n (atPlace p) → WriteRow s code room n p
   unfolding targetCauses
   to-row {n} {p} =
       let row = WriteRow s code room in
@@ -728,24 +376,17 @@ module _ (s : List ℕ) (code room : ℕ) where
       let b = then-fine (formCauses s) _ (a .1) in
       let g = holds-where target (a .0) in
       let h = record-right s (b .0) in
-      row-where (test-room room size 10 size) row (λ m. short (countIn s) g h (fit-all s code room (countIn s) g h (b .1)) (not-enough room size m)))
+      row-where (test-room room size 10 size) row (λ m. short-output (countIn s) g h (fit-all s code room (countIn s) g h (b .1)) (not-enough room size m)))
 
 -- THEOREM. Writing is refused by a number, with what stands beside it, exactly when that row of the table applies.
-pub exact-writing : (s : List ℕ) (code room number : ℕ) (place : Place) → Iff (writeCauses s code room ≡ Refused number place) (WriteRow s code room number place)
+pub exact-writing : (s : List ℕ) (code room number place : ℕ) → Iff (writeCauses s code room ≡ Refused number (atPlace place)) (WriteRow s code room number place)
 exact-writing s code room number place = (to-row s code room, from-row s code room)
 
 -- THEOREM. Writing has no cause against it exactly when no row of the table applies.
-pub no-writing-cause : (s : List ℕ) (code room : ℕ) → Iff (writeCauses s code room ≡ Fine) ((number : ℕ) (place : Place) → ¬ (WriteRow s code room number place))
-no-writing-cause s code room = (none, fine (writeCauses s code room) refl)
-  where
-    none : writeCauses s code room ≡ Fine → (number : ℕ) (place : Place) → ¬ (WriteRow s code room number place)
-    none e number place r = not-fine (sym (from-row s code room r) ∙ e)
+pub no-writing-cause : (s : List ℕ) (code room : ℕ) → Iff (writeCauses s code room ≡ Fine) ((number place : ℕ) → ¬ (WriteRow s code room number place))
+no-writing-cause s code room = fine-none (WriteRow s code room) (writeCauses s code room) (exact-writing s code room)
 
-    fine : (c : Check) → writeCauses s code room ≡ c → ((number : ℕ) (place : Place) → ¬ (WriteRow s code room number place)) → writeCauses s code room ≡ Fine
-    fine Fine e h = e
-    fine (Refused number place) e h = absurd (h number place (to-row s code room e))
-
--- THEOREM. Where 100,000 traces stand and are right, and trace 100,001 follows them, writing is refused by 12 at the place of its tag.
+-- LAW. Where 100,000 traces stand and are right, and trace 100,001 follows them, writing is refused by 12 at the place of its tag.
 pub trace-beyond : (s : List ℕ) (code room : ℕ) → Between 1 4 code → RightUntil s 100000 → getD s (tracePlace s 100000) 0 ≡ 3
     → writeCauses s code room ≡ Refused 12 (atPlace (tracePlace s 100000))
 trace-beyond s code room g h tag =

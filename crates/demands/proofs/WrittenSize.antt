@@ -74,7 +74,7 @@ trace-size s code n at =
     let d : length {A = ℕ} (replicate 60 0) ≡ 60 = refl in
     omega (arith, a, b, c, d, fields-size s (at + 3))
 
--- THEOREM. The reel that is written is as long as the length returned: 3600 + T × (240 + N × the bytes of a sample).
+-- LAW. The reel that is written is as long as the length returned: 3600 + T × (240 + N × the bytes of a sample).
 pub reel-size : (s : List ℕ) (code : ℕ) → length (reelOf code (heldBy s)) ≡ lengthOf s code
 unfolding reelOf heldBy
 reel-size s code =

@@ -5,7 +5,7 @@ use Rattle.numbers.specs.Outcome.{taken, refused}
 use Rattle.line.specs.Decimal.{digitsIn, decimalOf}
 use Rattle.line.specs.Line.{lineOf}
 
--- The text `taken 1 2 3471`. The reel of document 01's example, which the gate's run of the program answers so, stands in check_reel/stdin.
+-- `taken 1 2 3471`, the line of document 01's example.
 pub taken-line : lineOf (taken (1 ∷ 2 ∷ 3471 ∷ []))
     ≡ 116 ∷ 97 ∷ 107 ∷ 101 ∷ 110 ∷ 32 ∷ 49 ∷ 32 ∷ 50 ∷ 32 ∷ 51 ∷ 52 ∷ 55 ∷ 49 ∷ 10 ∷ []
 unfolding decimalOf digitsIn

@@ -1,4 +1,5 @@
 pub mod Ranges
 pub mod Same
+pub mod TestLaws
 pub mod Refusals
 pub mod Output

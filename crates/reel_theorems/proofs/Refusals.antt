@@ -1,313 +1,312 @@
 -- # Refusals are exact
 --
--- The causes 1 to 9 as a table: each row says in which case it applies, and what stands beside it. A reel is refused by a number with a
--- place exactly when that row of the table applies to it, and it has no cause exactly when no row does.
-use mathlib.Core.Path.{_≡_, refl, sym, ap, _∙_, subst}
+-- The causes 1 to 9 against a reel, as a table in document 01's order: 1 to 6; then trace by trace 7, 8, 9. Each row says in which case it
+-- applies, and what stands beside it. A reel is refused by a number with a place exactly when that row of the table applies to it, and it has
+-- no cause exactly when no row does. Assumes nothing.
+use mathlib.Core.Path.{_≡_, refl, sym}
 use mathlib.Core.List.{List}
-use mathlib.Core.Logic.{_⊎_, inl, inr, ⊎-elim}
-use mathlib.Core.Bool.{Bool, true, false, not}
-use Prim.Native.Nat.{ℕ, zero, suc, _+_, _-_, _*_, _≤_, _<_}
-use native.Mathlib.Nat.{add-zero, zero-mul, suc-mul, not-suc-le-zero}
+use mathlib.Core.Logic.{inl, inr}
+use mathlib.Core.Bool.{Bool, true, false, not, _&&_}
+use Prim.Native.Nat.{ℕ, _+_, _-_, _*_, _≤_, _<_}
+use native.Mathlib.Nat.{div-add-mod'}
 use native.Mathlib.Omega.{arith}
-use borrow.Author.Tests.{lt-ltb, le-ltb, ltb-true, ltb-false}
-use lib.Dec.{T, ltb}
-use lib.ListN.{length}
-use Rattle.numbers.specs.Walk.{walk, bytesAt}
-use Rattle.numbers.specs.Cause.{refuseIf, then, firstOf}
-use Rattle.numbers.specs.Places.{placeNo}
-use Rattle.numbers.specs.declared.Place.{Place}
+use borrow.Author.Tests.{ltb-true, ltb-false, eqb-true, eqb-false}
+use lib.Dec.{ltb, eqb}
+use lib.ListN.{length, getD}
+use Rattle.numbers.specs.Walk.{bytesAt}
+use Rattle.numbers.specs.Cause.{refuseIf}
 use Rattle.numbers.specs.declared.Check.{Check}
 use Rattle.numbers.specs.declared.Check.the-variants.{Fine, Refused}
-use Rattle.numbers.proofs.CauseLaws.{not-fine, passed, then-fine}
-use Rattle.sample.specs.Reading.{isCode, badGain}
+use Rattle.numbers.proofs.CauseLaws.{not-fine, then-fine}
+use Rattle.sample.specs.Reading.{isCode}
 use Rattle.sample_theorems.proofs.Pairs.{Iff}
 use Rattle.reel.specs.Layout.{firstTrace, traceHeader, word, samplesOf, intervalOf, codeOf, sampleBytes, strideOf, overIn, tracesOf}
 use Rattle.reel.specs.Causes.{mostSamples, mostTraces, mostInterval, within, neither, headerCauses, sizeCauses, wordCause, traceCauses, behindCauses, causesOf}
+use Rattle.reel_theorems.proofs.TestLaws.{atPlace, Between, ZeroOr, Tests, fine-where, refused-where, holds-where, row-where, then-row, then-first, then-second, test-between, test-either, test-room, not-enough, too-short, first-is, first-of, walk-fine, walk-holds, walk-refused, walk-row, fine-none}
 
--- ## The first of a walk
+-- ## The terms of the table
 
--- the first of k checks along a walk that refuses is the j-th, at its place
-pub record First (f : ℕ → Check) (w k at : ℕ) (number : ℕ) (place : Place) : Type 0 where
-  pub j : ℕ
-  pub below : j < k
-  pub before : (i : ℕ) → i < j → f (at + i * w) ≡ Fine
-  pub here : f (at + j * w) ≡ Refused number place
-
-at-zero : (at w : ℕ) → at + 0 * w ≡ at
-at-zero at w = rw (zero-mul, add-zero)
-
-at-suc : (at w j : ℕ) → at + suc j * w ≡ at + w + j * w
-at-suc at w j = rw suc-mul (omega arith)
-
--- where a walk refuses, the first of its checks that refuses is the one that the answer comes from
-pub first-is : (f : ℕ → Check) (w k at number : ℕ) (place : Place) → firstOf (walk f w k at) ≡ Refused number place → First f w k at number place
-first-is f w zero at number place e = absurd (not-fine (sym e))
-first-is f w (suc k) at number place e = go (λ h. first-is f w k (at + w) number place h) (f at) refl e
-  where
-    go : (firstOf (walk f w k (at + w)) ≡ Refused number place → First f w k (at + w) number place)
-        → (c : Check) → f at ≡ c → then c (firstOf (walk f w k (at + w))) ≡ Refused number place → First f w (suc k) at number place
-    go rest Fine q e =
-        let r = rest e in
-        record {
-          j = suc (r .j);
-          below = omega (arith, r .below);
-          before = λ i l. earlier r i l;
-          here = ap f (at-suc at w (r .j)) ∙ r .here;
-        }
-      where
-        earlier : (r : First f w k (at + w) number place) (i : ℕ) → i < suc (r .j) → f (at + i * w) ≡ Fine
-        earlier r zero l = ap f (at-zero at w) ∙ q
-        earlier r (suc i) l = ap f (at-suc at w i) ∙ r .before i (omega arith)
-    go rest (Refused m p) q e =
-        record { j = 0; below = omega arith; before = λ i l. absurd (not-suc-le-zero l); here = ap f (at-zero at w) ∙ q ∙ e }
-
--- and the first of the checks that refuses is the answer
-pub first-of : (f : ℕ → Check) (w k at number : ℕ) (place : Place) → First f w k at number place → firstOf (walk f w k at) ≡ Refused number place
-first-of f w k at number place r = go k at (r .j) (r .below) (r .before) (r .here)
-  where
-    go : (k at j : ℕ) → j < k → ((i : ℕ) → i < j → f (at + i * w) ≡ Fine) → f (at + j * w) ≡ Refused number place → firstOf (walk f w k at) ≡ Refused number place
-    go zero at j l b h = absurd (not-suc-le-zero l)
-    go (suc k) at zero l b h = ap (λ c. then c (firstOf (walk f w k (at + w)))) (sym (ap f (at-zero at w)) ∙ h)
-    go (suc k) at (suc j) l b h =
-        ap (λ c. then c (firstOf (walk f w k (at + w)))) (sym (ap f (at-zero at w)) ∙ b 0 (omega arith))
-        ∙ go k (at + w) j (omega arith) (λ i m. sym (ap f (at-suc at w i)) ∙ b (suc i) (omega arith)) (sym (ap f (at-suc at w j)) ∙ h)
-
--- where the first of k checks along a walk refuses nothing, none of them does
-pub none-is : (f : ℕ → Check) (w k at : ℕ) → firstOf (walk f w k at) ≡ Fine → (j : ℕ) → j < k → f (at + j * w) ≡ Fine
-none-is f w zero at e j l = absurd (not-suc-le-zero l)
-none-is f w (suc k) at e zero l = ap f (at-zero at w) ∙ then-fine (f at) _ e .0
-none-is f w (suc k) at e (suc j) l = ap f (at-suc at w j) ∙ none-is f w k (at + w) (then-fine (f at) _ e .1) j (omega arith)
-
--- and where none of them does, the first refuses nothing
-pub none-of : (f : ℕ → Check) (w k at : ℕ) → ((j : ℕ) → j < k → f (at + j * w) ≡ Fine) → firstOf (walk f w k at) ≡ Fine
-none-of f w zero at h = refl
-none-of f w (suc k) at h =
-    ap (λ c. then c (firstOf (walk f w k (at + w)))) (sym (ap f (at-zero at w)) ∙ h 0 (omega arith))
-    ∙ none-of f w k (at + w) (λ j l. sym (ap f (at-suc at w j)) ∙ h (suc j) (omega arith))
-
--- ## The table
-
--- the place of trace k, counted from 0, and of its sample j
+-- The place of trace k, counted from 0; behind the last trace it is the place of the first byte left over.
 abbrev pub traceAt : List ℕ → ℕ → ℕ
-traceAt s k = firstTrace + k * strideOf s
+traceAt s k = 3600 + k * strideOf s
 
+-- The place of sample j of trace k, behind the 240 bytes of the trace's header.
 abbrev pub sampleAt : List ℕ → ℕ → ℕ → ℕ
-sampleAt s k j = traceAt s k + traceHeader + j * sampleBytes (codeOf s)
+sampleAt s k j = traceAt s k + 240 + j * sampleBytes (codeOf s)
 
--- field 115, and field 117, of trace k is neither 0 nor the reel's own number
-abbrev pub badCount : List ℕ → ℕ → Bool
-badCount s k = neither (word s (traceAt s k + 114)) (samplesOf s)
-
-abbrev pub badInterval : List ℕ → ℕ → Bool
-badInterval s k = neither (word s (traceAt s k + 116)) (intervalOf s)
-
--- under code 4, the first byte of sample j of trace k is not 00
-abbrev pub badWord : List ℕ → ℕ → ℕ → Bool
-badWord s k j = badGain (codeOf s) (bytesAt s (sampleAt s k j) 4)
-
--- the bytes behind the last whole trace
-abbrev pub leftOver : List ℕ → ℕ
-leftOver s = overIn (length s) (strideOf s)
-
--- no cause of 1 to 4 applies
+-- 1 to 4 don't apply: both headers stand whole, and the reel's own numbers are within their limits.
 pub record Headed (s : List ℕ) : Type 0 where
-  pub long : firstTrace ≤ length s
-  pub code : isCode (codeOf s) ≡ true
-  pub samples : within 1 mostSamples (samplesOf s) ≡ true
-  pub interval : within 1 mostInterval (intervalOf s) ≡ true
+  pub long : 3600 ≤ length s
+  pub code : Between 1 4 (codeOf s)
+  pub samples : Between 1 8000 (samplesOf s)
+  pub interval : Between 1 32767 (intervalOf s)
 
--- no cause of 1 to 6 applies
+-- Nor do 5 and 6: no byte comes after the last whole trace, and there are at most 100,000.
 pub record Whole (s : List ℕ) : Type 0 where
   pub headed : Headed s
-  pub whole : leftOver s ≡ 0
-  pub few : tracesOf s ≤ mostTraces
+  pub whole : length s ≤ traceAt s (tracesOf s)
+  pub few : tracesOf s ≤ 100000
 
--- no cause of 7 to 9 applies to trace k
+-- 7 to 9 don't apply to trace k: fields 115 and 117 are 0 or the reel's own, and under code 4 each sample begins with 00.
 pub record Passed (s : List ℕ) (k : ℕ) : Type 0 where
-  pub count : badCount s k ≡ false
-  pub interval : badInterval s k ≡ false
-  pub words : (j : ℕ) → j < samplesOf s → badWord s k j ≡ false
+  pub count : ZeroOr (samplesOf s) (word s (traceAt s k + 114))
+  pub interval : ZeroOr (intervalOf s) (word s (traceAt s k + 116))
+  pub words : (j : ℕ) → j < samplesOf s → codeOf s ≡ 4 → getD s (sampleAt s k j) 0 ≡ 0
 
--- no cause of 1 to 6 applies, nor one of 7 to 9 to the traces before trace k
+-- Nothing applies before trace k: not 1 to 6, nor 7 to 9 to the traces before it.
 pub record Until (s : List ℕ) (k : ℕ) : Type 0 where
   pub reel : Whole s
   pub trace : k < tracesOf s
   pub before : (i : ℕ) → i < k → Passed s i
 
--- The rows: number, and what stands beside it.
+-- ## The table
+
+-- The rows: in which case each applies, its number, and what stands beside it. Traces k and samples j are counted from 0.
 pub data Row (s : List ℕ) : ℕ → ℕ → Type 0 where
-  short : length s < firstTrace → Row s 1 (length s)
-  bad-code : firstTrace ≤ length s → isCode (codeOf s) ≡ false → Row s 2 3224
-  bad-samples : firstTrace ≤ length s → isCode (codeOf s) ≡ true → within 1 mostSamples (samplesOf s) ≡ false → Row s 3 3220
-  bad-interval : firstTrace ≤ length s → isCode (codeOf s) ≡ true → within 1 mostSamples (samplesOf s) ≡ true → within 1 mostInterval (intervalOf s) ≡ false → Row s 4 3216
-  left-over : Headed s → 0 < leftOver s → Row s 5 (length s - leftOver s)
-  many : Headed s → leftOver s ≡ 0 → mostTraces < tracesOf s → Row s 6 (firstTrace + mostTraces * strideOf s)
-  count : (k : ℕ) → Until s k → badCount s k ≡ true → Row s 7 (traceAt s k + 114)
-  interval : (k : ℕ) → Until s k → badCount s k ≡ false → badInterval s k ≡ true → Row s 8 (traceAt s k + 116)
-  gain : (k j : ℕ) → Until s k → badCount s k ≡ false → badInterval s k ≡ false → j < samplesOf s → ((i : ℕ) → i < j → badWord s k i ≡ false) → badWord s k j ≡ true
+  -- 1: the reel is under 3,600 bytes, with its length
+  short-reel : length s < 3600 → Row s 1 (length s)
+  -- 2: the format code is not 1 to 4
+  bad-code : 3600 ≤ length s → ¬ (Between 1 4 (codeOf s)) → Row s 2 3224
+  -- 3: N is not 1 to 8,000
+  bad-samples : 3600 ≤ length s → Between 1 4 (codeOf s) → ¬ (Between 1 8000 (samplesOf s)) → Row s 3 3220
+  -- 4: the interval is not 1 to 32,767
+  bad-interval : 3600 ≤ length s → Between 1 4 (codeOf s) → Between 1 8000 (samplesOf s) → ¬ (Between 1 32767 (intervalOf s)) → Row s 4 3216
+  -- 5: bytes come after the last whole trace, at the first of them
+  left-over : Headed s → traceAt s (tracesOf s) < length s → Row s 5 (traceAt s (tracesOf s))
+  -- 6: there are more than 100,000 traces, at trace 100,001
+  many : Headed s → length s ≤ traceAt s (tracesOf s) → 100000 < tracesOf s → Row s 6 (traceAt s 100000)
+  -- 7: field 115 of trace k is neither 0 nor N
+  bad-115 : (k : ℕ) → Until s k → ¬ (ZeroOr (samplesOf s) (word s (traceAt s k + 114))) → Row s 7 (traceAt s k + 114)
+  -- 8: its field 117 is neither 0 nor the reel's interval
+  bad-117 : (k : ℕ) → Until s k → ZeroOr (samplesOf s) (word s (traceAt s k + 114)) → ¬ (ZeroOr (intervalOf s) (word s (traceAt s k + 116)))
+      → Row s 8 (traceAt s k + 116)
+  -- 9: the first byte of one of its gain words is not 00, the first such word
+  bad-gain : (k j : ℕ) → Until s k → ZeroOr (samplesOf s) (word s (traceAt s k + 114)) → ZeroOr (intervalOf s) (word s (traceAt s k + 116))
+      → codeOf s ≡ 4 → j < samplesOf s → ((i : ℕ) → i < j → getD s (sampleAt s k i) 0 ≡ 0) → ¬ (getD s (sampleAt s k j) 0 ≡ 0)
       → Row s 9 (sampleAt s k j)
 
--- ## The causes of a trace
+-- ## Headers and size
 
--- the first cause of 7 to 9 of the trace at a place
+module _ (s : List ℕ) where
+  -- The tests of 1 to 6.
+  long-test : Tests (3600 ≤ length s) 1 (length s) (refuseIf (ltb (length s) firstTrace) 1 (length s))
+  long-test = test-room (length s) 3600 1 (length s)
+
+  code-test : Tests (Between 1 4 (codeOf s)) 2 3224 (refuseIf (not (isCode (codeOf s))) 2 3224)
+  code-test = test-between 1 4 (codeOf s) 2 3224
+
+  samples-test : Tests (Between 1 8000 (samplesOf s)) 3 3220 (refuseIf (not (within 1 mostSamples (samplesOf s))) 3 3220)
+  samples-test = test-between 1 8000 (samplesOf s) 3 3220
+
+  interval-test : Tests (Between 1 32767 (intervalOf s)) 4 3216 (refuseIf (not (within 1 mostInterval (intervalOf s))) 4 3216)
+  interval-test = test-between 1 32767 (intervalOf s) 4 3216
+
+  -- The bytes behind the last whole trace.
+  abbrev over : ℕ
+  over = overIn (length s) (strideOf s)
+
+  over-test : 3600 ≤ length s
+      → Tests (length s ≤ traceAt s (tracesOf s)) 5 (traceAt s (tracesOf s)) (refuseIf (ltb 0 over) 5 (length s - over))
+  over-test l = go (ltb 0 over) refl
+    where
+      all : tracesOf s * strideOf s + over ≡ length s - 3600
+      all = div-add-mod' (length s - 3600) (strideOf s)
+
+      at : length s - over ≡ traceAt s (tracesOf s)
+      at = omega (arith, all, l)
+
+      go : (b : Bool) → ltb 0 over ≡ b → Tests (length s ≤ traceAt s (tracesOf s)) 5 (traceAt s (tracesOf s)) (refuseIf b 5 (length s - over))
+      go true e =
+          let h = ltb-true 0 over e in
+          rw at (inr (too-short (traceAt s (tracesOf s)) (length s) (omega (arith, all, l, h)), refl))
+      go false e = let h = ltb-false 0 over e in inl (omega (arith, all, l, h), refl)
+
+  few-test : Tests (tracesOf s ≤ 100000) 6 (traceAt s 100000) (refuseIf (ltb mostTraces (tracesOf s)) 6 (firstTrace + mostTraces * strideOf s))
+  few-test = test-room 100000 (tracesOf s) 6 (traceAt s 100000)
+
+  -- Where 1 to 4 don't apply, the answer is that of 5 to 9.
+  from-headed : Headed s → {x : Check} → behindCauses s (codeOf s) (samplesOf s) (intervalOf s) (strideOf s) ≡ x → causesOf s ≡ x
+  unfolding causesOf
+  from-headed h e =
+      then-second _ _ (fine-where long-test (h .long))
+      (then-second (headerCauses (codeOf s) (samplesOf s) (intervalOf s)) _
+      (then-second _ _ (fine-where code-test (h .code))
+      (then-second _ _ (fine-where samples-test (h .samples)) (then-second _ _ (fine-where interval-test (h .interval)) refl)))
+      e)
+
+  -- And where they find nothing, they don't apply.
+  to-headed : 3600 ≤ length s → headerCauses (codeOf s) (samplesOf s) (intervalOf s) ≡ Fine → Headed s
+  to-headed l e =
+      let a = then-fine (refuseIf (not (isCode (codeOf s))) 2 3224) _ e in
+      let b = then-fine (refuseIf (not (within 1 mostSamples (samplesOf s))) 3 3220) _ (a .1) in
+      let c = then-fine (refuseIf (not (within 1 mostInterval (intervalOf s))) 4 3216) _ (b .1) in
+      record {
+        long = l;
+        code = holds-where code-test (a .0);
+        samples = holds-where samples-test (b .0);
+        interval = holds-where interval-test (c .0);
+      }
+
+  -- 5 and 6 against the reel.
+  abbrev sizes : Check
+  sizes = sizeCauses (length s) (strideOf s) (tracesOf s) over
+
+  -- Where 1 to 6 find nothing, they don't apply.
+  to-whole : Headed s → sizes ≡ Fine → Whole s
+  to-whole h e =
+      let a = then-fine (refuseIf (ltb 0 over) 5 (length s - over)) _ e in
+      let b = then-fine (refuseIf (ltb mostTraces (tracesOf s)) 6 (firstTrace + mostTraces * strideOf s)) _ (a .1) in
+      record { headed = h; whole = holds-where (over-test (h .long)) (a .0); few = holds-where few-test (b .0) }
+
+-- ## Traces
+
+-- The first cause of 7 to 9 of the trace at a place.
 abbrev causesAt : List ℕ → ℕ → Check
 causesAt s at = traceCauses s (codeOf s) (samplesOf s) (intervalOf s) at
 
-module _ (s : List ℕ) (k : ℕ) where
-  -- where the trace has no cause, none of 7 to 9 applies to it
-  to-passed : causesAt s (traceAt s k) ≡ Fine → Passed s k
-  unfolding traceCauses
-  to-passed e =
-      let a = then-fine (refuseIf (badCount s k) 7 (traceAt s k + 114)) _ e in
-      let b = then-fine (refuseIf (badInterval s k) 8 (traceAt s k + 116)) _ (a .1) in
-      record {
-        count = passed (badCount s k) 7 (traceAt s k + 114) (a .0);
-        interval = passed (badInterval s k) 8 (traceAt s k + 116) (b .0);
-        words = λ j l. passed (badWord s k j) 9 (sampleAt s k j) (none-is (wordCause s (codeOf s)) (sampleBytes (codeOf s)) (samplesOf s) (traceAt s k + traceHeader) (b .1) j l);
-      }
+-- A sample that begins with 00 under code 4.
+test-gain : (s : List ℕ) (code at : ℕ) → Tests (code ≡ 4 → getD s at 0 ≡ 0) 9 at (wordCause s code at)
+unfolding bytesAt
+test-gain s code at = go (eqb code 4) (eqb (getD s at 0) 0) refl refl
+  where
+    go : (a b : Bool) → eqb code 4 ≡ a → eqb (getD s at 0) 0 ≡ b → Tests (code ≡ 4 → getD s at 0 ≡ 0) 9 at (refuseIf (a && not b) 9 at)
+    go false b p q = inl (λ c. absurd (eqb-false code 4 p c), refl)
+    go true true p q = inl (λ c. eqb-true (getD s at 0) 0 q, refl)
+    go true false p q = inr (λ h. eqb-false (getD s at 0) 0 q (h (eqb-true code 4 p)), refl)
 
-  -- and where none of 7 to 9 applies to it, the trace has no cause
+-- Where it doesn't, the code is 4.
+gain-code : (code b : ℕ) → ¬ (code ≡ 4 → b ≡ 0) → code ≡ 4
+gain-code code b h = go (eqb code 4) refl
+  where
+    go : (x : Bool) → eqb code 4 ≡ x → code ≡ 4
+    go true e = eqb-true code 4 e
+    go false e = absurd (h (λ c. absurd (eqb-false code 4 e c)))
+
+module _ (s : List ℕ) (k : ℕ) where
+  -- The tests of 7 to 9.
+  count-test : Tests (ZeroOr (samplesOf s) (word s (traceAt s k + 114))) 7 (traceAt s k + 114) (refuseIf (neither (word s (traceAt s k + 114)) (samplesOf s)) 7 (traceAt s k + 114))
+  count-test = test-either (samplesOf s) (word s (traceAt s k + 114)) 7 (traceAt s k + 114)
+
+  own-test : Tests (ZeroOr (intervalOf s) (word s (traceAt s k + 116))) 8 (traceAt s k + 116) (refuseIf (neither (word s (traceAt s k + 116)) (intervalOf s)) 8 (traceAt s k + 116))
+  own-test = test-either (intervalOf s) (word s (traceAt s k + 116)) 8 (traceAt s k + 116)
+
+  gain-tests : (j : ℕ) → j < samplesOf s → Tests (codeOf s ≡ 4 → getD s (sampleAt s k j) 0 ≡ 0) 9 (sampleAt s k j) (wordCause s (codeOf s) (sampleAt s k j))
+  gain-tests j l = test-gain s (codeOf s) (sampleAt s k j)
+
+  -- Where none of 7 to 9 applies to a trace, it has no cause.
   from-passed : Passed s k → causesAt s (traceAt s k) ≡ Fine
   unfolding traceCauses
   from-passed h =
-      rw (h .count, h .interval)
-      (none-of (wordCause s (codeOf s)) (sampleBytes (codeOf s)) (samplesOf s) (traceAt s k + traceHeader) (λ j l. ap (λ (x : Bool). refuseIf x 9 (sampleAt s k j)) (h .words j l)))
+      then-second _ _ (fine-where count-test (h .count))
+      (then-second _ _ (fine-where own-test (h .interval))
+      (walk-fine (λ j. codeOf s ≡ 4 → getD s (sampleAt s k j) 0 ≡ 0) 9 (wordCause s (codeOf s)) (sampleBytes (codeOf s)) (samplesOf s) (traceAt s k + traceHeader) (sampleAt s k) gain-tests (h .words)))
+
+  -- And where it has no cause, none of them applies.
+  to-passed : causesAt s (traceAt s k) ≡ Fine → Passed s k
+  unfolding traceCauses
+  to-passed e =
+      let a = then-fine (refuseIf (neither (word s (traceAt s k + 114)) (samplesOf s)) 7 (traceAt s k + 114)) _ e in
+      let b = then-fine (refuseIf (neither (word s (traceAt s k + 116)) (intervalOf s)) 8 (traceAt s k + 116)) _ (a .1) in
+      record {
+        count = holds-where count-test (a .0);
+        interval = holds-where own-test (b .0);
+        words = walk-holds (λ j. codeOf s ≡ 4 → getD s (sampleAt s k j) 0 ≡ 0) 9 (wordCause s (codeOf s)) (sampleBytes (codeOf s)) (samplesOf s) (traceAt s k + traceHeader) (sampleAt s k) gain-tests (b .1);
+      }
 
 -- ## From the rows to the causes
 
 module _ (s : List ℕ) where
-  headed-fine : Headed s → headerCauses (codeOf s) (samplesOf s) (intervalOf s) ≡ Fine
-  headed-fine h = rw (h .code, h .samples, h .interval)
+  -- What 5 or 6 refuses is refused.
+  from-size : Headed s → {n p : ℕ} → sizes s ≡ Refused n (atPlace p) → causesOf s ≡ Refused n (atPlace p)
+  unfolding behindCauses
+  from-size h e = from-headed s h (then-first (sizes s) _ e)
 
-  behind : Whole s → causesOf s ≡ firstOf (walk (causesAt s) (strideOf s) (tracesOf s) firstTrace)
-  unfolding causesOf behindCauses
-  behind h =
-      let a : ltb 0 (leftOver s) ≡ false = le-ltb 0 (leftOver s) (omega (arith, h .whole)) in
-      rw (le-ltb (length s) firstTrace (h .headed .long), headed-fine (h .headed), a, le-ltb mostTraces (tracesOf s) (h .few))
+  -- A trace's cause is that of the reel, where none applies before it.
+  from-trace : (k : ℕ) → Until s k → {n p : ℕ} → causesAt s (traceAt s k) ≡ Refused n (atPlace p) → causesOf s ≡ Refused n (atPlace p)
+  unfolding behindCauses
+  from-trace k h {n} {p} e =
+      let w = h .reel in
+      from-headed s (w .headed)
+      (then-second (sizes s) _
+      (then-second _ _ (fine-where (over-test s (w .headed .long)) (w .whole)) (then-second _ _ (fine-where (few-test s) (w .few)) refl))
+      (first-of (causesAt s) (strideOf s) (tracesOf s) firstTrace n p (record { j = k; below = h .trace; before = λ i l. from-passed s i (h .before i l); here = e })))
 
-  -- a trace's cause is that of the reel, where none applies before it
-  from-trace : (k number : ℕ) (place : Place) → Until s k → causesAt s (traceAt s k) ≡ Refused number place → causesOf s ≡ Refused number place
-  from-trace k number place h e =
-      behind (h .reel) ∙ first-of (causesAt s) (strideOf s) (tracesOf s) firstTrace number place (record { j = k; below = h .trace; before = λ i l. from-passed s i (h .before i l); here = e })
-
-  from-row : (number place : ℕ) → Row s number place → causesOf s ≡ Refused number (record { 0 = place })
-  unfolding causesOf behindCauses traceCauses
-  from-row number place (short h) = rw (lt-ltb (length s) firstTrace h)
-  from-row number place (bad-code l c) = rw (le-ltb (length s) firstTrace l, c)
-  from-row number place (bad-samples l c n) = rw (le-ltb (length s) firstTrace l, c, n)
-  from-row number place (bad-interval l c n i) = rw (le-ltb (length s) firstTrace l, c, n, i)
-  from-row number place (left-over h o) = rw (le-ltb (length s) firstTrace (h .long), headed-fine h, lt-ltb 0 (leftOver s) o)
-  from-row number place (many h o t) =
-      let a : ltb 0 (leftOver s) ≡ false = le-ltb 0 (leftOver s) (omega (arith, o)) in
-      rw (le-ltb (length s) firstTrace (h .long), headed-fine h, a, lt-ltb mostTraces (tracesOf s) t)
-  from-row number place (count k h b) = from-trace k 7 _ h (rw b)
-  from-row number place (interval k h b c) = from-trace k 8 _ h (rw (b, c))
-  from-row number place (gain k j h b c l f g) =
-      from-trace k 9 _ h
-      (rw (b, c) (first-of (wordCause s (codeOf s)) (sampleBytes (codeOf s)) (samplesOf s) (traceAt s k + traceHeader) 9 _ (record { j = j; below = l; before = λ i m. ap (λ (x : Bool). refuseIf x 9 (sampleAt s k i)) (f i m); here = ap (λ (x : Bool). refuseIf x 9 (sampleAt s k j)) g })))
+  -- Each row is the answer where it applies: all that comes before it finds nothing, and its own test refuses.
+  from-row : {n p : ℕ} → Row s n p → causesOf s ≡ Refused n (atPlace p)
+  unfolding causesOf traceCauses
+  from-row (short-reel h) = then-first _ _ (refused-where (long-test s) (too-short (length s) 3600 h))
+  from-row (bad-code l h) = then-second _ _ (fine-where (long-test s) l) (then-first _ _ (then-first _ _ (refused-where (code-test s) h)))
+  from-row (bad-samples l c h) =
+      then-second _ _ (fine-where (long-test s) l)
+      (then-first _ _ (then-second _ _ (fine-where (code-test s) c) (then-first _ _ (refused-where (samples-test s) h))))
+  from-row (bad-interval l c n h) =
+      then-second _ _ (fine-where (long-test s) l)
+      (then-first _ _
+      (then-second _ _ (fine-where (code-test s) c)
+      (then-second _ _ (fine-where (samples-test s) n) (then-first _ _ (refused-where (interval-test s) h)))))
+  from-row (left-over h o) =
+      from-size h (then-first _ _ (refused-where (over-test s (h .long)) (too-short (traceAt s (tracesOf s)) (length s) o)))
+  from-row (many h w o) =
+      from-size h
+      (then-second _ _ (fine-where (over-test s (h .long)) w)
+      (then-first _ _ (refused-where (few-test s) (too-short 100000 (tracesOf s) o))))
+  from-row (bad-115 k u h) = from-trace k u (then-first _ _ (refused-where (count-test s k) h))
+  from-row (bad-117 k u c h) = from-trace k u (then-second _ _ (fine-where (count-test s k) c) (then-first _ _ (refused-where (own-test s k) h)))
+  from-row (bad-gain k j u c i g l b h) =
+      from-trace k u
+      (then-second _ _ (fine-where (count-test s k) c)
+      (then-second _ _ (fine-where (own-test s k) i)
+      (walk-refused (λ y. codeOf s ≡ 4 → getD s (sampleAt s k y) 0 ≡ 0) 9 (wordCause s (codeOf s)) (sampleBytes (codeOf s)) (samplesOf s) (traceAt s k + traceHeader) (sampleAt s k) (gain-tests s k) j l (λ y m q. b y m) (λ q. h (q g)))))
 
 -- ## From the causes to the rows
 
--- a row that comes first, or does not apply
-row-or : (b : Bool) (n₀ p₀ : ℕ) (rest : Check) (n p : ℕ) → then (refuseIf b n₀ p₀) rest ≡ Refused n (record { 0 = p })
-    → ((b ≡ true) × (n₀ ≡ n) × (p₀ ≡ p)) ⊎ ((b ≡ false) × (rest ≡ Refused n (record { 0 = p })))
-row-or true n₀ p₀ rest n p e =
-    let a : n₀ ≡ n = cc in
-    let q : place p₀ ≡ place p = cc in
-    inl (refl, a, ap placeNo q)
-  where
-    place : ℕ → Place
-    place x = record { 0 = x }
-row-or false n₀ p₀ rest n p e = inr (refl, e)
+module _ (s : List ℕ) {n p : ℕ} where
+  -- What 2 to 4 refuse has its row.
+  to-header : 3600 ≤ length s → headerCauses (codeOf s) (samplesOf s) (intervalOf s) ≡ Refused n (atPlace p) → Row s n p
+  to-header l =
+      then-row (Row s) (refuseIf (not (isCode (codeOf s))) 2 3224) _ (row-where (code-test s) (Row s) (bad-code l))
+      (λ e. let c = holds-where (code-test s) e in
+      then-row (Row s) (refuseIf (not (within 1 mostSamples (samplesOf s))) 3 3220) _ (row-where (samples-test s) (Row s) (bad-samples l c))
+      (λ q. then-row (Row s) (refuseIf (not (within 1 mostInterval (intervalOf s))) 4 3216) _ (row-where (interval-test s) (Row s) (bad-interval l c (holds-where (samples-test s) q)))
+      (λ x y. absurd (not-fine (sym y)))))
 
-then-assoc : (a b c : Check) → then (then a b) c ≡ then a (then b c)
-then-assoc Fine b c = refl
-then-assoc (Refused number place) b c = refl
+  -- What 5 or 6 refuses has its row.
+  to-size : Headed s → sizes s ≡ Refused n (atPlace p) → Row s n p
+  to-size h =
+      let over = over-test s (h .long) in
+      then-row (Row s) (refuseIf (ltb 0 (overIn (length s) (strideOf s))) 5 (length s - overIn (length s) (strideOf s))) _
+      (row-where over (Row s) (λ m. left-over h (not-enough (traceAt s (tracesOf s)) (length s) m)))
+      (λ e. then-row (Row s) (refuseIf (ltb mostTraces (tracesOf s)) 6 (firstTrace + mostTraces * strideOf s)) _
+      (row-where (few-test s) (Row s) (λ m. many h (holds-where over e) (not-enough 100000 (tracesOf s) m)))
+      (λ x y. absurd (not-fine (sym y))))
 
-not-true : (b : Bool) → not b ≡ true → b ≡ false
-not-true true e = absurd (subst T (sym e) tt)
-not-true false e = refl
-
-not-false : (b : Bool) → not b ≡ false → b ≡ true
-not-false true e = refl
-not-false false e = absurd (subst T e tt)
-
-module _ (s : List ℕ) where
-  -- a row of the same number and place
-  row-as : {n₀ p₀ n p : ℕ} → n₀ ≡ n → p₀ ≡ p → Row s n₀ p₀ → Row s n p
-  row-as {n₀} {p₀} {n} {p} a b r = subst (λ (x : ℕ). Row s x p) a (subst (λ (x : ℕ). Row s n₀ x) b r)
-
-  -- the rows of a trace
-  trace-row : (k n p : ℕ) → Until s k → causesAt s (traceAt s k) ≡ Refused n (record { 0 = p }) → Row s n p
+  -- What is refused in trace k has its row, where nothing applies before it.
+  to-trace : (k : ℕ) → Until s k → causesAt s (traceAt s k) ≡ Refused n (atPlace p) → Row s n p
   unfolding traceCauses
-  trace-row k n p h e =
-      ⊎-elim (λ r. row-as (r .1) (r .2) (count k h (r .0)))
-      (λ r. ⊎-elim (λ q. row-as (q .1) (q .2) (interval k h (r .0) (q .0))) (λ q. words (r .0) (q .0) (q .1)) (row-or (badInterval s k) 8 (traceAt s k + 116) _ n p (r .1)))
-      (row-or (badCount s k) 7 (traceAt s k + 114) _ n p e)
-    where
-      words : badCount s k ≡ false → badInterval s k ≡ false → firstOf (walk (wordCause s (codeOf s)) (sampleBytes (codeOf s)) (samplesOf s) (traceAt s k + traceHeader)) ≡ Refused n (record { 0 = p }) → Row s n p
-      words b c g =
-          let f = first-is (wordCause s (codeOf s)) (sampleBytes (codeOf s)) (samplesOf s) (traceAt s k + traceHeader) n (record { 0 = p }) g in
-          ⊎-elim (λ r. row-as (r .1) (r .2) (gain k (f .j) h b c (f .below) (λ i l. passed (badWord s k i) 9 (sampleAt s k i) (f .before i l)) (r .0)))
-          (λ r. absurd (not-fine (sym (r .1)))) (row-or (badWord s k (f .j)) 9 (sampleAt s k (f .j)) Fine n p (ap (λ (x : Check). then x Fine) (f .here)))
+  to-trace k u =
+      then-row (Row s) (refuseIf (neither (word s (traceAt s k + 114)) (samplesOf s)) 7 (traceAt s k + 114)) _ (row-where (count-test s k) (Row s) (bad-115 k u))
+      (λ e. let c = holds-where (count-test s k) e in
+      then-row (Row s) (refuseIf (neither (word s (traceAt s k + 116)) (intervalOf s)) 8 (traceAt s k + 116)) _ (row-where (own-test s k) (Row s) (bad-117 k u c))
+      (λ q. walk-row (λ j. codeOf s ≡ 4 → getD s (sampleAt s k j) 0 ≡ 0) 9 (wordCause s (codeOf s)) (sampleBytes (codeOf s)) (samplesOf s) (traceAt s k + traceHeader) (sampleAt s k) (gain-tests s k) (Row s)
+      (λ j l b h. let g = gain-code (codeOf s) (getD s (sampleAt s k j) 0) h in bad-gain k j u c (holds-where (own-test s k) q) g l (λ i m. b i m g) (λ z. h (λ x. z)))))
 
-  -- the rows of the header and of the size, one by one
-  header-rows : (rest : Check)
-      → then (headerCauses (codeOf s) (samplesOf s) (intervalOf s)) rest
-      ≡ then (refuseIf (not (isCode (codeOf s))) 2 3224)
-      (then (refuseIf (not (within 1 mostSamples (samplesOf s))) 3 3220) (then (refuseIf (not (within 1 mostInterval (intervalOf s))) 4 3216) rest))
-  header-rows rest = simp then-assoc
+  -- What is refused has its row: the first that applies.
+  to-row : causesOf s ≡ Refused n (atPlace p) → Row s n p
+  unfolding causesOf behindCauses
+  to-row =
+      then-row (Row s) (refuseIf (ltb (length s) firstTrace) 1 (length s)) _
+      (row-where (long-test s) (Row s) (λ m. short-reel (not-enough (length s) 3600 m)))
+      (λ e. let l = holds-where (long-test s) e in
+      then-row (Row s) (headerCauses (codeOf s) (samplesOf s) (intervalOf s)) _ (to-header l)
+      (λ q. let h = to-headed s l q in
+      then-row (Row s) (sizes s) _ (to-size h)
+      (λ z y. let r = first-is (causesAt s) (strideOf s) (tracesOf s) firstTrace n p y in
+      to-trace (r .j) (record { reel = to-whole s h z; trace = r .below; before = λ i m. to-passed s i (r .before i m) }) (r .here))))
 
-  size-rows : (rest : Check)
-      → then (sizeCauses (length s) (strideOf s) (tracesOf s) (leftOver s)) rest
-      ≡ then (refuseIf (ltb 0 (leftOver s)) 5 (length s - leftOver s)) (then (refuseIf (ltb mostTraces (tracesOf s)) 6 (firstTrace + mostTraces * strideOf s)) rest)
-  size-rows rest = simp then-assoc
+-- THEOREM. A reel has a cause of 1 to 9, with what stands beside it, exactly when that row of the table applies.
+pub exact-causes : (s : List ℕ) (number place : ℕ) → Iff (causesOf s ≡ Refused number (atPlace place)) (Row s number place)
+exact-causes s number place = (to-row s, from-row s)
 
-  traces-row : (n p : ℕ) → Whole s → firstOf (walk (causesAt s) (strideOf s) (tracesOf s) firstTrace) ≡ Refused n (record { 0 = p }) → Row s n p
-  traces-row n p h e =
-      let f = first-is (causesAt s) (strideOf s) (tracesOf s) firstTrace n (record { 0 = p }) e in
-      trace-row (f .j) n p (record { reel = h; trace = f .below; before = λ i l. to-passed s i (f .before i l) }) (f .here)
-
-  behind-row : (n p : ℕ) → Headed s → behindCauses s (codeOf s) (samplesOf s) (intervalOf s) (strideOf s) ≡ Refused n (record { 0 = p }) → Row s n p
-  unfolding behindCauses
-  behind-row n p h e =
-      ⊎-elim (λ a. row-as (a .1) (a .2) (left-over h (ltb-true 0 (leftOver s) (a .0))))
-      (λ a. let whole : leftOver s ≡ 0 = none (ltb-false 0 (leftOver s) (a .0)) in
-      ⊎-elim (λ b. row-as (b .1) (b .2) (many h whole (ltb-true mostTraces (tracesOf s) (b .0))))
-      (λ b. traces-row n p (record { headed = h; whole = whole; few = ltb-false mostTraces (tracesOf s) (b .0) }) (b .1))
-      (row-or (ltb mostTraces (tracesOf s)) 6 (firstTrace + mostTraces * strideOf s) _ n p (a .1)))
-      (row-or (ltb 0 (leftOver s)) 5 (length s - leftOver s) _ n p (sym (size-rows _) ∙ e))
-    where
-      none : {x : ℕ} → x ≤ 0 → x ≡ 0
-      none l = omega arith
-
-  to-row : (n p : ℕ) → causesOf s ≡ Refused n (record { 0 = p }) → Row s n p
-  unfolding causesOf
-  to-row n p e =
-      ⊎-elim (λ r. row-as (r .1) (r .2) (short (ltb-true (length s) firstTrace (r .0))))
-      (λ r. let long = ltb-false (length s) firstTrace (r .0) in
-      ⊎-elim (λ a. row-as (a .1) (a .2) (bad-code long (not-true _ (a .0))))
-      (λ a. let code = not-false (isCode (codeOf s)) (a .0) in
-      ⊎-elim (λ b. row-as (b .1) (b .2) (bad-samples long code (not-true _ (b .0))))
-      (λ b. let samples = not-false (within 1 mostSamples (samplesOf s)) (b .0) in
-      ⊎-elim (λ c. row-as (c .1) (c .2) (bad-interval long code samples (not-true _ (c .0))))
-      (λ c. behind-row n p (record { long = long; code = code; samples = samples; interval = not-false (within 1 mostInterval (intervalOf s)) (c .0) }) (c .1))
-      (row-or (not (within 1 mostInterval (intervalOf s))) 4 3216 _ n p (b .1)))
-      (row-or (not (within 1 mostSamples (samplesOf s))) 3 3220 _ n p (a .1)))
-      (row-or (not (isCode (codeOf s))) 2 3224 _ n p (sym (header-rows _) ∙ r .1)))
-      (row-or (ltb (length s) firstTrace) 1 (length s) _ n p e)
-
-  -- THEOREM. A reel has a cause of 1 to 9, with what stands beside it, exactly when that row of the table applies.
-  pub exact-causes : (number place : ℕ) → Iff (causesOf s ≡ Refused number (record { 0 = place })) (Row s number place)
-  exact-causes number place = (to-row number place, from-row s number place)
-
-  -- THEOREM. No cause of 1 to 9 applies to a reel exactly when no row of the table does.
-  pub no-cause : Iff (causesOf s ≡ Fine) ((number place : ℕ) → ¬ (Row s number place))
-  no-cause = (none, fine (causesOf s) refl)
-    where
-      none : causesOf s ≡ Fine → (number place : ℕ) → ¬ (Row s number place)
-      none e number place r = not-fine (sym (from-row s number place r) ∙ e)
-
-      fine : (c : Check) → causesOf s ≡ c → ((number place : ℕ) → ¬ (Row s number place)) → causesOf s ≡ Fine
-      fine Fine e h = e
-      fine (Refused number place) e h = absurd (h number (placeNo place) (to-row number (placeNo place) e))
+-- THEOREM. No cause of 1 to 9 applies to a reel exactly when no row of the table does.
+pub no-cause : (s : List ℕ) → Iff (causesOf s ≡ Fine) ((number place : ℕ) → ¬ (Row s number place))
+no-cause s = fine-none (Row s) (causesOf s) (exact-causes s)

@@ -3,13 +3,14 @@
 -- Each is computed by the rules themselves. A word is written as its four bytes, a pair that is read as e and m.
 use mathlib.Core.Path.{_≡_, refl}
 use mathlib.Core.List.{List, [], _∷_}
+use mathlib.Core.Bool.{true}
 use Prim.Native.Nat.{ℕ, _^_, _≤_, _<_}
 use lib.IntN.{ℤ, pos, negsuc, negℤ}
 use lib.Dec.{lit<, lit≤}
 use Rattle.numbers.specs.Walk.{bytesAt}
 use Rattle.numbers.specs.Outcome.{taken, refused, Outcome}
 use Rattle.sample.specs.Value.{wholeValue}
-use Rattle.sample.specs.Pair.{twosIn, twos, oddPart, pairOf}
+use Rattle.sample.specs.Pair.{twosIn, twos, oddPart, pairOf, isCanonical}
 use Rattle.sample.specs.Reading.{readWord}
 use Rattle.sample.specs.Writing.{first, writePair}
 use Rattle.sample.specs.Calls.{readOutcome, writeOutcome}
@@ -79,3 +80,11 @@ bits-16 = (refl, refl)
 pub least-gain : (writePair 4 (record { e = negsuc 254; m = pos 1 }) ≡ Word 0x00FF_0001) × (writePair 4 (record { e = negsuc 255; m = pos 1 }) ≡ Refused 14)
 unfolding first
 least-gain = (refl, refl)
+
+-- e 251, m 3: a canonical pair, though no word of any code has its value (no line of document 01)
+abbrev pub beyond : Pair
+beyond = record { e = pos 251; m = pos 3 }
+
+pub beyond-14 : (isCanonical beyond ≡ true) × (writePair 1 beyond ≡ Refused 14) × (writePair 2 beyond ≡ Refused 14) × (writePair 3 beyond ≡ Refused 14) × (writePair 4 beyond ≡ Refused 14)
+unfolding first
+beyond-14 = (refl, refl, refl, refl, refl)
