@@ -20,7 +20,7 @@ use Rattle.sample_theorems.proofs.Pairs.{value-pair-back, pair-bytes}
 use Rattle.reel.specs.Layout.{fieldsFrom, cardBytes, binaryWidths, binaryFields, traceWidths, traceFields, fieldNumber}
 use Rattle.reel.specs.Meaning.{otherThan}
 use Rattle.record.specs.Record.{field, numberBytes, binaryBytes, valueBytes, samplesField, traceBytes, recordOf}
-use Rattle.record.specs.Form.{heldSamples, heldCode, firstField, heldStride, heldTraces, formCauses}
+use Rattle.record.specs.Form.{heldSamples, heldCode, tracesPlace, heldStride, heldCount, formCauses}
 use Rattle.record.specs.Held.{heldValue, heldTrace, heldBy}
 use Rattle.record.proofs.NumberLaws.{fields-again, numbers-append}
 use Rattle.record.proofs.HeaderLaws.{binary-front, binary-back, counts}
@@ -107,22 +107,22 @@ all-bytes : (s : List ℕ) → bytesAt s 0 (length s) ≡ s
 all-bytes s = sym (bytes-part s 0 (length s) (omega arith)) ∙ take-all (length s) s (omega arith)
 
 -- The four pieces of a valid record, each from what it holds.
-pieces-again : (s : List ℕ) → Bytes s → RecordRight s (heldTraces s (heldSamples s)) → recordOf (heldBy s) ≡ s
+pieces-again : (s : List ℕ) → Bytes s → RecordRight s (heldCount s (heldSamples s)) → recordOf (heldBy s) ≡ s
 unfolding recordOf heldBy
 pieces-again s h v =
     let n = heldSamples s in
-    let t = heldTraces s n in
+    let t = heldCount s n in
     let w = heldStride n in
     let last = tracePlace s t in
     let head = v .end .until .head in
     let cards = field-again s h 1 cardBytes 0 (bytesAt s 3 cardBytes) (head .front .cards) refl in
     let binary = field-again s h 2 60 3203 _ (head .binary) (binary-again s h (head .code)) in
-    let traces = walk-again traceBytes (heldTrace s n) s w t firstField (λ k l. trace-again s h k (v .end .until .before k l)) in
-    let count : bytesOf 4 (length (walk (heldTrace s n) w t firstField)) ≡ bytesAt s (last + 3) 4 =
-    ap (bytesOf 4) (size-walk (heldTrace s n) w t firstField ∙ sym (v .count)) ∙ bytes-again s h (last + 3) 4 in
+    let traces = walk-again traceBytes (heldTrace s n) s w t tracesPlace (λ k l. trace-again s h k (v .end .until .before k l)) in
+    let count : bytesOf 4 (length (walk (heldTrace s n) w t tracesPlace)) ≡ bytesAt s (last + 3) 4 =
+    ap (bytesOf 4) (size-walk (heldTrace s n) w t tracesPlace ∙ sym (v .count)) ∙ bytes-again s h (last + 3) 4 in
     let end = field-again s h 5 4 last _ (v .field) count in
-    let behind = join traces end ∙ bytes-join s firstField (t * w) 7 last (t * w + 7) refl refl in
-    join cards (join binary behind ∙ bytes-join s 3203 63 (t * w + 7) firstField (63 + (t * w + 7)) refl refl)
+    let behind = join traces end ∙ bytes-join s tracesPlace (t * w) 7 last (t * w + 7) refl refl in
+    join cards (join binary behind ∙ bytes-join s 3203 63 (t * w + 7) tracesPlace (63 + (t * w + 7)) refl refl)
     ∙ bytes-join s 0 3203 (63 + (t * w + 7)) 3203 (length s) refl (omega (arith, v .field .whole, v .last))
     ∙ all-bytes s
 

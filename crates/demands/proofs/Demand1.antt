@@ -53,7 +53,7 @@ use Rattle.sample_theorems.proofs.Pairs.{Iff, value-pair-back}
 use Rattle.reel.specs.Layout.{Field, binaryFields, traceFields, samplesOf, tracesOf}
 use Rattle.reel.specs.Causes.{traceCauses, behindCauses, causesOf}
 use Rattle.record.specs.Record.{reelRecord}
-use Rattle.record.specs.Form.{heldSamples, heldTraces}
+use Rattle.record.specs.Form.{heldSamples, heldCount}
 use Rattle.record.specs.Held.{heldBy}
 use Rattle.record.specs.Target.{isUnfit, targetCauses}
 use Rattle.transcribe.specs.Reading as reading
@@ -201,7 +201,7 @@ example-taken = refl
 
 -- The numbers that writing returns: T and N as the record holds them, and the reel's length, 3600 + T × (240 + N × the bytes of a sample).
 abbrev pub writtenNumbers : List ℕ → ℕ → List ℕ
-writtenNumbers r code = heldTraces r (heldSamples r) ∷ heldSamples r ∷ lengthOf r code ∷ []
+writtenNumbers r code = heldCount r (heldSamples r) ∷ heldSamples r ∷ lengthOf r code ∷ []
 
 module _ (r : List ℕ) (code : ℕ) (out : List ℕ) where
   -- What writing says, by what its checks answer.
@@ -243,7 +243,7 @@ module _ (r : List ℕ) (code : ℕ) (out : List ℕ) where
       let size = lengthOf r code in
       let q : writeCauses r code (length out) ≡ Fine = says-fine writeSays (writtenNumbers r code) refl (λ n p. refl) (writeCauses r code (length out)) (t ∷ n ∷ l ∷ []) e in
       let f = then-fine (targetCauses r code) _ q in
-      let same : taken (heldTraces r (heldSamples r) ∷ heldSamples r ∷ size ∷ []) ≡ taken (t ∷ n ∷ l ∷ []) = sym (ap writeSays q) ∙ e in
+      let same : taken (heldCount r (heldSamples r) ∷ heldSamples r ∷ size ∷ []) ≡ taken (t ∷ n ∷ l ∷ []) = sym (ap writeSays q) ∙ e in
       let is : size ≡ l = cc in
       let b = behind (reelOf code (heldBy r)) out size (reel-size r code) (at-most (length out) size 10 size (f .1)) in
       subst (λ (x : ℕ). (length (writeOutcome r code out .bytes) ≡ length out) × (drop x (writeOutcome r code out .bytes) ≡ drop x out)) is

@@ -33,7 +33,7 @@ use Rattle.sample_theorems.proofs.Pairs.{Iff}
 use Rattle.reel.specs.Layout.{samplesOf, tracesOf, sampleBytes}
 use Rattle.reel.specs.Meaning.{meaningOf}
 use Rattle.record.specs.Record.{recordOf}
-use Rattle.record.specs.Form.{heldInterval, heldSamples, heldTraces, formCauses}
+use Rattle.record.specs.Form.{heldInterval, heldSamples, heldCount, formCauses}
 use Rattle.record.specs.Held.{heldBy}
 use Rattle.transcribe.specs.Reading.{readOutcome}
 use Rattle.write_reel.specs.Reel.{reelOf, reelLength}
@@ -88,14 +88,14 @@ reading s out t n l b e =
 pub record CanBeWritten (r : List ℕ) (code : ℕ) (out : List ℕ) : Type 0 where
   pub code-is : isCode code ≡ true
   pub held : Worded code (heldBy r .traces)
-  pub room : 3600 + heldTraces r (heldSamples r) * (240 + heldSamples r * sampleBytes code) ≤ length out
+  pub room : 3600 + heldCount r (heldSamples r) * (240 + heldSamples r * sampleBytes code) ≤ length out
 
 -- THEOREM. A valid record is written as a reel in any code that holds every sample exactly, if the output is long enough; and in no other
 -- case.
 -- Rules out a writer that declines every record, one that says output too short before working out the length (the rest of that is
 -- `write-refused`), and one whose T or length is invented.
 pub writing : (r : List ℕ) (code : ℕ) (out : List ℕ) → Bytes r → formCauses r ≡ Fine
-    → Iff (writeOutcome r code out .said ≡ taken (heldTraces r (heldSamples r) ∷ heldSamples r ∷ (3600 + heldTraces r (heldSamples r) * (240 + heldSamples r * sampleBytes code)) ∷ []))
+    → Iff (writeOutcome r code out .said ≡ taken (heldCount r (heldSamples r) ∷ heldSamples r ∷ (3600 + heldCount r (heldSamples r) * (240 + heldSamples r * sampleBytes code)) ∷ []))
     (CanBeWritten r code out)
 writing r code out b v = (
   λ e. let w = written-needs r code out _ e in
@@ -112,7 +112,7 @@ pub record ReelWritten (r : List ℕ) (code : ℕ) (out : List ℕ) (t n l : ℕ
   -- The record is valid.
   pub valid : formCauses r ≡ Fine
   -- T and N are those of the record, and the length is that of a reel of T traces of N samples.
-  pub traces : t ≡ heldTraces r (heldSamples r)
+  pub traces : t ≡ heldCount r (heldSamples r)
   pub samples : n ≡ heldSamples r
   pub size : l ≡ 3600 + t * (240 + n * sampleBytes code)
   -- The output's first bytes are the reel of what the record holds, and they are all of it.
@@ -162,7 +162,7 @@ read-back r code out out₂ t n l b e h =
 -- Rules out a writer that declines every record, one whose T is invented, and what `read-back` rules out.
 pub round-trip : (r : List ℕ) (code : ℕ) (out out₂ : List ℕ) → Bytes r → formCauses r ≡ Fine → CanBeWritten r code out → length r ≤ length out₂
     → let n = heldSamples r in
-    let t = heldTraces r n in
+    let t = heldCount r n in
     let l = 3600 + t * (240 + n * sampleBytes code) in
     (writeOutcome r code out .said ≡ taken (t ∷ n ∷ l ∷ []))
     × (readOutcome (take l (writeOutcome r code out .bytes)) out₂ ≡ record { said = taken (t ∷ n ∷ length r ∷ []); bytes = r ++ drop (length r) out₂ })

@@ -21,7 +21,7 @@ use Rattle.reel.specs.Layout.{samplesOf, intervalOf, tracesOf}
 use Rattle.reel.specs.Causes.{causesOf}
 use Rattle.reel.specs.Meaning.{meaningOf}
 use Rattle.record.specs.Record.{recordOf}
-use Rattle.record.specs.Form.{heldSamples, heldTraces, formCauses}
+use Rattle.record.specs.Form.{heldSamples, heldCount, formCauses}
 use Rattle.record.specs.Held.{heldBy}
 use Rattle.transcribe.specs.Reading.{readOutcome}
 use Rattle.sample_theorems.proofs.Pairs.{Iff}
@@ -44,7 +44,7 @@ pub record RecordHolds (s : List ℕ) (t n : ℕ) (r : List ℕ) : Type 0 where
   -- It holds what the reel means.
   pub holds : heldBy r ≡ meaningOf s
   -- Its T and N are t and n.
-  pub traces : heldTraces r (heldSamples r) ≡ t
+  pub traces : heldCount r (heldSamples r) ≡ t
   pub samples : heldSamples r ≡ n
 
 -- The record of what a reel means to which no cause of 1 to 9 applies.
@@ -58,7 +58,7 @@ meant s b f =
       bytes = record-bytes n i m p;
       valid = record-no-cause n i m p;
       holds = record-again n i m p;
-      traces = ap (heldTraces (recordOf m)) (record-samples n i m p) ∙ record-traces n i m p ∙ meant-count s;
+      traces = ap (heldCount (recordOf m)) (record-samples n i m p) ∙ record-traces n i m p ∙ meant-count s;
       samples = record-samples n i m p;
     }
 
@@ -78,7 +78,7 @@ read-valid s out t n l b e =
 -- THEOREM. Neither 12 nor 13 applies to a record exactly when it is right from tag 01 to its last byte, with some count of traces.
 -- Alone it rules out none of the list: it spells out what valid means.
 pub valid-is : (r : List ℕ) → Iff (formCauses r ≡ Fine) ((t : ℕ) × RecordRight r t)
-valid-is r = (λ e. (heldTraces r (heldSamples r), record-right r e), λ h. record-fine r (h .0) (h .1))
+valid-is r = (λ e. (heldCount r (heldSamples r), record-right r e), λ h. record-fine r (h .0) (h .1))
 
 -- THEOREM. Two valid records that hold the same are equal byte for byte.
 -- With `read-valid` it leaves no second record to a reel. Alone it rules out none of the list, as it speaks of records only.

@@ -28,7 +28,7 @@ use Rattle.sample.specs.declared.Written.the-variants.{Word, Refused}
 use Rattle.sample_theorems.proofs.Pairs.{Iff, pair-value}
 use Rattle.sample_theorems.proofs.Words.{Writes, written-is, writing-sound, writing-complete}
 use Rattle.reel.specs.Meaning.{Trace, Meaning}
-use Rattle.record.specs.Form.{firstField, heldSamples, heldStride, heldTraces}
+use Rattle.record.specs.Form.{tracesPlace, heldSamples, heldStride, heldCount}
 use Rattle.record.specs.Held.{heldValue, heldTrace, heldBy}
 use Rattle.record.specs.Target.{isUnfit, fitCause, traceFit, fitCauses}
 
@@ -62,13 +62,13 @@ trace-fit-is s code n at = (
 )
 
 -- LAW. 14 finds nothing in a record exactly when each sample that it holds has a word under the code.
-pub fit-is : (s : List ℕ) (code : ℕ) → Iff (fitCauses s code (heldSamples s) (heldTraces s (heldSamples s)) ≡ Fine) (Fitting code (heldBy s))
+pub fit-is : (s : List ℕ) (code : ℕ) → Iff (fitCauses s code (heldSamples s) (heldCount s (heldSamples s)) ≡ Fine) (Fitting code (heldBy s))
 unfolding fitCauses heldBy
 fit-is s code =
     let n = heldSamples s in
-    let t = heldTraces s n in (
-      first-all (traceFit s code n) (heldTrace s n) (FittingTrace code) (λ a. trace-fit-is s code n a .0) (heldStride n) t firstField,
-      all-first (traceFit s code n) (heldTrace s n) (FittingTrace code) (λ a. trace-fit-is s code n a .1) (heldStride n) t firstField,
+    let t = heldCount s n in (
+      first-all (traceFit s code n) (heldTrace s n) (FittingTrace code) (λ a. trace-fit-is s code n a .0) (heldStride n) t tracesPlace,
+      all-first (traceFit s code n) (heldTrace s n) (FittingTrace code) (λ a. trace-fit-is s code n a .1) (heldStride n) t tracesPlace,
     )
 
 -- ## A value

@@ -26,7 +26,7 @@ use Rattle.reel.specs.Layout.{cardBytes, binaryWidths, binaryFields, traceWidth
 use Rattle.reel.specs.Causes.{mostTraces, neither, traceCauses, causesOf}
 use Rattle.reel.specs.Meaning.{blank, cardText, binaryNumbers, filled, traceMeaning, meaningOf}
 use Rattle.reel.proofs.CheckLaws.{reel-fine}
-use Rattle.record.specs.Form.{heldInterval, heldSamples, firstField, heldStride, heldTraces, formCauses}
+use Rattle.record.specs.Form.{heldInterval, heldSamples, tracesPlace, heldStride, heldCount, formCauses}
 use Rattle.record.specs.Held.{heldValue, heldTrace, heldBy}
 use Rattle.record.proofs.HeaderLaws.{binary-front, binary-back, size-cards}
 use Rattle.record.proofs.FormLaws.{tags-most}
@@ -104,7 +104,7 @@ held-proper r h e =
     let v = record-right r e .end .until in
     let n = heldSamples r in
     let i = heldInterval r in
-    let t = heldTraces r n in
+    let t = heldCount r n in
     let p : n < 2 ^ 15 = omega (arith, v .head .samples .1) in
     let q : i < 2 ^ 15 = omega (arith, v .head .interval .1) in
     record {
@@ -118,8 +118,8 @@ held-proper r h e =
       fit-back = fields-fit r h 6 3227 binary-back binary-back-some;
       n-is = signed-low n p;
       i-is = signed-low i q;
-      few = rw (size-walk (heldTrace r n) (heldStride n) t firstField) (tags-most mostTraces r (heldStride n) firstField);
-      traces = all-each (ProperTrace n i) (heldTrace r n) (heldStride n) t firstField (λ k l. trace-held r h p q k (v .before k l));
+      few = rw (size-walk (heldTrace r n) (heldStride n) t tracesPlace) (tags-most mostTraces r (heldStride n) tracesPlace);
+      traces = all-each (ProperTrace n i) (heldTrace r n) (heldStride n) t tracesPlace (λ k l. trace-held r h p q k (v .before k l));
     }
 
 -- ## What a reel means

@@ -26,7 +26,8 @@ use Rattle.reel.specs.Layout.{cardBytes, binaryFields, traceWidths, fieldNumber
 use Rattle.reel.specs.Causes.{mostSamples, mostTraces, mostInterval}
 use Rattle.reel.specs.Meaning.{otherThan, Trace, Meaning}
 use Rattle.record.specs.Record.{field, numberBytes, binaryBytes, valueBytes, samplesField, traceBytes, recordOf, recordLength}
-use Rattle.record.specs.Form.{fieldCause, cardCause, cardsCauses, heldInterval, heldSamples, heldCode, numberCauses, binaryCauses, firstField, heldStride, pairCause, samplesCauses, traceForm, tagsFrom, heldTraces, endCauses, bodyCauses, formCauses}
+use Rattle.record.specs.Form.{fieldCause, cardCause, cardsCauses, heldInterval, heldSamples, heldCode, numberCauses, binaryCauses, tracesPlace, heldStride, pairCause, samplesCauses, traceForm, tagsFrom, heldCount, endCauses, bodyCauses, formCauses}
+use Rattle.record.proofs.FormLaws.{trace-parts}
 use Rattle.record.specs.Held.{heldValue, heldTrace, heldBy}
 use Rattle.reel_theorems.proofs.Ranges.{length-bytes}
 use Rattle.reel_theorems.proofs.Same.{size-field, trace-eq}
@@ -137,11 +138,11 @@ module _ (n i : ℕ) (t : Trace) (h : ProperTrace n i t) where
 
     -- nor to the trace.
     trace-fine : n ≤ mostSamples → traceForm s n i at ≡ Fine
-    unfolding traceForm
     trace-fine few =
         let a : word s (at + 117) ≡ n = ap (word s) (omega arith) ∙ count-again n i t h s b (at + 3) _ from-numbers in
         let c : word s (at + 119) ≡ i = ap (word s) (omega arith) ∙ spacing-again n i t h s b (at + 3) _ from-numbers in
-        both-fine (field-fine s 3 180 _ (size-header n i t h) at _ from-header (omega arith))
+        trace-parts s n i at
+        ∙ both-fine (field-fine s 3 180 _ (size-header n i t h) at _ from-header (omega arith))
         (rw (eq-eqb (word s (at + 117)) n a, eq-eqb (word s (at + 119)) i c) (samples-fine few))
 
     -- It holds the trace.
@@ -231,14 +232,14 @@ module _ (n i : ℕ) (m : Meaning) (p : Proper n i m) where
   from-binary = from-content (recordOf m) 2 60 (binaryBytes 0 (m .binary)) (size-binary n i m p 0) 3203 _ from-second
 
   -- then come the traces,
-  from-traces : From (recordOf m) firstField (flat (map traceBytes (m .traces)) ++ field 5 (bytesOf 4 (length (m .traces))))
+  from-traces : From (recordOf m) tracesPlace (flat (map traceBytes (m .traces)) ++ field 5 (bytesOf 4 (length (m .traces))))
   from-traces = from-rest (recordOf m) 2 60 (binaryBytes 0 (m .binary)) (size-binary n i m p 0) 3203 _ from-second
 
   -- and behind them tag 05 with their count.
-  from-end : From (recordOf m) (firstField + length (m .traces) * heldStride n) (field 5 (bytesOf 4 (length (m .traces))) ++ [])
+  from-end : From (recordOf m) (tracesPlace + length (m .traces) * heldStride n) (field 5 (bytesOf 4 (length (m .traces))) ++ [])
   from-end =
       rw append-nil
-      (from-behind (recordOf m) traceBytes (ProperTrace n i) (heldStride n) (size-trace n i) (m .traces) firstField _ (p .traces) from-traces)
+      (from-behind (recordOf m) traceBytes (ProperTrace n i) (heldStride n) (size-trace n i) (m .traces) tracesPlace _ (p .traces) from-traces)
 
   -- LAW. N in the record is that of the meaning.
   pub record-samples : heldSamples (recordOf m) ≡ n
@@ -249,9 +250,9 @@ module _ (n i : ℕ) (m : Meaning) (p : Proper n i m) where
   record-interval = interval-again n i m p 0 (recordOf m) record-bytes 6 _ from-binary
 
   -- LAW. The record has as many traces as the meaning.
-  pub record-traces : heldTraces (recordOf m) n ≡ length (m .traces)
+  pub record-traces : heldCount (recordOf m) n ≡ length (m .traces)
   unfolding field
-  record-traces = tags-again n i (recordOf m) record-bytes mostTraces (m .traces) firstField 5 _ (p .traces) (p .few) refl from-traces
+  record-traces = tags-again n i (recordOf m) record-bytes mostTraces (m .traces) tracesPlace 5 _ (p .traces) (p .few) refl from-traces
 
   -- The format code in the record is 0.
   record-code : heldCode (recordOf m) ≡ 0
@@ -276,16 +277,16 @@ module _ (n i : ℕ) (m : Meaning) (p : Proper n i m) where
       (rw (record-interval, record-samples, record-code) limits-fine)
 
   -- nor to a trace,
-  traces-fine : firstOf (walk (traceForm (recordOf m) n i) (heldStride n) (length (m .traces)) firstField) ≡ Fine
+  traces-fine : firstOf (walk (traceForm (recordOf m) n i) (heldStride n) (length (m .traces)) tracesPlace) ≡ Fine
   traces-fine =
       from-fine (recordOf m) traceBytes (ProperTrace n i) (heldStride n) (size-trace n i) (traceForm (recordOf m) n i)
-      (λ t at rest h e. trace-fine n i t h (recordOf m) record-bytes at rest e (p .n-high)) (m .traces) firstField _ (p .traces) from-traces
+      (λ t at rest h e. trace-fine n i t h (recordOf m) record-bytes at rest e (p .n-high)) (m .traces) tracesPlace _ (p .traces) from-traces
 
   -- nor to tag 05,
-  end-fine : endCauses (recordOf m) (length (m .traces)) (firstField + length (m .traces) * heldStride n) ≡ Fine
+  end-fine : endCauses (recordOf m) (length (m .traces)) (tracesPlace + length (m .traces) * heldStride n) ≡ Fine
   end-fine =
       let t = length (m .traces) in
-      let at = firstField + t * heldStride n in
+      let at = tracesPlace + t * heldStride n in
       let count : number (bytesAt (recordOf m) (at + 3) 4) ≡ t =
       from-number 4 t [] (omega (arith, p .few)) (from-content (recordOf m) 5 4 (bytesOf 4 t) (length-bytes 4 t) at [] from-end) in
       let last : length (recordOf m) ≤ at + 7 = omega (arith, record-length) in
@@ -317,5 +318,5 @@ module _ (n i : ℕ) (m : Meaning) (p : Proper n i m) where
       traces =
           rw (record-samples, record-traces)
           (from-walk (recordOf m) traceBytes (ProperTrace n i) (heldStride n) (size-trace n i) (heldTrace (recordOf m) n) (λ (t : Trace). t)
-          (λ t at rest h e. trace-again n i t h (recordOf m) record-bytes at rest e) (m .traces) firstField _ (p .traces) from-traces
+          (λ t at rest h e. trace-again n i t h (recordOf m) record-bytes at rest e) (m .traces) tracesPlace _ (p .traces) from-traces
           ∙ map-id (m .traces))

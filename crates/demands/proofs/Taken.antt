@@ -20,7 +20,7 @@ use Rattle.reel.specs.Layout.{firstTrace, intervalOf, samplesOf, codeOf, stride
 use Rattle.reel.specs.Causes.{causesOf}
 use Rattle.reel.specs.Meaning.{Trace, traceMeaning, Meaning, meaningOf}
 use Rattle.record.specs.Record.{recordOf, reelRecord}
-use Rattle.record.specs.Form.{firstField, heldInterval, heldSamples, heldStride, heldTraces, formCauses}
+use Rattle.record.specs.Form.{tracesPlace, heldInterval, heldSamples, heldStride, heldCount, formCauses}
 use Rattle.record.specs.Held.{heldTrace, heldBy}
 use Rattle.record.specs.Target.{fitCauses, targetCauses}
 use Rattle.transcribe.specs.Reading as reading
@@ -75,7 +75,7 @@ meant-count s = size-walk (traceMeaning s (codeOf s) (samplesOf s) (intervalOf s
 pub record Writable (r : List ℕ) (code : ℕ) (out : List ℕ) : Type 0 where
   pub code-is : isCode code ≡ true
   pub form : formCauses r ≡ Fine
-  pub fit : fitCauses r code (heldSamples r) (heldTraces r (heldSamples r)) ≡ Fine
+  pub fit : fitCauses r code (heldSamples r) (heldCount r (heldSamples r)) ≡ Fine
   pub room : writing.lengthOf r code ≤ length out
 
 module _ (r : List ℕ) (code : ℕ) (out : List ℕ) where
@@ -106,7 +106,7 @@ module _ (r : List ℕ) (code : ℕ) (out : List ℕ) where
   unfolding targetCauses
   write-taken w =
       let k = writing.lengthOf r code in
-      let f = fitCauses r code (heldSamples r) (heldTraces r (heldSamples r)) in
+      let f = fitCauses r code (heldSamples r) (heldCount r (heldSamples r)) in
       let room = ap (λ (b : Bool). refuseIf b 10 k) (le-ltb (length out) k (w .room)) in
       ap (λ (b : Bool). writeEnd r code out (then (then (refuseIf (not b) 11 0) (then (formCauses r) f)) (refuseIf (ltb (length out) k) 10 k))) (w .code-is)
       ∙ ap (λ (c : Check). writeEnd r code out (then (then c f) (refuseIf (ltb (length out) k) 10 k))) (w .form)
@@ -128,11 +128,11 @@ needs r code out b v c f h =
 -- ## The reel of a record
 
 -- The traces of what a record holds are those that are counted in it.
-pub held-count : (r : List ℕ) → length (heldBy r .traces) ≡ heldTraces r (heldSamples r)
+pub held-count : (r : List ℕ) → length (heldBy r .traces) ≡ heldCount r (heldSamples r)
 unfolding heldBy
 held-count r =
     let n = heldSamples r in
-    size-walk (heldTrace r n) (heldStride n) (heldTraces r n) firstField
+    size-walk (heldTrace r n) (heldStride n) (heldCount r n) tracesPlace
 
 -- A record that is written.
 module _ (r : List ℕ) (b : Bytes r) (code : ℕ) (out : List ℕ) (w : Writable r code out) where
@@ -159,7 +159,7 @@ module _ (r : List ℕ) (b : Bytes r) (code : ℕ) (out : List ℕ) (w : Writabl
   pub written-samples : samplesOf (reelOf code (heldBy r)) ≡ heldSamples r
   written-samples = reel-samples code (heldSamples r) (heldInterval r) (heldBy r) proper (w .code-is) fitting
 
-  pub written-traces : tracesOf (reelOf code (heldBy r)) ≡ heldTraces r (heldSamples r)
+  pub written-traces : tracesOf (reelOf code (heldBy r)) ≡ heldCount r (heldSamples r)
   written-traces = reel-traces code (heldSamples r) (heldInterval r) (heldBy r) proper (w .code-is) fitting ∙ held-count r
 
   -- Its record is the record.
@@ -173,7 +173,7 @@ module _ (r : List ℕ) (b : Bytes r) (code : ℕ) (out : List ℕ) (w : Writabl
 
   -- Reading it into an output long enough gives the record again, with the record's T and N.
   pub written-read : (out₂ : List ℕ) → length r ≤ length out₂
-      → readOutcome (reelOf code (heldBy r)) out₂ ≡ record { said = taken (heldTraces r (heldSamples r) ∷ heldSamples r ∷ length r ∷ []); bytes = r ++ drop (length r) out₂ }
+      → readOutcome (reelOf code (heldBy r)) out₂ ≡ record { said = taken (heldCount r (heldSamples r) ∷ heldSamples r ∷ length r ∷ []); bytes = r ++ drop (length r) out₂ }
   written-read out₂ h = read-taken s out₂ written-no-cause (rw written-length h) ∙ ap₂ made said bytes
     where
       s : List ℕ
@@ -182,7 +182,7 @@ module _ (r : List ℕ) (b : Bytes r) (code : ℕ) (out : List ℕ) (w : Writabl
       made : Said → List ℕ → Outcome
       made x y = record { said = x; bytes = y }
 
-      said : taken (tracesOf s ∷ samplesOf s ∷ reading.lengthOf s ∷ []) ≡ taken (heldTraces r (heldSamples r) ∷ heldSamples r ∷ length r ∷ [])
+      said : taken (tracesOf s ∷ samplesOf s ∷ reading.lengthOf s ∷ []) ≡ taken (heldCount r (heldSamples r) ∷ heldSamples r ∷ length r ∷ [])
       said = ap taken (cons-eq written-traces (cons-eq written-samples (cons-eq written-length refl)))
 
       bytes : reelRecord s ++ drop (reading.lengthOf s) out₂ ≡ r ++ drop (length r) out₂

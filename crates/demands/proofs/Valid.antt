@@ -24,9 +24,9 @@ use Rattle.sample.specs.Calls.{pairLength, pairIn}
 use Rattle.sample_theorems.proofs.Held.{and-true}
 use Rattle.reel.specs.Layout.{word}
 use Rattle.reel.specs.Causes.{mostSamples, mostTraces, mostInterval, within}
-use Rattle.record.specs.Form.{isField, fieldCause, cardCause, cardsCauses, heldInterval, heldSamples, heldCode, binaryCauses, firstField, heldStride, pairCause, samplesCauses, traceForm, tagsFrom, heldTraces, endCauses, bodyCauses, formCauses}
+use Rattle.record.specs.Form.{isField, fieldCause, cardCause, cardsCauses, heldInterval, heldSamples, heldCode, binaryCauses, tracesPlace, heldStride, pairCause, samplesCauses, traceForm, tagsFrom, heldCount, endCauses, bodyCauses, formCauses}
 use Rattle.reel_theorems.proofs.TestLaws.{Between, Tests, test-by, fine-where, holds-where, then-second, and-both, test-between, test-same, test-room, at-zero, at-suc, none-is, none-of, walk-fine, walk-holds}
-use Rattle.record.proofs.FormLaws.{tags-most}
+use Rattle.record.proofs.FormLaws.{trace-parts, tags-most}
 
 -- ## The terms
 
@@ -42,7 +42,7 @@ CanonicalAt s at = isCanonical (pairIn (bytesAt s at pairLength)) ≡ true
 
 -- The place of trace k in a record, counted from 0; behind the last trace it is the place of tag 05.
 abbrev pub tracePlace : List ℕ → ℕ → ℕ
-tracePlace s k = firstField + k * heldStride (heldSamples s)
+tracePlace s k = tracesPlace + k * heldStride (heldSamples s)
 
 -- The place of pair j of trace k, behind tag 03 with its 180 bytes and tag 04 with its length.
 abbrev pub pairPlace : List ℕ → ℕ → ℕ → ℕ
@@ -187,9 +187,10 @@ module _ (s : List ℕ) (k : ℕ) where
 
   -- Where a trace is right, 12 and 13 find nothing in it.
   pub trace-fine : TraceRight s k → formAt s (tracePlace s k) ≡ Fine
-  unfolding traceForm samplesCauses
+  unfolding samplesCauses
   trace-fine h =
-      then-second _ _ (fine-where (test-field s 3 180 (tracePlace s k)) (h .header))
+      trace-parts s (heldSamples s) (heldInterval s) (tracePlace s k)
+      ∙ then-second _ _ (fine-where (test-field s 3 180 (tracePlace s k)) (h .header))
       (then-second _ _ (fine-where (test-same (word s (tracePlace s k + 117)) (heldSamples s) 13 (tracePlace s k + 117)) (h .count))
       (then-second _ _ (fine-where (test-same (word s (tracePlace s k + 119)) (heldInterval s) 13 (tracePlace s k + 119)) (h .interval))
       (then-second _ _ (fine-where (test-field s 4 (6 * heldSamples s) (tracePlace s k + 183)) (h .samples))
@@ -197,12 +198,12 @@ module _ (s : List ℕ) (k : ℕ) where
 
   -- And where they find nothing in it, it is right.
   trace-right : formAt s (tracePlace s k) ≡ Fine → TraceRight s k
-  unfolding traceForm samplesCauses
+  unfolding samplesCauses
   trace-right e =
       let n = heldSamples s in
       let i = heldInterval s in
       let at = tracePlace s k in
-      let a = then-fine (fieldCause s 3 180 at) _ e in
+      let a = then-fine (fieldCause s 3 180 at) _ (sym (trace-parts s n i at) ∙ e) in
       let b = then-fine (refuseIf (not (eqb (word s (at + 117)) n)) 13 (at + 117)) _ (a .1) in
       let c = then-fine (refuseIf (not (eqb (word s (at + 119)) i)) 13 (at + 119)) _ (b .1) in
       let d = then-fine (fieldCause s 4 (pairLength * n) (at + 183)) _ (c .1) in
@@ -283,7 +284,7 @@ tags-end (suc most) s w at = go (eqb (getD s at 0) 3) refl (tags-end most s w (a
 
 -- The traces that a record holds, by the tags 03 that follow each other.
 abbrev pub countIn : List ℕ → ℕ
-countIn s = heldTraces s (heldSamples s)
+countIn s = heldCount s (heldSamples s)
 
 module _ (s : List ℕ) where
   -- The tags of the traces up to trace k are 03.
@@ -295,7 +296,7 @@ module _ (s : List ℕ) where
   next-counted k h =
       let w = heldStride (heldSamples s) in
       let few : k < mostTraces = h .few in
-      let all = tags-more mostTraces s w firstField k (omega arith) (tags-until k (h .until)) in
+      let all = tags-more mostTraces s w tracesPlace k (omega arith) (tags-until k (h .until)) in
       let one = tags-next (mostTraces - k) s w (tracePlace s k) (omega arith) (h .tag) in
       omega arith
 
@@ -304,7 +305,7 @@ module _ (s : List ℕ) where
   end-counted t h =
       let w = heldStride (heldSamples s) in
       let few : t ≤ mostTraces = h .few in
-      let all = tags-more mostTraces s w firstField t (omega arith) (tags-until t (h .until)) in
+      let all = tags-more mostTraces s w tracesPlace t (omega arith) (tags-until t (h .until)) in
       let none = tags-none (mostTraces - t) s w (tracePlace s t) (⊎-elim (λ e. inl (full e)) (λ n. inr n) (h .end)) in
       omega arith
     where
@@ -312,28 +313,28 @@ module _ (s : List ℕ) where
       full e = omega arith
 
   -- The traces up to trace t are right, as far as they are looked at.
-  until-fine : (t : ℕ) → RightUntil s t → firstOf (walk (formAt s) (heldStride (heldSamples s)) t firstField) ≡ Fine
-  until-fine t h = none-of (formAt s) (heldStride (heldSamples s)) t firstField (λ j l. trace-fine s j (h .before j l))
+  until-fine : (t : ℕ) → RightUntil s t → firstOf (walk (formAt s) (heldStride (heldSamples s)) t tracesPlace) ≡ Fine
+  until-fine t h = none-of (formAt s) (heldStride (heldSamples s)) t tracesPlace (λ j l. trace-fine s j (h .before j l))
 
   -- Where the traces that are counted are all right, tag 05 should follow them.
-  pub end-next : HeadRight s → firstOf (walk (formAt s) (heldStride (heldSamples s)) (countIn s) firstField) ≡ Fine → EndNext s (countIn s)
+  pub end-next : HeadRight s → firstOf (walk (formAt s) (heldStride (heldSamples s)) (countIn s) tracesPlace) ≡ Fine → EndNext s (countIn s)
   end-next h e =
       let w = heldStride (heldSamples s) in
       record {
-        until = record { head = h; before = λ i l. trace-right s i (none-is (formAt s) w (countIn s) firstField e i l) };
-        few = tags-most mostTraces s w firstField;
-        end = tags-end mostTraces s w firstField;
+        until = record { head = h; before = λ i l. trace-right s i (none-is (formAt s) w (countIn s) tracesPlace e i l) };
+        few = tags-most mostTraces s w tracesPlace;
+        end = tags-end mostTraces s w tracesPlace;
       }
 
   -- A trace that is counted, behind traces that are all right.
   pub trace-next : HeadRight s → (k : ℕ) → k < countIn s → ((i : ℕ) → i < k → formAt s (tracePlace s i) ≡ Fine) → TraceNext s k
   trace-next h k l b =
       let w = heldStride (heldSamples s) in
-      let most = tags-most mostTraces s w firstField in
+      let most = tags-most mostTraces s w tracesPlace in
       record {
         until = record { head = h; before = λ i m. trace-right s i (b i m) };
         few = omega arith;
-        tag = tags-are mostTraces s w firstField k l;
+        tag = tags-are mostTraces s w tracesPlace k l;
       }
 
   -- ## The end
@@ -382,7 +383,7 @@ module _ (s : List ℕ) where
       let a = then-fine (cardsCauses s) _ e in
       let b = then-fine (binaryCauses s) _ (a .1) in
       let h = head-right s (cards-right s (a .0)) (b .0) in
-      let c = then-fine (firstOf (walk (formAt s) (heldStride (heldSamples s)) (countIn s) firstField)) _ (b .1) in
+      let c = then-fine (firstOf (walk (formAt s) (heldStride (heldSamples s)) (countIn s) tracesPlace)) _ (b .1) in
       end-right (countIn s) (end-next h (c .0)) (c .1)
 
 -- ## Along a walk

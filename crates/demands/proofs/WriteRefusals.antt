@@ -24,7 +24,8 @@ use Rattle.sample.specs.Calls.{pairLength}
 use Rattle.sample_theorems.proofs.Pairs.{Iff}
 use Rattle.reel.specs.Layout.{word}
 use Rattle.reel.specs.Causes.{mostSamples, mostInterval, within}
-use Rattle.record.specs.Form.{fieldCause, cardCause, cardsCauses, heldInterval, heldSamples, heldCode, binaryCauses, firstField, heldStride, pairCause, samplesCauses, traceForm, endCauses, bodyCauses, formCauses}
+use Rattle.record.specs.Form.{fieldCause, cardCause, cardsCauses, heldInterval, heldSamples, heldCode, binaryCauses, tracesPlace, heldStride, pairCause, samplesCauses, traceForm, endCauses, bodyCauses, formCauses}
+use Rattle.record.proofs.FormLaws.{trace-parts}
 use Rattle.record.specs.Held.{heldValue}
 use Rattle.record.specs.Target.{isUnfit, fitCause, traceFit, fitCauses, targetCauses}
 use Rattle.write_reel.specs.Reel.{reelLength}
@@ -135,7 +136,7 @@ module _ (s : List ℕ) (code room : ℕ) where
   from-trace {n} {p} k g h e =
       from-form g
       (form-body s (h .until .head)
-      (then-first _ _ (first-of (formAt s) (heldStride (heldSamples s)) (countIn s) firstField n p (record { j = k; below = next-counted s k h; before = λ i l. trace-fine s i (h .until .before i l); here = e }))))
+      (then-first _ _ (first-of (formAt s) (heldStride (heldSamples s)) (countIn s) tracesPlace n p (record { j = k; below = next-counted s k h; before = λ i l. trace-fine s i (h .until .before i l); here = e }))))
 
   -- So for the end, where all is right up to it.
   from-end : {n p : ℕ} (t : ℕ) → Between 1 4 code → EndNext s t → endCauses s t (tracePlace s t) ≡ Refused n (atPlace p) → writeCauses s code room ≡ Refused n (atPlace p)
@@ -170,13 +171,13 @@ module _ (s : List ℕ) (code room : ℕ) where
   all-fit : (t : ℕ) → Between 1 4 code → RecordRight s t → ((k j : ℕ) → k < t → j < heldSamples s → Fits s code k j) → fitsOver t ≡ Fine
   unfolding fitCauses
   all-fit t g h f =
-      none-of (traceFit s code (heldSamples s)) (heldStride (heldSamples s)) t firstField (λ k l. trace-fits t k g h l (λ j m. f k j l m))
+      none-of (traceFit s code (heldSamples s)) (heldStride (heldSamples s)) t tracesPlace (λ k l. trace-fits t k g h l (λ j m. f k j l m))
 
   -- And where it finds nothing in a valid record, every sample fits.
   fit-all : (t : ℕ) → Between 1 4 code → RecordRight s t → fitsOver t ≡ Fine → (k j : ℕ) → k < t → j < heldSamples s → Fits s code k j
   unfolding fitCauses
   fit-all t g h e k j l m =
-      fits-trace t k g h l (none-is (traceFit s code (heldSamples s)) (heldStride (heldSamples s)) t firstField e k l) j m
+      fits-trace t k g h l (none-is (traceFit s code (heldSamples s)) (heldStride (heldSamples s)) t tracesPlace e k l) j m
 
   -- Of a valid record, the answer before the output's length is that of 14.
   from-fits : {x : Check} (t : ℕ) → Between 1 4 code → RecordRight s t → fitsOver t ≡ x → targetCauses s code ≡ x
@@ -192,7 +193,7 @@ module _ (s : List ℕ) (code room : ℕ) where
   unfolding fitCauses traceFit
   from-unfit t k j g h l m f b n =
       let size = heldSamples s in
-      first-of (traceFit s code size) (heldStride size) t firstField 14 (pairPlace s k j)
+      first-of (traceFit s code size) (heldStride size) t tracesPlace 14 (pairPlace s k j)
       (record {
         j = k;
         below = l;
@@ -202,7 +203,7 @@ module _ (s : List ℕ) (code room : ℕ) where
 
   -- Each row is the answer where it applies: all that comes before it finds nothing, and its own test refuses.
   from-row : {n p : ℕ} → WriteRow s code room n p → writeCauses s code room ≡ Refused n (atPlace p)
-  unfolding targetCauses cardsCauses binaryCauses traceForm samplesCauses
+  unfolding targetCauses cardsCauses binaryCauses samplesCauses
   from-row (bad-target h) = then-first (targetCauses s code) _ (then-first _ _ (refused-where (test-between 1 4 code 11 0) h))
   from-row (no-cards g h) = from-cards g (then-first (fieldCause s 1 3200 0) _ (refused-where (test-field s 1 3200 0) h))
   from-row (bad-card j g c l b z) =
@@ -225,25 +226,25 @@ module _ (s : List ℕ) (code room : ℕ) where
       (then-second _ _ (fine-where (test-between 1 mostInterval (heldInterval s) 13 3222) i)
       (then-second _ _ (fine-where (test-between 1 mostSamples (heldSamples s) 13 3226) m)
       (then-first _ _ (refused-where (test-same (heldCode s) 0 13 3230) h)))))
-  from-row (no-header k g t h) = from-trace k g t (then-first _ _ (refused-where (test-field s 3 180 (tracePlace s k)) h))
+  from-row (no-header k g t h) = from-trace k g t (trace-parts s (heldSamples s) (heldInterval s) (tracePlace s k) ∙ then-first _ _ (refused-where (test-field s 3 180 (tracePlace s k)) h))
   from-row (bad-held-115 k g t f h) =
       from-trace k g t
-      (then-second _ _ (fine-where (test-field s 3 180 (tracePlace s k)) f)
+      (trace-parts s (heldSamples s) (heldInterval s) (tracePlace s k) ∙ then-second _ _ (fine-where (test-field s 3 180 (tracePlace s k)) f)
       (then-first _ _ (refused-where (test-same (word s (tracePlace s k + 117)) (heldSamples s) 13 (tracePlace s k + 117)) h)))
   from-row (bad-held-117 k g t f c h) =
       from-trace k g t
-      (then-second _ _ (fine-where (test-field s 3 180 (tracePlace s k)) f)
+      (trace-parts s (heldSamples s) (heldInterval s) (tracePlace s k) ∙ then-second _ _ (fine-where (test-field s 3 180 (tracePlace s k)) f)
       (then-second _ _ (fine-where (test-same (word s (tracePlace s k + 117)) (heldSamples s) 13 (tracePlace s k + 117)) c)
       (then-first _ _ (refused-where (test-same (word s (tracePlace s k + 119)) (heldInterval s) 13 (tracePlace s k + 119)) h))))
   from-row (no-samples k g t f c i h) =
       from-trace k g t
-      (then-second _ _ (fine-where (test-field s 3 180 (tracePlace s k)) f)
+      (trace-parts s (heldSamples s) (heldInterval s) (tracePlace s k) ∙ then-second _ _ (fine-where (test-field s 3 180 (tracePlace s k)) f)
       (then-second _ _ (fine-where (test-same (word s (tracePlace s k + 117)) (heldSamples s) 13 (tracePlace s k + 117)) c)
       (then-second _ _ (fine-where (test-same (word s (tracePlace s k + 119)) (heldInterval s) 13 (tracePlace s k + 119)) i)
       (then-first _ _ (refused-where (test-field s 4 (6 * heldSamples s) (tracePlace s k + 183)) h)))))
   from-row (bad-pair k j g t f c i d l b h) =
       from-trace k g t
-      (then-second _ _ (fine-where (test-field s 3 180 (tracePlace s k)) f)
+      (trace-parts s (heldSamples s) (heldInterval s) (tracePlace s k) ∙ then-second _ _ (fine-where (test-field s 3 180 (tracePlace s k)) f)
       (then-second _ _ (fine-where (test-same (word s (tracePlace s k + 117)) (heldSamples s) 13 (tracePlace s k + 117)) c)
       (then-second _ _ (fine-where (test-same (word s (tracePlace s k + 119)) (heldInterval s) 13 (tracePlace s k + 119)) i)
       (then-second _ _ (fine-where (test-field s 4 (6 * heldSamples s) (tracePlace s k + 183)) d)
@@ -300,8 +301,8 @@ module _ (s : List ℕ) (code room : ℕ) {n p : ℕ} (g : Between 1 4 code) whe
 
   -- What is refused in trace k has its row, where all is right up to it.
   to-trace : (k : ℕ) → TraceNext s k → formAt s (tracePlace s k) ≡ Refused n (atPlace p) → WriteRow s code room n p
-  unfolding traceForm samplesCauses
-  to-trace k t =
+  unfolding samplesCauses
+  to-trace k t refused =
       let at = tracePlace s k in
       let size = heldSamples s in
       let f = test-field s 3 180 at in
@@ -317,6 +318,7 @@ module _ (s : List ℕ) (code room : ℕ) {n p : ℕ} (g : Between 1 4 code) whe
       then-row (WriteRow s code room) (fieldCause s 4 (6 * size) (at + 183)) _ (row-where d (WriteRow s code room) (no-samples k g t header count interval))
       (λ x. walk-row (λ j. CanonicalAt s (pairPlace s k j)) 13 (pairCause s) pairLength size (at + 183 + 3) (pairPlace s k) (pair-tests s k) (WriteRow s code room)
       (λ j l b h. bad-pair k j g t header count interval (holds-where d x) l b h)))))
+      (sym (trace-parts s size (heldInterval s) at) ∙ refused)
 
   -- What is refused at the end has its row, where all is right up to it.
   to-end : (t : ℕ) → EndNext s t → endCauses s t (tracePlace s t) ≡ Refused n (atPlace p) → WriteRow s code room n p
@@ -336,8 +338,8 @@ module _ (s : List ℕ) (code room : ℕ) {n p : ℕ} (g : Between 1 4 code) whe
   unfolding bodyCauses
   to-body h =
       let w = heldStride (heldSamples s) in
-      then-row (WriteRow s code room) (firstOf (walk (formAt s) w (countIn s) firstField)) _
-      (λ e. let r = first-is (formAt s) w (countIn s) firstField n p e in
+      then-row (WriteRow s code room) (firstOf (walk (formAt s) w (countIn s) tracesPlace)) _
+      (λ e. let r = first-is (formAt s) w (countIn s) tracesPlace n p e in
       to-trace (r .j) (trace-next s h (r .j) (r .below) (r .before)) (r .here))
       (λ e. to-end (countIn s) (end-next s h e))
 
@@ -354,7 +356,7 @@ module _ (s : List ℕ) (code room : ℕ) {n p : ℕ} (g : Between 1 4 code) whe
   unfolding fitCauses traceFit
   to-fits t h e =
       let size = heldSamples s in
-      let r = first-is (traceFit s code size) (heldStride size) t firstField n p e in
+      let r = first-is (traceFit s code size) (heldStride size) t tracesPlace n p e in
       let k = r .j in
       let l : k < t = r .below in
       walk-row (Fits s code k) 14 (fitCause s code) pairLength size (tracePlace s k + 186) (pairPlace s k) (fit-tests s code room t k g h l) (WriteRow s code room)

@@ -18,7 +18,7 @@ use Rattle.sample.specs.declared.Written.the-variants.{Word, Refused}
 use Rattle.reel.specs.Layout.{binaryWidths, binaryFields, traceWidths, traceFields, cardBytes, fieldNumber, sampleBytes, stride}
 use Rattle.reel.specs.Meaning.{otherThan}
 use Rattle.record.specs.Record.{numberBytes, withCode, binaryBytes}
-use Rattle.record.specs.Form.{firstField, heldSamples, heldStride, heldTraces}
+use Rattle.record.specs.Form.{tracesPlace, heldSamples, heldStride, heldCount}
 use Rattle.record.specs.Held.{heldValue, heldTrace, heldBy}
 use Rattle.record.proofs.NumberLaws.{total}
 use Rattle.record.proofs.HeaderLaws.{counts}
@@ -80,10 +80,10 @@ unfolding reelOf heldBy
 reel-size s code =
     let n = heldSamples s in
     let binary = binaryBytes code (map (fieldNumber s 6) (otherThan 3225 binaryFields)) in
-    let traces = flat (map (traceWritten code) (walk (heldTrace s n) (heldStride n) (heldTraces s n) firstField)) in
+    let traces = flat (map (traceWritten code) (walk (heldTrace s n) (heldStride n) (heldCount s n) tracesPlace)) in
     let a = length-append (bytesAt s 3 cardBytes) (binary ++ (replicate 340 0 ++ traces)) in
     let b = length-append binary (replicate 340 0 ++ traces) in
     let c = length-append (replicate 340 0) traces in
     let d : length {A = ℕ} (replicate 340 0) ≡ 340 = refl in
-    let e = flat-length (traceWritten code) (heldTrace s n) (stride n (sampleBytes code)) (λ p. trace-size s code n p) (heldStride n) (heldTraces s n) firstField in
+    let e = flat-length (traceWritten code) (heldTrace s n) (stride n (sampleBytes code)) (λ p. trace-size s code n p) (heldStride n) (heldCount s n) tracesPlace in
     omega (arith, a, b, c, d, e, binary-size s code, size-bytes s 3 cardBytes)

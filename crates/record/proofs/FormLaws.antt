@@ -29,7 +29,7 @@ use Rattle.sample.specs.declared.Written.the-variants as written
 use Rattle.reel.specs.Layout.{word}
 use Rattle.reel.specs.Causes.{mostSamples, mostTraces, mostInterval, within}
 use Rattle.reel.proofs.CheckLaws.{both-true, in-limits}
-use Rattle.record.specs.Form.{isField, fieldCause, cardsCauses, heldSamples, heldInterval, heldCode, numberCauses, binaryCauses, firstField, heldStride, pairCause, samplesCauses, headerCauses, traceForm, tagsFrom, heldTraces, endCauses, bodyCauses, formCauses}
+use Rattle.record.specs.Form.{isField, fieldCause, cardsCauses, heldSamples, heldInterval, heldCode, numberCauses, binaryCauses, tracesPlace, heldStride, pairCause, samplesCauses, headerCauses, traceForm, tagsFrom, heldCount, endCauses, bodyCauses, formCauses}
 use Rattle.record.specs.Held.{heldValue}
 use Rattle.record.specs.Target.{isUnfit, fitCause, traceFit, fitCauses, targetCauses}
 use Rattle.record.specs.Parts.{pairRefused, pairCheck, headForm, traceCheck, formFrom, fitFrom}
@@ -112,7 +112,21 @@ trace-form s n i at =
     ap (λ (x : ℕ). then (headerCauses s n i at) (then (fieldCause s 4 (pairLength * n) (at + 183)) (firstOf (walk (pairCause s) pairLength n x)))) e
     ∙ sym (then-assoc (headerCauses s n i at) (fieldCause s 4 (pairLength * n) (at + 183)) (firstOf (walk (pairCause s) pairLength n (at + 186))))
 
--- its fields' causes, one after the other
+-- a trace's causes, one after the other
+pub trace-parts : (s : List ℕ) (n i at : ℕ)
+    → traceForm s n i at
+    ≡ then (fieldCause s 3 180 at)
+    (then (refuseIf (not (eqb (word s (at + 117)) n)) 13 (at + 117))
+    (then (refuseIf (not (eqb (word s (at + 119)) i)) 13 (at + 119)) (samplesCauses s n (at + 183))))
+unfolding traceForm headerCauses
+trace-parts s n i at =
+    let a = fieldCause s 3 180 at in
+    let b = refuseIf (not (eqb (word s (at + 117)) n)) 13 (at + 117) in
+    let c = refuseIf (not (eqb (word s (at + 119)) i)) 13 (at + 119) in
+    let d = samplesCauses s n (at + 183) in
+    then-assoc a (then b c) d ∙ ap (then a) (then-assoc b c d)
+
+-- and those of its fields alone
 pub head-form : (s : List ℕ) (n i at : ℕ)
     → headForm s n i at
     ≡ then (fieldCause s 3 180 at)
@@ -227,11 +241,11 @@ module _ (s : List ℕ) (n : ℕ) where
         ap (λ (k : ℕ). form-of k t at) (tags-none s (heldStride n) t at e) ∙ ap₂ (λ (x y : ℕ). endCauses s x y) (add-zero t) (rw zero-mul (add-zero at))
 
     -- from the first trace on, it is that of the record's traces and its end
-    pub body-is : bodyCauses s n i (heldTraces s n) ≡ formFrom s n i mostTraces 0 firstField
+    pub body-is : bodyCauses s n i (heldCount s n) ≡ formFrom s n i mostTraces 0 tracesPlace
     unfolding bodyCauses formFrom
     body-is =
-        let k = heldTraces s n in
-        ap (λ (x : ℕ). then (firstOf (walk (traceForm s n i) (heldStride n) k firstField)) (endCauses s x (firstField + k * heldStride n))) (sym (zero-add k))
+        let k = heldCount s n in
+        ap (λ (x : ℕ). then (firstOf (walk (traceForm s n i) (heldStride n) k tracesPlace)) (endCauses s x (tracesPlace + k * heldStride n))) (sym (zero-add k))
 
   module _ (code : ℕ) where
     -- the fit of the samples that follow, a trace at a time
@@ -270,30 +284,30 @@ module _ (s : List ℕ) (n : ℕ) where
 -- ## The whole record
 
 -- a valid record ends behind tag 05
-pub held-length : (s : List ℕ) → formCauses s ≡ Fine → length s ≡ 3273 + heldTraces s (heldSamples s) * heldStride (heldSamples s)
+pub held-length : (s : List ℕ) → formCauses s ≡ Fine → length s ≡ 3273 + heldCount s (heldSamples s) * heldStride (heldSamples s)
 unfolding formCauses bodyCauses
 held-length s e =
     let n = heldSamples s in
-    let t = heldTraces s n in
-    let at = firstField + t * heldStride n in
+    let t = heldCount s n in
+    let at = tracesPlace + t * heldStride n in
     let a = then-fine (cardsCauses s) _ e in
     let b = then-fine (binaryCauses s) _ (a .1) in
-    let c = then-fine (firstOf (walk (traceForm s n (heldInterval s)) (heldStride n) t firstField)) _ (b .1) in
+    let c = then-fine (firstOf (walk (traceForm s n (heldInterval s)) (heldStride n) t tracesPlace)) _ (b .1) in
     let d = then-fine (fieldCause s 5 4 at) _ (c .1) in
     let f = then-fine (refuseIf (not (eqb (number (bytesAt s (at + 3) 4)) t)) 12 at) _ (d .1) in
     let g = then-fine (refuseIf (ltb (at + 7) (length s)) 12 (at + 7)) _ (f .1) in
     omega (arith, field-room s 5 4 at (d .0), ltb-false (at + 7) (length s) (passed _ _ _ (g .0)))
 
 -- so its last four bytes say how many traces it has
-pub held-count : (s : List ℕ) → formCauses s ≡ Fine → number (bytesAt s (length s - 4) 4) ≡ heldTraces s (heldSamples s)
+pub held-count : (s : List ℕ) → formCauses s ≡ Fine → number (bytesAt s (length s - 4) 4) ≡ heldCount s (heldSamples s)
 unfolding formCauses bodyCauses
 held-count s e =
     let n = heldSamples s in
-    let t = heldTraces s n in
-    let at = firstField + t * heldStride n in
+    let t = heldCount s n in
+    let at = tracesPlace + t * heldStride n in
     let a = then-fine (cardsCauses s) _ e in
     let b = then-fine (binaryCauses s) _ (a .1) in
-    let c = then-fine (firstOf (walk (traceForm s n (heldInterval s)) (heldStride n) t firstField)) _ (b .1) in
+    let c = then-fine (firstOf (walk (traceForm s n (heldInterval s)) (heldStride n) t tracesPlace)) _ (b .1) in
     let d = then-fine (fieldCause s 5 4 at) _ (c .1) in
     let f = then-fine (refuseIf (not (eqb (number (bytesAt s (at + 3) 4)) t)) 12 at) _ (d .1) in
     let p : length s - 4 ≡ at + 3 = omega (arith, held-length s e) in
@@ -301,7 +315,7 @@ held-count s e =
 
 -- its first two fields stand whole, and its numbers are within their limits
 pub record Headed (s : List ℕ) : Type 0 where
-  pub room : firstField ≤ length s
+  pub room : tracesPlace ≤ length s
   pub n-low : 1 ≤ heldSamples s
   pub n-high : heldSamples s ≤ mostSamples
 
@@ -317,15 +331,15 @@ headed s e =
 
 -- the causes 11 to 14, where the target code is one of the four and the first two fields are right
 pub target-is : (s : List ℕ) (code : ℕ) → isCode code ≡ true → then (cardsCauses s) (binaryCauses s) ≡ Fine
-    → targetCauses s code ≡ then (formFrom s (heldSamples s) (heldInterval s) mostTraces 0 firstField) (fitFrom s code (heldSamples s) mostTraces firstField)
+    → targetCauses s code ≡ then (formFrom s (heldSamples s) (heldInterval s) mostTraces 0 tracesPlace) (fitFrom s code (heldSamples s) mostTraces tracesPlace)
 unfolding targetCauses formCauses fitCauses fitFrom
 target-is s code h e =
     let n = heldSamples s in
     let a = then-fine (cardsCauses s) _ e in
-    let fit = fitCauses s code n (heldTraces s n) in
+    let fit = fitCauses s code n (heldCount s n) in
     rw h
-    (ap (λ x. then (then x (then (binaryCauses s) (bodyCauses s n (heldInterval s) (heldTraces s n)))) fit) (a .0)
-    ∙ ap (λ x. then (then x (bodyCauses s n (heldInterval s) (heldTraces s n))) fit) (a .1)
+    (ap (λ x. then (then x (then (binaryCauses s) (bodyCauses s n (heldInterval s) (heldCount s n)))) fit) (a .0)
+    ∙ ap (λ x. then (then x (bodyCauses s n (heldInterval s) (heldCount s n))) fit) (a .1)
     ∙ ap (λ x. then x fit) (body-is s n (heldInterval s)))
 
 -- and where they are not
@@ -334,8 +348,8 @@ pub target-stop : (s : List ℕ) (code : ℕ) → isCode code ≡ true → {numb
 unfolding targetCauses formCauses
 target-stop s code h {number} {place} e =
     let n = heldSamples s in
-    let body = bodyCauses s n (heldInterval s) (heldTraces s n) in
-    let fit = fitCauses s code n (heldTraces s n) in
+    let body = bodyCauses s n (heldInterval s) (heldCount s n) in
+    let fit = fitCauses s code n (heldCount s n) in
     rw h (ap (λ x. then x fit) (sym (then-assoc (cardsCauses s) (binaryCauses s) body) ∙ ap (λ x. then x body) e))
 
 -- a record with no cause against it is valid

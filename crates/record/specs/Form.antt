@@ -72,9 +72,9 @@ binaryCauses s = then (fieldCause s 2 60 3203) (numberCauses (heldInterval s) (h
 
 -- ## Traces
 
--- The place behind tag 02 and its content, and the bytes of a record's trace of n samples.
-abbrev pub firstField : ℕ
-firstField = 3266
+-- The place behind tag 02 and its content, where the traces begin, and the bytes of a record's trace of n samples.
+abbrev pub tracesPlace : ℕ
+tracesPlace = 3266
 
 abbrev pub heldStride : ℕ → ℕ
 heldStride n = 186 + pairLength * n
@@ -105,8 +105,8 @@ tagsFrom zero s w at = 0
 tagsFrom (suc most) s w at = pick (eqb (getD s at 0) 3) (suc (tagsFrom most s w (at + w))) 0
 
 -- T, the traces of a record of n samples a trace: 100,000 at most, so that behind them trace 100,001 stands where tag 05 should.
-abbrev pub heldTraces : List ℕ → ℕ → ℕ
-heldTraces s n = tagsFrom mostTraces s (heldStride n) firstField
+abbrev pub heldCount : List ℕ → ℕ → ℕ
+heldCount s n = tagsFrom mostTraces s (heldStride n) tracesPlace
 
 -- ## The end
 
@@ -122,11 +122,11 @@ endCauses s t at =
 -- t traces of n samples with interval i, and what stands behind them.
 unfoldable pub bodyCauses : List ℕ → ℕ → ℕ → ℕ → Check
 bodyCauses s n i t =
-    then (firstOf (walk (traceForm s n i) (heldStride n) t firstField)) (endCauses s t (firstField + t * heldStride n))
+    then (firstOf (walk (traceForm s n i) (heldStride n) t tracesPlace)) (endCauses s t (tracesPlace + t * heldStride n))
 
 -- 12 and 13. A record is valid when neither applies to it.
 unfoldable pub formCauses : List ℕ → Check
 formCauses s =
     then (cardsCauses s)
     (then (binaryCauses s)
-    (bodyCauses s (heldSamples s) (heldInterval s) (heldTraces s (heldSamples s))))
+    (bodyCauses s (heldSamples s) (heldInterval s) (heldCount s (heldSamples s))))

@@ -7,7 +7,7 @@ use Rattle.sample.specs.Pair.{valueOf}
 use Rattle.sample.specs.Calls.{pairLength, pairIn}
 use Rattle.reel.specs.Layout.{cardBytes, binaryFields, traceFields, fieldNumber}
 use Rattle.reel.specs.Meaning.{otherThan, Trace, Meaning}
-use Rattle.record.specs.Form.{heldSamples, heldStride, heldTraces, firstField}
+use Rattle.record.specs.Form.{heldSamples, heldStride, heldCount, tracesPlace}
 
 -- The value of the pair at a place.
 abbrev pub heldValue : List ℕ → ℕ → ℤ
@@ -28,5 +28,5 @@ heldBy s =
     record {
       cards = bytesAt s 3 cardBytes;
       binary = map (fieldNumber s 6) (otherThan 3225 binaryFields);
-      traces = walk (heldTrace s (heldSamples s)) (heldStride (heldSamples s)) (heldTraces s (heldSamples s)) firstField;
+      traces = walk (heldTrace s (heldSamples s)) (heldStride (heldSamples s)) (heldCount s (heldSamples s)) tracesPlace;
     }

@@ -11,7 +11,7 @@ use Rattle.sample.specs.Writing.{wordOf}
 use Rattle.sample.specs.Calls.{pairLength}
 use Rattle.sample.specs.declared.Written.{Written}
 use Rattle.sample.specs.declared.Written.the-variants as written
-use Rattle.record.specs.Form.{heldSamples, heldStride, heldTraces, firstField, formCauses}
+use Rattle.record.specs.Form.{heldSamples, heldStride, heldCount, tracesPlace, formCauses}
 use Rattle.record.specs.Held.{heldValue}
 use Rattle.record.specs.declared.Checked.{Checked}
 use Rattle.record.specs.declared.Checked.the-variants as variant
@@ -31,18 +31,18 @@ traceFit s code n at = firstOf (walk (fitCause s code) pairLength n (at + 186))
 
 -- The samples of t traces.
 unfoldable pub fitCauses : List ℕ → ℕ → ℕ → ℕ → Check
-fitCauses s code n t = firstOf (walk (traceFit s code n) (heldStride n) t firstField)
+fitCauses s code n t = firstOf (walk (traceFit s code n) (heldStride n) t tracesPlace)
 
 -- 11; then the record front to back by 12 and 13; then 14.
 unfoldable pub targetCauses : List ℕ → ℕ → Check
 targetCauses s code =
     then (refuseIf (not (isCode code)) 11 0)
     (then (formCauses s)
-    (fitCauses s code (heldSamples s) (heldTraces s (heldSamples s))))
+    (fitCauses s code (heldSamples s) (heldCount s (heldSamples s))))
 
 -- A record that can be written under a code, with its N and T; or the first cause.
 abbrev pub checked : List ℕ → Check → Checked
-checked s Fine = variant.Fine (heldSamples s) (heldTraces s (heldSamples s))
+checked s Fine = variant.Fine (heldSamples s) (heldCount s (heldSamples s))
 checked s (Refused number place) = variant.Refused number place
 
 abbrev pub checkedOf : List ℕ → ℕ → Checked

@@ -13,7 +13,7 @@ ghost use Rattle.sample.specs.Reading.{isCode};
 ghost use Rattle.sample.specs.Calls.{pairIn};
 ghost use Rattle.reel.specs.Layout.{word};
 ghost use Rattle.reel.specs.Causes.{mostSamples, mostTraces};
-ghost use Rattle.record.specs.Form.{fieldCause, cardCause, cardsCauses, numberCauses, binaryCauses, firstField, pairCause, traceForm, endCauses, formCauses};
+ghost use Rattle.record.specs.Form.{fieldCause, cardCause, cardsCauses, numberCauses, binaryCauses, tracesPlace, pairCause, traceForm, endCauses, formCauses};
 ghost use Rattle.record.specs.Target.{targetCauses, checked, checkedOf};
 ghost use Rattle.record.specs.Parts.{pairRefused, pairCheck, headForm, traceCheck, formFrom, fitFrom};
 use numbers::ByteNo;
@@ -418,8 +418,8 @@ fn check_later(record: &[u8], n: usize, i: usize, t: usize, at: usize, found: Ch
 
 // 12 and 13 of the traces and of what stands behind them, then 14.
 fn check_body(record: &[u8], code: u32, n: usize, i: usize) -> Check
-    requires { ⌜ (isCode code ≡ true) × (n ≤ mostSamples) × (firstField ≤ length (now «record»)) ⌝ }
-    ensures { λ r. ⌜ r ≡ then (formFrom (now («record» .entry)) n i mostTraces 0 firstField) (fitFrom (now («record» .entry)) code n mostTraces firstField) ⌝ }
+    requires { ⌜ (isCode code ≡ true) × (n ≤ mostSamples) × (tracesPlace ≤ length (now «record»)) ⌝ }
+    ensures { λ r. ⌜ r ≡ then (formFrom (now («record» .entry)) n i mostTraces 0 tracesPlace) (fitFrom (now («record» .entry)) code n mostTraces tracesPlace) ⌝ }
 {
     let w = 186 + 6 * n;
     let mut at = 3266;

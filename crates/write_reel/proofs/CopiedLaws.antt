@@ -16,7 +16,7 @@ use Rattle.sample.specs.Calls.{pairLength}
 use Rattle.sample.specs.declared.Written.{Written}
 use Rattle.sample.specs.declared.Written.the-variants.{Word, Refused}
 use Rattle.reel.specs.Layout.{sampleBytes, stride}
-use Rattle.record.specs.Form.{heldStride, firstField}
+use Rattle.record.specs.Form.{heldStride, tracesPlace}
 use Rattle.write_reel.specs.Reel.{wordContent}
 use Rattle.write_reel.specs.Copied.{zerosFor, wordBytes, writtenAt, samplesCopied, traceCopied, binaryCopied, reelCopied}
 

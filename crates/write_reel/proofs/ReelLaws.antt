@@ -20,7 +20,7 @@ use Rattle.sample.specs.Calls.{pairLength, pairIn}
 use Rattle.reel.specs.Layout.{cardBytes, fieldsFrom, binaryWidths, binaryFields, traceWidths, traceFields, fieldNumber}
 use Rattle.reel.specs.Meaning.{otherThan, Trace, Meaning}
 use Rattle.record.specs.Record.{numberBytes, withCode, binaryBytes}
-use Rattle.record.specs.Form.{heldSamples, heldInterval, heldStride, heldTraces, firstField, pairCause, traceForm, cardsCauses, binaryCauses, bodyCauses, formCauses}
+use Rattle.record.specs.Form.{heldSamples, heldInterval, heldStride, heldCount, tracesPlace, pairCause, traceForm, cardsCauses, binaryCauses, bodyCauses, formCauses}
 use Rattle.record.specs.Held.{heldValue, heldTrace, heldBy}
 use Rattle.record.specs.Target.{targetCauses}
 use Rattle.record.specs.Parts.{headForm}
@@ -77,7 +77,7 @@ module _ (s : List ℕ) (b : Bytes s) (code n i : ℕ) (h : isCode code ≡ true
 -- ## The reel
 
 -- the traces of a valid record are of the right form
-traces-fine : (s : List ℕ) → formCauses s ≡ Fine → let n = heldSamples s in firstOf (walk (traceForm s n (heldInterval s)) (heldStride n) (heldTraces s n) firstField) ≡ Fine
+traces-fine : (s : List ℕ) → formCauses s ≡ Fine → let n = heldSamples s in firstOf (walk (traceForm s n (heldInterval s)) (heldStride n) (heldCount s n) tracesPlace) ≡ Fine
 unfolding formCauses bodyCauses
 traces-fine s e = then-fine _ _ (then-fine (binaryCauses s) _ (then-fine (cardsCauses s) _ e .1) .1) .0
 
@@ -86,16 +86,16 @@ unfolding heldBy
 cards-is s = refl
 
 traces-is : (s : List ℕ) → Bytes s → (code : ℕ) → isCode code ≡ true → formCauses s ≡ Fine
-    → let n = heldSamples s in flat (map (traceWritten code) (heldBy s .traces)) ≡ flat (map (traceCopied s code n) (walk (λ p. p) (heldStride n) (heldTraces s n) firstField))
+    → let n = heldSamples s in flat (map (traceWritten code) (heldBy s .traces)) ≡ flat (map (traceCopied s code n) (walk (λ p. p) (heldStride n) (heldCount s n) tracesPlace))
 unfolding heldBy
-traces-is s b code h e = traces-walk s b code (heldSamples s) (heldInterval s) h (heldStride (heldSamples s)) (heldTraces s (heldSamples s)) firstField (traces-fine s e)
+traces-is s b code h e = traces-walk s b code (heldSamples s) (heldInterval s) h (heldStride (heldSamples s)) (heldCount s (heldSamples s)) tracesPlace (traces-fine s e)
 
 pub reel-is : (s : List ℕ) → Bytes s → (code : ℕ) → isCode code ≡ true → formCauses s ≡ Fine
-    → reelOf code (heldBy s) ≡ reelCopied s code (heldSamples s) (heldTraces s (heldSamples s))
+    → reelOf code (heldBy s) ≡ reelCopied s code (heldSamples s) (heldCount s (heldSamples s))
 unfolding reelOf reelCopied binaryCopied
 reel-is s b code h e =
     let n = heldSamples s in
-    let traces = flat (map (traceCopied s code n) (walk (λ p. p) (heldStride n) (heldTraces s n) firstField)) in
+    let traces = flat (map (traceCopied s code n) (walk (λ p. p) (heldStride n) (heldCount s n) tracesPlace)) in
     ap₂ (λ (x y : List ℕ). heldBy s .cards ++ (x ++ (replicate 340 0 ++ y))) (binary-is s b code) (traces-is s b code h e)
     ∙ ap (λ (c : List ℕ). c ++ ((bytesAt s 3206 24 ++ (bytesOf 2 code ++ bytesAt s 3232 34)) ++ (replicate 340 0 ++ traces))) (cards-is s)
     ∙ simp append-assoc

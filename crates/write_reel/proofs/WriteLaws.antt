@@ -18,7 +18,7 @@ use Rattle.sample.specs.Reading.{isCode}
 use Rattle.reel.specs.Layout.{firstTrace, stride, sampleBytes}
 use Rattle.reel.specs.Causes.{mostSamples, mostTraces}
 use Rattle.reel.proofs.CheckLaws.{stride-high}
-use Rattle.record.specs.Form.{heldSamples, heldInterval, heldStride, heldTraces, firstField, cardsCauses, binaryCauses, bodyCauses, formCauses}
+use Rattle.record.specs.Form.{heldSamples, heldInterval, heldStride, heldCount, tracesPlace, cardsCauses, binaryCauses, bodyCauses, formCauses}
 use Rattle.record.specs.Held.{heldBy}
 use Rattle.record.specs.Target.{targetCauses, checked, checkedOf}
 use Rattle.record.specs.Answer.{outcome}
@@ -36,7 +36,7 @@ use Rattle.write_reel.proofs.ReelLaws.{reel-is}
 pub record Own (s : List ℕ) (code n t : ℕ) : Type 0 where
   pub fine : targetCauses s code ≡ check.Fine
   pub n-is : heldSamples s ≡ n
-  pub t-is : heldTraces s (heldSamples s) ≡ t
+  pub t-is : heldCount s (heldSamples s) ≡ t
 
 pub own : (s : List ℕ) (code n t : ℕ) → checkedOf s code ≡ checked.Fine n t → Own s code n t
 own s code n t e = go (targetCauses s code) refl e
@@ -57,7 +57,7 @@ pub record Fit (s : List ℕ) (code n t : ℕ) : Type 0 where
   pub a-code : isCode code ≡ true
   pub n-high : n ≤ mostSamples
   pub few : t ≤ mostTraces
-  pub room : firstField + t * heldStride n ≤ length s
+  pub room : tracesPlace + t * heldStride n ≤ length s
   pub wide : stride n (sampleBytes code) ≤ 32240
   pub size : t * stride n (sampleBytes code) ≤ 100000 * 32240
 
@@ -66,9 +66,9 @@ unfolding targetCauses formCauses
 fit s code n t o =
     let a = then-fine (refuseIf (not (isCode code)) 11 0) _ (o .fine) in
     let form = target-form s code (o .fine) in
-    let h = headed s (then-fine (then (cardsCauses s) (binaryCauses s)) (bodyCauses s (heldSamples s) (heldInterval s) (heldTraces s (heldSamples s))) (then-assoc (cardsCauses s) (binaryCauses s) _ ∙ form) .0) in
+    let h = headed s (then-fine (then (cardsCauses s) (binaryCauses s)) (bodyCauses s (heldSamples s) (heldInterval s) (heldCount s (heldSamples s))) (then-assoc (cardsCauses s) (binaryCauses s) _ ∙ form) .0) in
     let high : n ≤ mostSamples = subst (λ (x : ℕ). x ≤ mostSamples) (o .n-is) (h .n-high) in
-    let few : t ≤ mostTraces = subst (λ (x : ℕ). x ≤ mostTraces) (o .t-is) (tags-most mostTraces s (heldStride (heldSamples s)) firstField) in
+    let few : t ≤ mostTraces = subst (λ (x : ℕ). x ≤ mostTraces) (o .t-is) (tags-most mostTraces s (heldStride (heldSamples s)) tracesPlace) in
     let l : length s ≡ 3273 + t * heldStride n = held-length s form ∙ ap₂ (λ (x y : ℕ). 3273 + x * heldStride y) (o .t-is) (o .n-is) in
     let wide = stride-high code n high in
     record {
@@ -103,5 +103,5 @@ module _ (s : List ℕ) (code : ℕ) (out : List ℕ) where
         made : ℕ → ℕ → ℕ → List ℕ → Outcome
         made a b k y = record { said = taken (a ∷ b ∷ k ∷ []); bytes = y ++ drop k out }
 
-        copied-is : reelCopied s code (heldSamples s) (heldTraces s (heldSamples s)) ≡ reelCopied s code n t
+        copied-is : reelCopied s code (heldSamples s) (heldCount s (heldSamples s)) ≡ reelCopied s code n t
         copied-is = ap₂ (λ (x y : ℕ). reelCopied s code x y) (o .n-is) (o .t-is)

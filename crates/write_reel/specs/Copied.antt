@@ -8,7 +8,7 @@ use Rattle.sample.specs.Writing.{writePair}
 use Rattle.sample.specs.Calls.{pairLength, pairIn}
 use Rattle.sample.specs.declared.Written.{Written}
 use Rattle.reel.specs.Layout.{sampleBytes}
-use Rattle.record.specs.Form.{heldStride, firstField}
+use Rattle.record.specs.Form.{heldStride, tracesPlace}
 use Rattle.write_reel.specs.Reel.{wordContent}
 
 -- Unassigned bytes in place of a slice's content.
@@ -39,4 +39,4 @@ binaryCopied s code = bytesAt s 3206 24 ++ (bytesOf 2 code ++ (bytesAt s 3232 34
 unfoldable pub reelCopied : List ℕ → ℕ → ℕ → ℕ → List ℕ
 reelCopied s code n t =
     bytesAt s 3 3200
-    ++ (binaryCopied s code ++ flat (map (traceCopied s code n) (walk (λ p. p) (heldStride n) t firstField)))
+    ++ (binaryCopied s code ++ flat (map (traceCopied s code n) (walk (λ p. p) (heldStride n) t tracesPlace)))

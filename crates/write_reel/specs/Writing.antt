@@ -8,14 +8,14 @@ use Rattle.numbers.specs.Outcome.{taken, refused, Outcome}
 use Rattle.numbers.specs.Places.{placeNo}
 use Rattle.numbers.specs.declared.Check.{Check}
 use Rattle.numbers.specs.declared.Check.the-variants as check
-use Rattle.record.specs.Form.{heldSamples, heldTraces}
+use Rattle.record.specs.Form.{heldSamples, heldCount}
 use Rattle.record.specs.Held.{heldBy}
 use Rattle.record.specs.Target.{targetCauses}
 use Rattle.write_reel.specs.Reel.{reelOf, reelLength}
 
 -- The length of the reel of a record s under a code.
 abbrev pub lengthOf : List ℕ → ℕ → ℕ
-lengthOf s code = reelLength code (heldTraces s (heldSamples s)) (heldSamples s)
+lengthOf s code = reelLength code (heldCount s (heldSamples s)) (heldSamples s)
 
 -- 11; the record front to back by 12 and 13; 14; then 10: the output is too short.
 abbrev pub writeCauses : List ℕ → ℕ → ℕ → Check
@@ -26,7 +26,7 @@ writeCauses s code room = then (targetCauses s code) (refuseIf (ltb room (length
 abbrev pub writeEnd : List ℕ → ℕ → List ℕ → Check → Outcome
 writeEnd s code out check.Fine =
     record {
-      said = taken (heldTraces s (heldSamples s) ∷ heldSamples s ∷ lengthOf s code ∷ []);
+      said = taken (heldCount s (heldSamples s) ∷ heldSamples s ∷ lengthOf s code ∷ []);
       bytes = reelOf code (heldBy s) ++ drop (lengthOf s code) out;
     }
 writeEnd s code out (check.Refused number place) = record { said = refused number (placeNo place); bytes = out }

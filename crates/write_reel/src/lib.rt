@@ -11,7 +11,7 @@ ghost use Rattle.sample.specs.Reading.{isCode};
 ghost use Rattle.sample.specs.Calls.{pairIn};
 ghost use Rattle.reel.specs.Layout.{sampleBytes, stride};
 ghost use Rattle.reel.specs.Causes.{mostSamples};
-ghost use Rattle.record.specs.Form.{heldStride, firstField};
+ghost use Rattle.record.specs.Form.{heldStride, tracesPlace};
 ghost use Rattle.record.specs.Target.{checkedOf};
 ghost use Rattle.record.specs.Answer.{outcome};
 ghost use Rattle.write_reel.specs.Writing.{writeOutcome};
@@ -170,8 +170,8 @@ fn put_trace(record: &[u8], code: u32, n: usize, at: usize, out: &mut [u8])
 
 // The traces, one behind the other.
 fn put_traces(record: &[u8], code: u32, n: usize, w: usize, m: usize, t: usize, out: &mut [u8])
-    requires { ⌜ (isCode code ≡ true) × (w ≡ stride n (sampleBytes code)) × (m ≡ heldStride n) × (firstField + t * m ≤ length (now «record»)) × (length (now out) ≡ t * w) ⌝ }
-    ensures { λ _. ⌜ now (out .exit) ≡ flat (map (traceCopied (now («record» .entry)) code n) (walk (λ p. p) (heldStride n) t firstField)) ⌝ }
+    requires { ⌜ (isCode code ≡ true) × (w ≡ stride n (sampleBytes code)) × (m ≡ heldStride n) × (tracesPlace + t * m ≤ length (now «record»)) × (length (now out) ≡ t * w) ⌝ }
+    ensures { λ _. ⌜ now (out .exit) ≡ flat (map (traceCopied (now («record» .entry)) code n) (walk (λ p. p) (heldStride n) t tracesPlace)) ⌝ }
 {
     let mut at = 3266;
     let mut o = 0;
@@ -197,7 +197,7 @@ fn put_code(code: u32, out: &mut [u8])
 
 // The binary header: its 27 fields, with the target's format code, and its unassigned bytes.
 fn put_binary(record: &[u8], code: u32, out: &mut [u8])
-    requires { ⌜ (isCode code ≡ true) × (firstField ≤ length (now «record»)) × (length (now out) ≡ 400) ⌝ }
+    requires { ⌜ (isCode code ≡ true) × (tracesPlace ≤ length (now «record»)) × (length (now out) ≡ 400) ⌝ }
     ensures { λ _. ⌜ now (out .exit) ≡ binaryCopied (now («record» .entry)) code ⌝ }
 {
     numbers::copy(&record[3206..3230], &mut out[0..24]);
@@ -208,7 +208,7 @@ fn put_binary(record: &[u8], code: u32, out: &mut [u8])
 
 // The reel of t traces of n samples, which fills out.
 fn put_reel(record: &[u8], code: u32, n: usize, w: usize, t: usize, out: &mut [u8])
-    requires { ⌜ (isCode code ≡ true) × (w ≡ stride n (sampleBytes code)) × (n ≤ mostSamples) × (firstField + t * heldStride n ≤ length (now «record»)) × (length (now out) ≡ 3600 + t * w) ⌝ }
+    requires { ⌜ (isCode code ≡ true) × (w ≡ stride n (sampleBytes code)) × (n ≤ mostSamples) × (tracesPlace + t * heldStride n ≤ length (now «record»)) × (length (now out) ≡ 3600 + t * w) ⌝ }
     ensures { λ _. ⌜ now (out .exit) ≡ reelCopied (now («record» .entry)) code n t ⌝ }
 {
     let e = out.len();

@@ -1,6 +1,6 @@
 -- `record::check_body` meets its contract. Assumes nothing.
 use Rattle.record.proofs.FormLaws.{isMore, more-few, form-room, trace-fine, form-end, fit-end, body-more, body-stop}
-use Rattle.record.specs.Form.{firstField, traceForm}
+use Rattle.record.specs.Form.{tracesPlace, traceForm}
 use Rattle.record.specs.Parts.{traceCheck, formFrom, fitFrom}
 use Rattle.reel.specs.Causes.{mostTraces}
 use Rattle.numbers.proofs.CauseLaws.{then-last}
@@ -17,7 +17,7 @@ use Rattle.record.proofs.check_body.Tie as tie
 
 abbrev Inv-loop : tie.InvT-loop
 Inv-loop «record» code n i w at₀ t₀ at t =
-    (then (formFrom «record» n i mostTraces 0 firstField) (fitFrom «record» code n mostTraces firstField) ≡ then (formFrom «record» n i (mostTraces - t) t at) (fitFrom «record» code n (mostTraces - t) at)) × (t ≤ mostTraces) × (at ≤ length «record»)
+    (then (formFrom «record» n i mostTraces 0 tracesPlace) (fitFrom «record» code n mostTraces tracesPlace) ≡ then (formFrom «record» n i (mostTraces - t) t at) (fitFrom «record» code n (mostTraces - t) at)) × (t ≤ mostTraces) × (at ≤ length «record»)
 
 abbrev μ-loop : tie.MeasureT-loop
 μ-loop «record» code n i w at₀ t₀ at t = mostTraces - t

@@ -1,6 +1,6 @@
 -- `record::check_causes` meets its contract. Assumes nothing.
 use Rattle.record.proofs.FormLaws.{Headed, headed, target-is, target-stop}
-use Rattle.record.specs.Form.{cardsCauses, binaryCauses, heldSamples, heldInterval, firstField}
+use Rattle.record.specs.Form.{cardsCauses, binaryCauses, heldSamples, heldInterval, tracesPlace}
 use Rattle.record.specs.Target.{targetCauses}
 use Rattle.record.specs.Parts.{formFrom, fitFrom}
 use Rattle.reel.specs.Causes.{mostTraces}
@@ -71,8 +71,8 @@ returns-3 c =
     let n = c .before .before .binary-word in
     let i = c .before .binary-word2 in
     c .check-body .ensures
-    ∙ ap (λ (x : ℕ). then (formFrom s x (i .result) mostTraces 0 firstField) (fitFrom s code x mostTraces firstField)) (n .ensures .0)
-    ∙ ap (λ (x : ℕ). then (formFrom s (heldSamples s) x mostTraces 0 firstField) (fitFrom s code (heldSamples s) mostTraces firstField)) (i .ensures .0)
+    ∙ ap (λ (x : ℕ). then (formFrom s x (i .result) mostTraces 0 tracesPlace) (fitFrom s code x mostTraces tracesPlace)) (n .ensures .0)
+    ∙ ap (λ (x : ℕ). then (formFrom s (heldSamples s) x mostTraces 0 tracesPlace) (fitFrom s code (heldSamples s) mostTraces tracesPlace)) (i .ensures .0)
     ∙ sym (target-is s code (a-code (c .before .before .before .before .before .before)) (front (c .before .before .before)))
 
 pub check-causes-spec : {M : Type 1} → statement M

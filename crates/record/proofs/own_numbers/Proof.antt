@@ -1,6 +1,6 @@
 -- `record::own_numbers` meets its contract. Assumes nothing.
 use Rattle.record.proofs.FormLaws.{Headed, headed, held-length, held-count}
-use Rattle.record.specs.Form.{cardsCauses, binaryCauses, bodyCauses, heldSamples, heldInterval, heldTraces, formCauses}
+use Rattle.record.specs.Form.{cardsCauses, binaryCauses, bodyCauses, heldSamples, heldInterval, heldCount, formCauses}
 use Rattle.record.specs.declared.Checked.the-variants as checked
 use Rattle.numbers.proofs.CauseLaws.{then-assoc, then-fine}
 use Rattle.numbers.specs.Cause.{then}
@@ -16,7 +16,7 @@ head : (c : tie.Start) → Headed (c .args .«record» .now)
 unfolding formCauses
 head c =
     let s = c .args .«record» .now in
-    headed s (then-fine (then (cardsCauses s) (binaryCauses s)) (bodyCauses s (heldSamples s) (heldInterval s) (heldTraces s (heldSamples s))) (then-assoc (cardsCauses s) (binaryCauses s) _ ∙ c .pre) .0)
+    headed s (then-fine (then (cardsCauses s) (binaryCauses s)) (bodyCauses s (heldSamples s) (heldInterval s) (heldCount s (heldSamples s))) (then-assoc (cardsCauses s) (binaryCauses s) _ ∙ c .pre) .0)
 
 binary-word-requires : tie.Need-binary-word-requires
 binary-word-requires c κs = (omega arith, omega (arith, head (c .before) .room))

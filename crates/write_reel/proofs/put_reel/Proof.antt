@@ -1,7 +1,7 @@
 -- `write_reel::put_reel` meets its contract. Assumes nothing.
 use Rattle.write_reel.proofs.CopiedLaws.{size-binary, size-traces, size-reel}
 use Rattle.write_reel.specs.Copied.{traceCopied, binaryCopied, reelCopied}
-use Rattle.record.specs.Form.{heldStride, firstField}
+use Rattle.record.specs.Form.{heldStride, tracesPlace}
 use Rattle.reel.specs.Layout.{stride, sampleBytes}
 use Rattle.numbers.proofs.Filling.{start, lend, close}
 use Rattle.numbers.proofs.WalkLaws.{bytes-between, copied, size-bytes}
@@ -79,12 +79,12 @@ returns c =
     let s = a .«record» .now in
     let x = bytesAt s 3 3200 in
     let y = binaryCopied s (a .code) in
-    let z = flat (map (traceCopied s (a .code) (a .n)) (walk (λ p. p) (heldStride (a .n)) (a .t) firstField)) in
+    let z = flat (map (traceCopied s (a .code) (a .n)) (walk (λ p. p) (heldStride (a .n)) (a .t) tracesPlace)) in
     let wide : a .t * a .w ≡ a .t * stride (a .n) (sampleBytes (a .code)) = ap (λ (k : ℕ). a .t * k) (b .pre .1) in
     let w₀ = start _ (a .out .now) (b .pre .4 ∙ ap (λ (k : ℕ). 3600 + k) wide ∙ sym (size-reel s (a .code) (a .n) (a .t))) in
     let w₁ = lend x (y ++ z) 3200 w₀ (omega arith) (size-bytes s 3 3200) (copied _ _ (c .before .before .before .before .before .before .before .before .before .before .copy .ensures) (search needs) ∙ bytes-between s 3 3203 3200 (omega (arith, b .pre .3)) refl) in
     let w₂ = lend y z 3600 w₁ (omega arith) (size-binary s (a .code)) (c .before .before .before .before .before .before .put-binary .ensures) in
-    let size : length z ≡ length (a .out .now) - 3600 = size-traces s (a .code) (a .n) (a .t) firstField ∙ sym wide ∙ omega (arith, b .pre .4) in
+    let size : length z ≡ length (a .out .now) - 3600 = size-traces s (a .code) (a .n) (a .t) tracesPlace ∙ sym wide ∙ omega (arith, b .pre .4) in
     close z (length (a .out .now)) w₂ (omega (arith, b .pre .4)) size (c .before .before .put-traces .ensures)
 
 pub put-reel-spec : {M : Type 1} → statement M

@@ -1,7 +1,7 @@
 -- `write_reel::put_traces` meets its contract. Assumes nothing.
 use Rattle.write_reel.proofs.CopiedLaws.{size-trace, size-traces, traces-more, traces-none}
 use Rattle.write_reel.specs.Copied.{traceCopied}
-use Rattle.record.specs.Form.{heldStride, firstField}
+use Rattle.record.specs.Form.{heldStride, tracesPlace}
 use Rattle.numbers.proofs.Filling.{Filling, start as begin, finish, again, lend}
 use Rattle.numbers.proofs.WalkLaws.{times-more}
 use Rattle.numbers.specs.Walk.{walk, flat}
@@ -17,7 +17,7 @@ use Rattle.write_reel.proofs.put_traces.Tie as tie
 abbrev Inv-loop : tie.InvT-loop
 Inv-loop «record» code n w m t out₀ at₀ o₀ left₀ out at o left =
     (at + left * m ≤ length «record») × (length out ≡ t * w) × (o + left * w ≡ t * w)
-    × Filling (flat (map (traceCopied «record» code n) (walk (λ p. p) (heldStride n) t firstField))) out o (flat (map (traceCopied «record» code n) (walk (λ p. p) (heldStride n) left at)))
+    × Filling (flat (map (traceCopied «record» code n) (walk (λ p. p) (heldStride n) t tracesPlace))) out o (flat (map (traceCopied «record» code n) (walk (λ p. p) (heldStride n) left at)))
 
 abbrev μ-loop : tie.MeasureT-loop
 μ-loop «record» code n w m t out₀ at₀ o₀ left₀ out at o left = left
@@ -26,7 +26,7 @@ loop-holds : tie.Need-loop-holds Inv-loop μ-loop
 loop-holds c =
     let s = c .before .before in
     let a = s .args in
-    (omega (arith, s .pre .3), s .pre .4, omega arith, begin _ _ (s .pre .4 ∙ ap (λ (x : ℕ). a .t * x) (s .pre .1) ∙ sym (size-traces (a .«record» .now) (a .code) (a .n) (a .t) firstField)))
+    (omega (arith, s .pre .3), s .pre .4, omega arith, begin _ _ (s .pre .4 ∙ ap (λ (x : ℕ). a .t * x) (s .pre .1) ∙ sym (size-traces (a .«record» .now) (a .code) (a .n) (a .t) tracesPlace)))
 
 add-e : tie.Need-add-e Inv-loop μ-loop
 add-e c = omega (arith, times-more (c .before .loop .left) (c .before .before .before .before .args .w) (c .loop-test .taken), c .before .loop .inv .1, c .before .loop .inv .2)
