@@ -1,0 +1,19 @@
+-- What the C functions hand back, from what the calls answer. Assumes nothing.
+use mathlib.Core.Path.{_≡_, ap, _∙_}
+use mathlib.Core.List.{List}
+use Prim.Native.Nat.{ℕ}
+use Rattle.numbers.specs.Outcome.{Outcome}
+use Rattle.record.specs.Answer.{saidBy, outcome}
+use Rattle.record.specs.declared.Answer.{Answer}
+use Rattle.sample.specs.Calls as single
+use Rattle.sample.specs.declared.Answer as sample
+use Rattle.aukpocket.specs.Interface.{reelAnswer, reelIn, reelHanded, sampleAnswer, sampleIn, sampleHanded}
+use Rattle.aukpocket.specs.declared.ReelAnswer.{ReelAnswer}
+use Rattle.aukpocket.specs.declared.SampleAnswer.{SampleAnswer}
+
+pub reel-handed : (r : ReelAnswer) (answer : Answer) (out : List ℕ) (o : Outcome) → r ≡ reelAnswer (saidBy answer) → outcome answer out ≡ o → reelIn r out ≡ reelHanded o
+reel-handed r answer out o p q = ap (λ (a : ReelAnswer). reelIn a out) p ∙ ap reelHanded q
+
+pub sample-handed : (r : SampleAnswer) (answer : sample.Answer) (bytes : List ℕ) (o : Outcome) → r ≡ sampleAnswer (single.saidBy answer)
+    → record { said = single.saidBy answer; bytes = bytes } ≡ o → sampleIn r bytes ≡ sampleHanded o
+sample-handed r answer bytes o p q = ap (λ (a : SampleAnswer). sampleIn a bytes) p ∙ ap sampleHanded q

@@ -1,0 +1,143 @@
+// The C interface: an exported function for each public call. A slice is a pointer and a length; an answer is a structure of numbers,
+// whose `number` is 0 where the call was taken, else the number of the cause.
+ghost use mathlib.Core.Path.{_≡_};
+ghost use Rattle.numbers.specs.Outcome.{Outcome};
+ghost use Rattle.sample.specs.Calls as single;
+ghost use Rattle.record.specs.Answer.{saidBy};
+ghost use Rattle.transcribe.specs.Reading.{readOutcome};
+ghost use Rattle.write_reel.specs.Writing.{writeOutcome};
+ghost use Rattle.look_up.specs.LookUp.{lookedUp, lookUpOutcome};
+ghost use Rattle.aukpocket.specs.Interface.{reelAnswer, reelIn, reelHanded, fieldHanded, sampleAnswer, sampleIn, sampleHanded};
+use numbers::ByteNo;
+use record::Answer;
+
+// What a call on a whole reel or record answers: T, N and the length of what it wrote; or the number of the cause, and what stands
+// beside it.
+#[repr(C)]
+pub struct ReelAnswer {
+    pub number: u64,
+    pub traces: u64,
+    pub samples: u64,
+    pub length: u64,
+    pub beside: u64,
+}
+
+// What looking up a field answers: its signed number; or the number of the cause, and what stands beside it.
+#[repr(C)]
+pub struct FieldAnswer {
+    pub number: u32,
+    pub value: i32,
+    pub beside: u64,
+}
+
+// What a single-sample call answers: that it was taken; or the number of the cause, and 0.
+#[repr(C)]
+pub struct SampleAnswer {
+    pub number: u64,
+    pub beside: u64,
+}
+
+// An answer in numbers.
+fn reel_answer(answer: Answer) -> ReelAnswer
+    ensures { λ r. ⌜ r ≡ reelAnswer (saidBy answer) ⌝ }
+{
+    match answer {
+        Answer::Taken {
+            traces,
+            samples,
+            length,
+        } => ReelAnswer {
+            number: 0,
+            traces: traces as u64,
+            samples: samples as u64,
+            length: length as u64,
+            beside: 0,
+        },
+        Answer::Refused { number, place } => ReelAnswer {
+            number: number as u64,
+            traces: 0,
+            samples: 0,
+            length: 0,
+            beside: place.0 as u64,
+        },
+    }
+}
+
+// Reads a reel into the front of a record buffer.
+#[no_mangle]
+pub extern "C" fn aukpocket_read_reel(reel: &[u8], out: &mut [u8]) -> ReelAnswer
+    ensures { λ r. ⌜ reelIn r (now (out .exit)) ≡ reelHanded (readOutcome (now (reel .entry)) (now (out .entry))) ⌝ }
+{
+    reel_answer(transcribe::read_reel(reel, out))
+}
+
+// Writes a record under a target code as a reel, into the front of a reel buffer.
+#[no_mangle]
+pub extern "C" fn aukpocket_write_reel(record: &[u8], code: u32, out: &mut [u8]) -> ReelAnswer
+    ensures { λ r. ⌜ reelIn r (now (out .exit)) ≡ reelHanded (writeOutcome (now («record» .entry)) code (now (out .entry))) ⌝ }
+{
+    reel_answer(write_reel::write_reel(record, code, out))
+}
+
+// Looks up the field that begins at a byte number, of the binary header for trace 0, else of that trace.
+#[no_mangle]
+pub extern "C" fn aukpocket_look_up(reel: &[u8], trace: usize, byte: u32) -> FieldAnswer
+    ensures { λ r. ⌜ r ≡ fieldHanded (lookUpOutcome (now (reel .entry)) trace (record { 0 = byte })) ⌝ }
+{
+    match look_up::look_up(reel, trace, ByteNo(byte)) {
+        look_up::Answer::Taken { number } => FieldAnswer {
+            number: 0,
+            value: number,
+            beside: 0,
+        },
+        look_up::Answer::Refused { number, place } => FieldAnswer {
+            number: number as u32,
+            value: 0,
+            beside: place.0 as u64,
+        },
+    }
+}
+
+// A single sample's answer in numbers.
+fn sample_answer(answer: sample::Answer) -> SampleAnswer
+    ensures { λ r. ⌜ r ≡ sampleAnswer (single.saidBy answer) ⌝ }
+{
+    match answer {
+        sample::Answer::Taken => SampleAnswer {
+            number: 0,
+            beside: 0,
+        },
+        sample::Answer::Refused { number, place } => SampleAnswer {
+            number: number as u64,
+            beside: place.0 as u64,
+        },
+    }
+}
+
+// One sample, from the four bytes of its word to the six of its canonical pair.
+#[no_mangle]
+pub extern "C" fn aukpocket_read_word(code: u32, word: &[u8; 4], pair: &mut [u8; 6]) -> SampleAnswer
+    ensures { λ r. ⌜ sampleIn r (now (pair .exit)) ≡ sampleHanded (single.readOutcome code (now (word .entry))) ⌝ }
+{
+    let read = sample::read_word(code, *word);
+    let bytes = read.pair;
+    *pair = bytes;
+    let answer = read.answer;
+    sample_answer(answer)
+}
+
+// One sample, from the six bytes of its pair to the four of its word.
+#[no_mangle]
+pub extern "C" fn aukpocket_write_pair(
+    code: u32,
+    pair: &[u8; 6],
+    word: &mut [u8; 4],
+) -> SampleAnswer
+    ensures { λ r. ⌜ sampleIn r (now (word .exit)) ≡ sampleHanded (single.writeOutcome code (now (pair .entry))) ⌝ }
+{
+    let written = sample::write_pair(code, *pair);
+    let bytes = written.word;
+    *word = bytes;
+    let answer = written.answer;
+    sample_answer(answer)
+}

@@ -1,0 +1,93 @@
+/* Aukpocket: SEG-Y revision 0 reels and their canonical records.
+ *
+ * Link with libaukpocket.a (`rt staticlib aukpocket` makes target/staticlib/libaukpocket.a, for x86-64 Linux). Nothing is allocated
+ * and nothing is kept: each call works on the buffers that it is lent, takes every input, and ends. A refused call changes no byte of
+ * its output, and the rest of a longer output keeps its content. Calls on different buffers may run at the same time.
+ *
+ * A buffer is a pointer and a length. The pointer must be valid for that many bytes, and not null, even where the length is 0; an
+ * output must not overlap an input.
+ *
+ * Every answer begins with `number`: 0 where the call was taken, else the number of the cause, with what stands beside it in `beside`.
+ * Members that say nothing are 0. A place is an offset in the input, counted from 0; a byte number is the standard's, counted from 1.
+ *
+ *   number  cause                                                     beside
+ *    1      the reel has under 3,600 bytes                            its length
+ *    2      the format code is not 1 to 4                             place 3224
+ *    3      the count of samples N is not 1 to 8,000                  place 3220
+ *    4      the interval is not 1 to 32,767                           place 3216
+ *    5      bytes after the last whole trace                          place of the first
+ *    6      more than 100,000 traces                                  place of trace 100,001
+ *    7      trace field 115 is neither 0 nor N                        its place
+ *    8      trace field 117 is neither 0 nor the reel's interval      its place
+ *    9      the first byte of a gain word is not 00                   its place
+ *   10      the output is too short                                   the length needed
+ *   11      the target code is not 1 to 4                             0
+ *   12      the record's form is wrong                                place of the field's tag, or of the first byte too many
+ *   13      the record holds a number that no record has              place of its first byte
+ *   14      a sample doesn't fit the target code                      place of its pair
+ *   15      no such trace                                             0
+ *   16      no assigned field begins at that byte number              0
+ *
+ * For a single word or pair the place beside 2, 9, 11, 13 and 14 is 0.
+ */
+#ifndef AUKPOCKET_H
+#define AUKPOCKET_H
+
+#include <stddef.h>
+#include <stdint.h>
+
+#ifdef __cplusplus
+extern "C" {
+#endif
+
+/* What a call on a whole reel or record answers: the traces, the samples of each, and the length of what was written. */
+struct aukpocket_reel_answer {
+    uint64_t number;
+    uint64_t traces;
+    uint64_t samples;
+    uint64_t length;
+    uint64_t beside;
+};
+
+/* What looking up a field answers: its signed number. */
+struct aukpocket_field_answer {
+    uint32_t number;
+    int32_t value;
+    uint64_t beside;
+};
+
+/* What a single-sample call answers. */
+struct aukpocket_sample_answer {
+    uint64_t number;
+    uint64_t beside;
+};
+
+/* Reads a reel and writes its record to the front of `record`. A record of T traces of N samples is 3273 + T * (186 + 6 * N) bytes.
+ * Refuses by 1 to 6 in that order, then trace by trace 7, 8 and 9, then 10. */
+struct aukpocket_reel_answer aukpocket_read_reel(const uint8_t *reel, size_t reel_length, uint8_t *record, size_t record_length);
+
+/* Writes a record as a reel under a target code to the front of `reel`. A reel of T traces of N samples is 3600 + T * (240 + N * w)
+ * bytes, w being 2 under code 3, else 4. Refuses by 11; then the record front to back, each field by 12 and then by 13; then 14, first
+ * sample first; then 10. */
+struct aukpocket_reel_answer aukpocket_write_reel(const uint8_t *record, size_t record_length, uint32_t code, uint8_t *reel,
+                                                  size_t reel_length);
+
+/* Looks up the assigned field that begins at a byte number: of the binary header (3201 to 3259) for trace 0, of that trace's header
+ * (1 to 179) from 1 on. Fields 115 and 117 are filled in from the reel where they are 0; 3225 is as on the reel. Refuses by 1 to 9,
+ * then 15, then 16. */
+struct aukpocket_field_answer aukpocket_look_up(const uint8_t *reel, size_t reel_length, size_t trace, uint32_t byte_number);
+
+/* One sample, from the four bytes of its word to the six of its canonical pair: the exponent in two bytes, the mantissa in four, both
+ * big-endian two's complement. A code 3 sample is the word's first two bytes, and the rest is ignored. Refuses by 2, then 9; the pair is
+ * then all 00. */
+struct aukpocket_sample_answer aukpocket_read_word(uint32_t code, const uint8_t word[4], uint8_t pair[6]);
+
+/* One sample, from the six bytes of its pair to the four of its word. A code 3 sample is the word's first two bytes, and the rest is 00.
+ * Refuses by 11, 13, 14; the word is then all 00. */
+struct aukpocket_sample_answer aukpocket_write_pair(uint32_t code, const uint8_t pair[6], uint8_t word[4]);
+
+#ifdef __cplusplus
+}
+#endif
+
+#endif
