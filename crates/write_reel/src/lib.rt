@@ -14,6 +14,7 @@ ghost use Rattle.reel.specs.Causes.{mostSamples};
 ghost use Rattle.record.specs.Form.{heldStride, tracesPlace};
 ghost use Rattle.record.specs.Target.{checkedOf};
 ghost use Rattle.record.specs.Answer.{outcome};
+ghost use Rattle.write_reel.specs.Reel.{wordContent};
 ghost use Rattle.write_reel.specs.Writing.{writeOutcome};
 ghost use Rattle.write_reel.specs.Copied.{zerosFor, wordBytes, samplesCopied, traceCopied, binaryCopied, reelCopied};
 use numbers::Place;
@@ -48,17 +49,23 @@ fn pair_at(record: &[u8], at: usize) -> Pair
     ])
 }
 
-// A word of four bytes, as codes 1, 2 and 4 have it. The pairs of a record that came through the causes 11 to 14 all have one; a refusal, which only the types
-// allow here, is given as 00, so that the loops need no condition on each pair.
+// The bits of a word. The pairs of a record that came through the causes 11 to 14 all have one; for a refusal, which only the types allow
+// here, they are 0, so that the loops need no condition on each pair.
+fn bits_of(word: Written) -> u32
+    ensures { λ r. ⌜ bytesOf 4 r ≡ wordContent word ⌝ }
+{
+    match word {
+        Written::Word { bits } => bits,
+        Written::Refused { number: _ } => 0,
+    }
+}
+
+// A word of four bytes, as codes 1, 2 and 4 have it.
 fn put_word(word: Written, out: &mut [u8])
     requires { ⌜ length (now out) ≡ 4 ⌝ }
     ensures { λ _. ⌜ now (out .exit) ≡ wordBytes 1 word ⌝ }
 {
-    let Written::Word { bits } = word else {
-        put_zeros(out);
-        return;
-    };
-    let b = numbers::bytes32(bits);
+    let b = numbers::bytes32(bits_of(word));
     out[0] = b[0];
     out[1] = b[1];
     out[2] = b[2];
@@ -70,11 +77,7 @@ fn put_half(word: Written, out: &mut [u8])
     requires { ⌜ length (now out) ≡ 2 ⌝ }
     ensures { λ _. ⌜ now (out .exit) ≡ wordBytes 3 word ⌝ }
 {
-    let Written::Word { bits } = word else {
-        put_zeros(out);
-        return;
-    };
-    let b = numbers::bytes32(bits);
+    let b = numbers::bytes32(bits_of(word));
     out[0] = b[0];
     out[1] = b[1];
 }

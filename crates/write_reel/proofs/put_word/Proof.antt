@@ -1,29 +1,14 @@
 -- `write_reel::put_word` meets its contract. Assumes nothing.
-use Rattle.write_reel.proofs.CopiedLaws.{zeroed}
-use Rattle.write_reel.specs.Copied.{wordBytes}
 use Rattle.numbers.proofs.WalkLaws.{stored}
 use Rattle.numbers.specs.BigEndian.{bytesOf}
-use lib.ListN.{length-set}
-use mathlib.Core.Path.{_≡_, sym, ap, _∙_}
-use native.Mathlib.Omega.{arith}
+use lib.ListN.{take}
+use mathlib.Core.Path.{_≡_, ap, _∙_}
 use borrow.Author.Needs.{needs}
 use Rattle.write_reel.proofs.put_word.Statement.{statement}
 use Rattle.write_reel.proofs.put_word.Tie as tie
 
-enum-known-word : tie.Need-enum-known-word
-enum-known-word c = search needs
-
-enum-told : tie.Need-enum-told
-enum-told c = search needs
-
-put-zeros-requires : tie.Need-put-zeros-requires
-put-zeros-requires c κs = search needs
-
-same-length : tie.Need-same-length
-same-length c = search needs
-
-returns : tie.Need-returns
-returns c = zeroed _ 4 (c .before .before .put-zeros .ensures) (c .before .before .before .before .before .before .before .pre) ∙ ap (wordBytes 1) (sym (c .before .before .before .before .enum-told .given .1))
+bits-of-requires : tie.Need-bits-of-requires
+bits-of-requires c κs = search needs
 
 bytes32-requires : tie.Need-bytes32-requires
 bytes32-requires c κs = search needs
@@ -50,25 +35,19 @@ array-read-out-4 : tie.Need-array-read-out-4
 array-read-out-4 c = search needs
 
 slice-write-out-4 : tie.Need-slice-write-out-4
-slice-write-out-4 c = simp length-set (omega (arith, c .before .before .before .before .before .pre))
+slice-write-out-4 c = search needs
 
-same-length-2 : tie.Need-same-length-2
-same-length-2 c = search needs
+same-length : tie.Need-same-length
+same-length c = search needs
 
-returns-2 : tie.Need-returns-2
-returns-2 c =
-    let w = c .before .before .word in
-    rw (c .bytes32 .ensures) (stored (bytesOf 4 (w .given .0 .0)) (c .before .before .before .before .before .args .out .now) (c .before .before .before .before .before .pre)) ∙ ap (wordBytes 1) (sym (w .given .1))
+returns : tie.Need-returns
+returns c = rw (c .bytes32 .ensures) (stored (bytesOf 4 (c .before .bits-of .result)) (c .before .before .before .args .out .now) (c .before .before .before .pre)) ∙ ap (take 4) (c .before .bits-of .ensures)
 
 pub put-word-spec : {M : Type 1} → statement M
 put-word-spec =
     tie.close
     (tie.spec
-    enum-known-word
-    enum-told
-    put-zeros-requires
-    same-length
-    returns
+    bits-of-requires
     bytes32-requires
     array-read-out
     slice-write-out
@@ -78,5 +57,5 @@ put-word-spec =
     slice-write-out-3
     array-read-out-4
     slice-write-out-4
-    same-length-2
-    returns-2)
+    same-length
+    returns)
