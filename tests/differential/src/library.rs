@@ -1,0 +1,136 @@
+//! The calls of include/aukpocket.h, and the independent implementation's answers in their form.
+
+use independent::{Refused, Taken};
+
+#[repr(C)]
+#[derive(Clone, Copy, Debug, PartialEq, Eq)]
+pub struct ReelAnswer {
+    pub number: u64,
+    pub traces: u64,
+    pub samples: u64,
+    pub length: u64,
+    pub beside: u64,
+}
+
+#[repr(C)]
+#[derive(Clone, Copy, Debug, PartialEq, Eq)]
+pub struct FieldAnswer {
+    pub number: u32,
+    pub value: i32,
+    pub beside: u64,
+}
+
+#[repr(C)]
+#[derive(Clone, Copy, Debug, PartialEq, Eq)]
+pub struct SampleAnswer {
+    pub number: u64,
+    pub beside: u64,
+}
+
+extern "C" {
+    fn aukpocket_read_reel(
+        reel: *const u8,
+        reel_length: usize,
+        record: *mut u8,
+        record_length: usize,
+    ) -> ReelAnswer;
+    fn aukpocket_write_reel(
+        record: *const u8,
+        record_length: usize,
+        code: u32,
+        reel: *mut u8,
+        reel_length: usize,
+    ) -> ReelAnswer;
+    fn aukpocket_look_up(
+        reel: *const u8,
+        reel_length: usize,
+        trace: usize,
+        byte_number: u32,
+    ) -> FieldAnswer;
+    fn aukpocket_read_word(code: u32, word: *const u8, pair: *mut u8) -> SampleAnswer;
+    fn aukpocket_write_pair(code: u32, pair: *const u8, word: *mut u8) -> SampleAnswer;
+}
+
+pub fn read_reel(reel: &[u8], out: &mut [u8]) -> ReelAnswer {
+    unsafe { aukpocket_read_reel(reel.as_ptr(), reel.len(), out.as_mut_ptr(), out.len()) }
+}
+
+pub fn write_reel(record: &[u8], code: u32, out: &mut [u8]) -> ReelAnswer {
+    unsafe {
+        aukpocket_write_reel(
+            record.as_ptr(),
+            record.len(),
+            code,
+            out.as_mut_ptr(),
+            out.len(),
+        )
+    }
+}
+
+pub fn look_up(reel: &[u8], trace: usize, byte: u32) -> FieldAnswer {
+    unsafe { aukpocket_look_up(reel.as_ptr(), reel.len(), trace, byte) }
+}
+
+pub fn read_word(code: u32, word: &[u8; 4], pair: &mut [u8; 6]) -> SampleAnswer {
+    unsafe { aukpocket_read_word(code, word.as_ptr(), pair.as_mut_ptr()) }
+}
+
+pub fn write_pair(code: u32, pair: &[u8; 6], word: &mut [u8; 4]) -> SampleAnswer {
+    unsafe { aukpocket_write_pair(code, pair.as_ptr(), word.as_mut_ptr()) }
+}
+
+impl From<Result<Taken, Refused>> for ReelAnswer {
+    fn from(result: Result<Taken, Refused>) -> ReelAnswer {
+        match result {
+            Ok(Taken {
+                traces,
+                samples,
+                length,
+            }) => ReelAnswer {
+                number: 0,
+                traces,
+                samples,
+                length,
+                beside: 0,
+            },
+            Err(Refused { number, beside }) => ReelAnswer {
+                number,
+                traces: 0,
+                samples: 0,
+                length: 0,
+                beside,
+            },
+        }
+    }
+}
+
+impl From<Result<i32, Refused>> for FieldAnswer {
+    fn from(result: Result<i32, Refused>) -> FieldAnswer {
+        match result {
+            Ok(value) => FieldAnswer {
+                number: 0,
+                value,
+                beside: 0,
+            },
+            Err(Refused { number, beside }) => FieldAnswer {
+                number: number as u32,
+                value: 0,
+                beside,
+            },
+        }
+    }
+}
+
+/// A single sample's answer, and the bytes handed out: all 00 beside a refusal.
+pub fn sample_answer<const W: usize>(result: Result<[u8; W], Refused>) -> (SampleAnswer, [u8; W]) {
+    match result {
+        Ok(bytes) => (
+            SampleAnswer {
+                number: 0,
+                beside: 0,
+            },
+            bytes,
+        ),
+        Err(Refused { number, beside }) => (SampleAnswer { number, beside }, [0; W]),
+    }
+}

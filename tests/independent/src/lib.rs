@@ -1,0 +1,617 @@
+//! SEG-Y revision 0 reels and their canonical records: the five calls of document 01 in plain Rust,
+//! written from the paper alone. The differential test compares the library with them.
+//!
+//! A refused call changes no byte of its output. So each call on a whole reel or record makes two
+//! passes: the first looks for causes to refuse, the second writes.
+
+#[cfg(test)]
+mod tests;
+
+const CARD_BYTES: usize = 3_200;
+/// The cards and the binary header, after which the traces begin.
+const REEL_HEADERS: usize = 3_600;
+const TRACE_HEADER: usize = 240;
+
+/// The assigned fields of either header stand at its front without gaps.
+const BINARY_FIELDS: usize = 60;
+const TRACE_FIELDS: usize = 180;
+
+// Offsets in the binary header: fields 3217, 3221 and 3225.
+const INTERVAL: usize = 16;
+const COUNT: usize = 20;
+const CODE: usize = 24;
+
+// Offsets in a trace header: fields 115 and 117.
+const TRACE_COUNT: usize = 114;
+const TRACE_INTERVAL: usize = 116;
+
+const MOST_SAMPLES: u16 = 8_000;
+const MOST_INTERVAL: u16 = 32_767;
+const MOST_TRACES: usize = 100_000;
+
+/// Tag and length stand before the content of each field of a record.
+const FIELD_HEAD: usize = 3;
+const TAG_CARDS: u8 = 0x01;
+const TAG_BINARY: u8 = 0x02;
+const TAG_TRACE: u8 = 0x03;
+const TAG_SAMPLES: u8 = 0x04;
+const TAG_COUNT: u8 = 0x05;
+const COUNT_BYTES: usize = 4;
+const PAIR_BYTES: usize = 6;
+
+const EBCDIC_BLANK: u8 = 0x40;
+
+/// What a taken call on a reel or a record answers. The length is that of what was written.
+#[derive(Clone, Copy, Debug, PartialEq, Eq)]
+pub struct Taken {
+    pub traces: u64,
+    pub samples: u64,
+    pub length: u64,
+}
+
+/// The number of the cause, and what stands beside it in document 01's table.
+#[derive(Clone, Copy, Debug, PartialEq, Eq)]
+pub struct Refused {
+    pub number: u64,
+    pub beside: u64,
+}
+
+fn refused<T>(number: u64, beside: usize) -> Result<T, Refused> {
+    Err(Refused {
+        number,
+        beside: beside as u64,
+    })
+}
+
+/// Reads one word. Under code 3 it is the first two bytes.
+pub fn read_word(code: u32, word: [u8; 4]) -> Result<[u8; 6], Refused> {
+    let Some(code) = Code::numbered(code) else {
+        return refused(2, 0);
+    };
+    let pair = match code {
+        Code::Ibm => Pair::of_ibm(word),
+        Code::Whole32 => Pair::of_whole32(word),
+        Code::Whole16 => Pair::of_whole16([word[0], word[1]]),
+        Code::Gain if word[0] != 0 => return refused(9, 0),
+        Code::Gain => Pair::of_gain(word),
+    };
+    Ok(pair.bytes())
+}
+
+/// Writes one pair. Under code 3 the word is the first two bytes, and the rest is 00.
+pub fn write_pair(code: u32, pair: [u8; 6]) -> Result<[u8; 4], Refused> {
+    let Some(code) = Code::numbered(code) else {
+        return refused(11, 0);
+    };
+    let pair = Pair::of_bytes(&pair);
+    if !pair.is_canonical() {
+        return refused(13, 0);
+    }
+    let word = match code {
+        Code::Ibm => pair.ibm(),
+        Code::Whole32 => pair.whole32(),
+        Code::Whole16 => pair.whole16().map(|[high, low]| [high, low, 0, 0]),
+        Code::Gain => pair.gain(),
+    };
+    word.map_or(refused(14, 0), Ok)
+}
+
+/// Reads a reel and writes its record to the front of the output.
+pub fn read_reel(reel: &[u8], out: &mut [u8]) -> Result<Taken, Refused> {
+    let shape = check_reel(reel)?;
+    let length = shape.record_length();
+    let Some(mut room) = out.get_mut(..length) else {
+        return refused(10, length);
+    };
+
+    let cards = put_field(&mut room, TAG_CARDS, CARD_BYTES);
+    for (card, &byte) in cards.iter_mut().zip(&reel[..CARD_BYTES]) {
+        *card = if byte == 0 { EBCDIC_BLANK } else { byte };
+    }
+
+    let binary = put_field(&mut room, TAG_BINARY, BINARY_FIELDS);
+    binary.copy_from_slice(&reel[CARD_BYTES..][..BINARY_FIELDS]);
+    put_number(binary, CODE, 0);
+
+    for trace in reel[REEL_HEADERS..].chunks_exact(shape.trace_length()) {
+        let (header, words) = trace.split_at(TRACE_HEADER);
+        let fields = put_field(&mut room, TAG_TRACE, TRACE_FIELDS);
+        fields.copy_from_slice(&header[..TRACE_FIELDS]);
+        put_number(fields, TRACE_COUNT, shape.samples);
+        put_number(fields, TRACE_INTERVAL, shape.interval);
+
+        let pairs = put_field(&mut room, TAG_SAMPLES, PAIR_BYTES * shape.samples as usize);
+        match shape.code {
+            Code::Ibm => put_pairs(words, pairs, Pair::of_ibm),
+            Code::Whole32 => put_pairs(words, pairs, Pair::of_whole32),
+            Code::Whole16 => put_pairs(words, pairs, Pair::of_whole16),
+            Code::Gain => put_pairs(words, pairs, Pair::of_gain),
+        }
+    }
+
+    let count = put_field(&mut room, TAG_COUNT, COUNT_BYTES);
+    count.copy_from_slice(&(shape.traces as u32).to_be_bytes());
+    Ok(shape.taken(length))
+}
+
+/// Writes a record as a reel under a target code to the front of the output.
+pub fn write_reel(record: &[u8], code: u32, out: &mut [u8]) -> Result<Taken, Refused> {
+    let Some(code) = Code::numbered(code) else {
+        return refused(11, 0);
+    };
+    let shape = check_record(record, code)?;
+    let length = shape.reel_length();
+    let Some(reel) = out.get_mut(..length) else {
+        return refused(10, length);
+    };
+
+    let (headers, traces) = reel.split_at_mut(REEL_HEADERS);
+    let (cards, binary) = headers.split_at_mut(CARD_BYTES);
+    cards.copy_from_slice(&record[FIELD_HEAD..][..CARD_BYTES]);
+    let (fields, unassigned) = binary.split_at_mut(BINARY_FIELDS);
+    fields.copy_from_slice(&record[BINARY_PLACE + FIELD_HEAD..][..BINARY_FIELDS]);
+    put_number(fields, CODE, code as u16);
+    unassigned.fill(0);
+
+    let held = record[TRACES_PLACE..].chunks_exact(shape.held_length());
+    for (trace, held) in traces.chunks_exact_mut(shape.trace_length()).zip(held) {
+        let (header, words) = trace.split_at_mut(TRACE_HEADER);
+        let (fields, unassigned) = header.split_at_mut(TRACE_FIELDS);
+        fields.copy_from_slice(&held[FIELD_HEAD..][..TRACE_FIELDS]);
+        unassigned.fill(0);
+
+        let pairs = &held[2 * FIELD_HEAD + TRACE_FIELDS..];
+        match code {
+            Code::Ibm => put_words(pairs, words, Pair::ibm),
+            Code::Whole32 => put_words(pairs, words, Pair::whole32),
+            Code::Whole16 => put_words(pairs, words, Pair::whole16),
+            Code::Gain => put_words(pairs, words, Pair::gain),
+        }
+    }
+    Ok(shape.taken(length))
+}
+
+/// Looks up the assigned field that begins at a byte number: of the binary header for trace 0, of
+/// that trace's header from 1 on.
+pub fn look_up(reel: &[u8], trace: usize, byte: u32) -> Result<i32, Refused> {
+    let shape = check_reel(reel)?;
+    if trace > shape.traces {
+        return refused(15, 0);
+    }
+    if trace == 0 {
+        let Some(width) = binary_field(byte) else {
+            return refused(16, 0);
+        };
+        return Ok(signed(&reel[byte as usize - 1..][..width]));
+    }
+    let Some(width) = trace_field(byte) else {
+        return refused(16, 0);
+    };
+    let header = REEL_HEADERS + (trace - 1) * shape.trace_length();
+    Ok(
+        match (byte, signed(&reel[header + byte as usize - 1..][..width])) {
+            (115, 0) => i32::from(shape.samples),
+            (117, 0) => i32::from(shape.interval),
+            (_, number) => number,
+        },
+    )
+}
+
+/// The bytes of the binary header's field that begins at a byte number.
+fn binary_field(byte: u32) -> Option<usize> {
+    match byte {
+        3201 | 3205 | 3209 => Some(4),
+        3213..=3259 if byte % 2 == 1 => Some(2),
+        _ => None,
+    }
+}
+
+/// The bytes of the trace header's field that begins at a byte number.
+fn trace_field(byte: u32) -> Option<usize> {
+    match byte {
+        1..=25 | 37..=65 | 73..=85 if byte % 4 == 1 => Some(4),
+        29..=35 | 69..=71 | 89..=179 if byte % 2 == 1 => Some(2),
+        _ => None,
+    }
+}
+
+/// The signed number in the two or four bytes of a header field.
+fn signed(field: &[u8]) -> i32 {
+    if field.len() == 2 {
+        i32::from(i16::from_be_bytes(array(field)))
+    } else {
+        i32::from_be_bytes(array(field))
+    }
+}
+
+/// The format codes, by their numbers on a reel.
+#[derive(Clone, Copy)]
+enum Code {
+    Ibm = 1,
+    Whole32 = 2,
+    Whole16 = 3,
+    Gain = 4,
+}
+
+impl Code {
+    fn numbered(number: u32) -> Option<Code> {
+        match number {
+            1 => Some(Code::Ibm),
+            2 => Some(Code::Whole32),
+            3 => Some(Code::Whole16),
+            4 => Some(Code::Gain),
+            _ => None,
+        }
+    }
+
+    /// The bytes of a word.
+    fn width(self) -> usize {
+        match self {
+            Code::Whole16 => 2,
+            _ => 4,
+        }
+    }
+}
+
+/// What the lengths of a reel and its record follow from, and the interval that fills field 117.
+struct Shape {
+    code: Code,
+    samples: u16,
+    interval: u16,
+    traces: usize,
+}
+
+impl Shape {
+    /// The bytes of a trace on a reel.
+    fn trace_length(&self) -> usize {
+        TRACE_HEADER + self.samples as usize * self.code.width()
+    }
+
+    /// The bytes of a trace in a record.
+    fn held_length(&self) -> usize {
+        2 * FIELD_HEAD + TRACE_FIELDS + PAIR_BYTES * self.samples as usize
+    }
+
+    fn reel_length(&self) -> usize {
+        REEL_HEADERS + self.traces * self.trace_length()
+    }
+
+    fn record_length(&self) -> usize {
+        TRACES_PLACE + self.traces * self.held_length() + FIELD_HEAD + COUNT_BYTES
+    }
+
+    fn taken(&self, length: usize) -> Taken {
+        Taken {
+            traces: self.traces as u64,
+            samples: u64::from(self.samples),
+            length: length as u64,
+        }
+    }
+}
+
+/// Looks for the causes 1 to 9.
+fn check_reel(reel: &[u8]) -> Result<Shape, Refused> {
+    if reel.len() < REEL_HEADERS {
+        return refused(1, reel.len());
+    }
+    let binary = &reel[CARD_BYTES..REEL_HEADERS];
+    let Some(code) = Code::numbered(u32::from(number_at(binary, CODE))) else {
+        return refused(2, CARD_BYTES + CODE);
+    };
+    let samples = number_at(binary, COUNT);
+    if !(1..=MOST_SAMPLES).contains(&samples) {
+        return refused(3, CARD_BYTES + COUNT);
+    }
+    let interval = number_at(binary, INTERVAL);
+    if !(1..=MOST_INTERVAL).contains(&interval) {
+        return refused(4, CARD_BYTES + INTERVAL);
+    }
+
+    let mut shape = Shape {
+        code,
+        samples,
+        interval,
+        traces: 0,
+    };
+    let traces = reel[REEL_HEADERS..].chunks_exact(shape.trace_length());
+    shape.traces = traces.len();
+    if !traces.remainder().is_empty() {
+        return refused(5, shape.reel_length());
+    }
+    if shape.traces > MOST_TRACES {
+        return refused(6, REEL_HEADERS + MOST_TRACES * shape.trace_length());
+    }
+
+    for (index, trace) in traces.enumerate() {
+        let place = REEL_HEADERS + index * shape.trace_length();
+        let (header, words) = trace.split_at(TRACE_HEADER);
+        let trace_samples = number_at(header, TRACE_COUNT);
+        if trace_samples != 0 && trace_samples != samples {
+            return refused(7, place + TRACE_COUNT);
+        }
+        let trace_interval = number_at(header, TRACE_INTERVAL);
+        if trace_interval != 0 && trace_interval != interval {
+            return refused(8, place + TRACE_INTERVAL);
+        }
+        if let Code::Gain = code {
+            if let Some(word) = words.chunks_exact(4).position(|word| word[0] != 0) {
+                return refused(9, place + TRACE_HEADER + 4 * word);
+            }
+        }
+    }
+    Ok(shape)
+}
+
+const BINARY_PLACE: usize = FIELD_HEAD + CARD_BYTES;
+const TRACES_PLACE: usize = BINARY_PLACE + FIELD_HEAD + BINARY_FIELDS;
+
+/// Looks for the causes 12 and 13, front to back, and for 14 where there is neither.
+fn check_record(record: &[u8], code: Code) -> Result<Shape, Refused> {
+    let cards = field(record, 0, TAG_CARDS, CARD_BYTES)?;
+    if let Some(card) = cards.iter().position(|&byte| byte == 0) {
+        return refused(13, FIELD_HEAD + card);
+    }
+
+    let binary = field(record, BINARY_PLACE, TAG_BINARY, BINARY_FIELDS)?;
+    let interval = number_at(binary, INTERVAL);
+    if !(1..=MOST_INTERVAL).contains(&interval) {
+        return refused(13, BINARY_PLACE + FIELD_HEAD + INTERVAL);
+    }
+    let samples = number_at(binary, COUNT);
+    if !(1..=MOST_SAMPLES).contains(&samples) {
+        return refused(13, BINARY_PLACE + FIELD_HEAD + COUNT);
+    }
+    if number_at(binary, CODE) != 0 {
+        return refused(13, BINARY_PLACE + FIELD_HEAD + CODE);
+    }
+
+    let mut shape = Shape {
+        code,
+        samples,
+        interval,
+        traces: 0,
+    };
+    let mut place = TRACES_PLACE;
+    let mut misfit = None;
+    while shape.traces < MOST_TRACES && record.get(place) == Some(&TAG_TRACE) {
+        let header = field(record, place, TAG_TRACE, TRACE_FIELDS)?;
+        if number_at(header, TRACE_COUNT) != samples {
+            return refused(13, place + FIELD_HEAD + TRACE_COUNT);
+        }
+        if number_at(header, TRACE_INTERVAL) != interval {
+            return refused(13, place + FIELD_HEAD + TRACE_INTERVAL);
+        }
+
+        let samples_place = place + FIELD_HEAD + TRACE_FIELDS;
+        let pairs = field(
+            record,
+            samples_place,
+            TAG_SAMPLES,
+            PAIR_BYTES * samples as usize,
+        )?;
+        let found = match code {
+            Code::Ibm => check_pairs(pairs, Pair::ibm),
+            Code::Whole32 => check_pairs(pairs, Pair::whole32),
+            Code::Whole16 => check_pairs(pairs, Pair::whole16),
+            Code::Gain => check_pairs(pairs, Pair::gain),
+        };
+        let pair_place = |pair| samples_place + FIELD_HEAD + PAIR_BYTES * pair;
+        match found {
+            Pairs::NotCanonical(pair) => return refused(13, pair_place(pair)),
+            Pairs::Misfit(pair) => misfit = misfit.or(Some(pair_place(pair))),
+            Pairs::Fit => {}
+        }
+        place += shape.held_length();
+        shape.traces += 1;
+    }
+
+    let count = field(record, place, TAG_COUNT, COUNT_BYTES)?;
+    if u32::from_be_bytes(array(count)) as usize != shape.traces {
+        return refused(12, place);
+    }
+    let end = place + FIELD_HEAD + COUNT_BYTES;
+    if record.len() > end {
+        return refused(12, end);
+    }
+    misfit.map_or(Ok(shape), |place| refused(14, place))
+}
+
+/// The content of the field whose tag should stand at a place of the record.
+fn field(record: &[u8], place: usize, tag: u8, length: usize) -> Result<&[u8], Refused> {
+    let [high, low] = (length as u16).to_be_bytes();
+    match record[place..].strip_prefix(&[tag, high, low]) {
+        Some(rest) if rest.len() >= length => Ok(&rest[..length]),
+        _ => refused(12, place),
+    }
+}
+
+/// What the pairs of a trace come to. The number is the first such pair's, counted from 0.
+enum Pairs {
+    Fit,
+    Misfit(usize),
+    NotCanonical(usize),
+}
+
+fn check_pairs<const W: usize>(pairs: &[u8], word_of: impl Fn(Pair) -> Option<[u8; W]>) -> Pairs {
+    let mut found = Pairs::Fit;
+    for (index, pair) in pairs.chunks_exact(PAIR_BYTES).enumerate() {
+        let pair = Pair::of_bytes(pair);
+        if !pair.is_canonical() {
+            return Pairs::NotCanonical(index);
+        }
+        if word_of(pair).is_none() && matches!(found, Pairs::Fit) {
+            found = Pairs::Misfit(index);
+        }
+    }
+    found
+}
+
+fn put_pairs<const W: usize>(words: &[u8], pairs: &mut [u8], pair_of: impl Fn([u8; W]) -> Pair) {
+    for (word, room) in words
+        .chunks_exact(W)
+        .zip(pairs.chunks_exact_mut(PAIR_BYTES))
+    {
+        room.copy_from_slice(&pair_of(array(word)).bytes());
+    }
+}
+
+fn put_words<const W: usize>(
+    pairs: &[u8],
+    words: &mut [u8],
+    word_of: impl Fn(Pair) -> Option<[u8; W]>,
+) {
+    for (pair, room) in pairs
+        .chunks_exact(PAIR_BYTES)
+        .zip(words.chunks_exact_mut(W))
+    {
+        let word = word_of(Pair::of_bytes(pair)).expect("the first pass found that it fits");
+        room.copy_from_slice(&word);
+    }
+}
+
+/// Puts a field's tag and length at the front of the room that is left, and gives its content.
+fn put_field<'a>(room: &mut &'a mut [u8], tag: u8, length: usize) -> &'a mut [u8] {
+    let (field, rest) = std::mem::take(room).split_at_mut(FIELD_HEAD + length);
+    *room = rest;
+    let (head, content) = field.split_at_mut(FIELD_HEAD);
+    head[0] = tag;
+    put_number(head, 1, length as u16);
+    content
+}
+
+fn number_at(bytes: &[u8], offset: usize) -> u16 {
+    u16::from_be_bytes([bytes[offset], bytes[offset + 1]])
+}
+
+fn put_number(bytes: &mut [u8], offset: usize, number: u16) {
+    bytes[offset..offset + 2].copy_from_slice(&number.to_be_bytes());
+}
+
+fn array<const W: usize>(bytes: &[u8]) -> [u8; W] {
+    bytes.try_into().expect("a slice of that length")
+}
+
+/// The canonical sample, of the value `mantissa` × 2^`exponent`.
+#[derive(Clone, Copy)]
+struct Pair {
+    exponent: i16,
+    mantissa: i32,
+}
+
+const LEAST_EXPONENT: i16 = -280;
+const MOST_EXPONENT: i16 = 251;
+
+impl Pair {
+    fn of_bytes(bytes: &[u8]) -> Pair {
+        Pair {
+            exponent: i16::from_be_bytes(array(&bytes[..2])),
+            mantissa: i32::from_be_bytes(array(&bytes[2..])),
+        }
+    }
+
+    fn bytes(self) -> [u8; PAIR_BYTES] {
+        let mut bytes = [0; PAIR_BYTES];
+        bytes[..2].copy_from_slice(&self.exponent.to_be_bytes());
+        bytes[2..].copy_from_slice(&self.mantissa.to_be_bytes());
+        bytes
+    }
+
+    /// The most negative mantissa is even, so an odd one is within its limits.
+    fn is_canonical(self) -> bool {
+        if self.mantissa == 0 {
+            self.exponent == 0
+        } else {
+            self.mantissa % 2 != 0 && (LEAST_EXPONENT..=MOST_EXPONENT).contains(&self.exponent)
+        }
+    }
+
+    /// The pair of `number` × 2^`exponent`: the power of two is counted out of the number.
+    fn of_value(number: i32, exponent: i16) -> Pair {
+        if number == 0 {
+            return Pair {
+                exponent: 0,
+                mantissa: 0,
+            };
+        }
+        let twos = number.trailing_zeros();
+        Pair {
+            exponent: exponent + twos as i16,
+            mantissa: number >> twos,
+        }
+    }
+
+    /// Sign and magnitude: the fraction times 16^(characteristic - 70).
+    fn of_ibm(word: [u8; 4]) -> Pair {
+        let [first, fraction @ ..] = word;
+        let characteristic = i16::from(first & 0x7F);
+        let magnitude = i32::from_be_bytes([0, fraction[0], fraction[1], fraction[2]]);
+        let number = if first & 0x80 == 0 {
+            magnitude
+        } else {
+            -magnitude
+        };
+        Pair::of_value(number, 4 * characteristic - 280)
+    }
+
+    fn of_whole32(word: [u8; 4]) -> Pair {
+        Pair::of_value(i32::from_be_bytes(word), 0)
+    }
+
+    fn of_whole16(word: [u8; 2]) -> Pair {
+        Pair::of_value(i32::from(i16::from_be_bytes(word)), 0)
+    }
+
+    /// The first byte has been found to be 00.
+    fn of_gain([_, gain, high, low]: [u8; 4]) -> Pair {
+        Pair::of_value(i32::from(i16::from_be_bytes([high, low])), -i16::from(gain))
+    }
+
+    /// The normal word. The least characteristic at which the fraction stays below 2^24 leaves its
+    /// first hexadecimal digit other than 0, unless that characteristic is 0. There the fraction is
+    /// longest, so where the mantissa would have to be shifted down no characteristic serves.
+    fn ibm(self) -> Option<[u8; 4]> {
+        if self.mantissa == 0 {
+            return Some([0; 4]);
+        }
+        let magnitude = self.mantissa.unsigned_abs();
+        let bits = i32::from(self.exponent) + 280;
+        let over = bits + 32 - magnitude.leading_zeros() as i32 - 24;
+        let characteristic = (over + 3).max(0) / 4;
+        let shift = bits - 4 * characteristic;
+        if shift < 0 || characteristic > 127 {
+            return None;
+        }
+        let sign = u32::from(self.mantissa < 0);
+        Some((sign << 31 | (characteristic as u32) << 24 | magnitude << shift).to_be_bytes())
+    }
+
+    fn whole32(self) -> Option<[u8; 4]> {
+        let whole = i32::try_from(self.whole()?).ok()?;
+        Some(whole.to_be_bytes())
+    }
+
+    fn whole16(self) -> Option<[u8; 2]> {
+        let whole = i16::try_from(self.whole()?).ok()?;
+        Some(whole.to_be_bytes())
+    }
+
+    /// With an odd mantissa a negative exponent needs just that gain; the others need none.
+    fn gain(self) -> Option<[u8; 4]> {
+        let gain = u8::try_from(-self.exponent.min(0)).ok()?;
+        let whole = if gain == 0 {
+            self.whole()?
+        } else {
+            i64::from(self.mantissa)
+        };
+        let [high, low] = i16::try_from(whole).ok()?.to_be_bytes();
+        Some([0, gain, high, low])
+    }
+
+    /// The value, where it is whole and within 64 bits.
+    fn whole(self) -> Option<i64> {
+        match self.exponent {
+            0..=31 => Some(i64::from(self.mantissa) << self.exponent),
+            _ => None,
+        }
+    }
+}
