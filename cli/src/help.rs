@@ -1,0 +1,129 @@
+//! What `--help` prints.
+
+use crate::fields;
+
+pub const ALL: &str = "\
+aukpocket: SEG-Y revision 0 reels and their canonical records
+
+  aukpocket read REEL RECORD [--force]         make the record of a reel
+  aukpocket write RECORD CODE REEL [--force]   write a record as a reel in format code 1 to 4
+  aukpocket look REEL TRACE BYTE               print one header field, by byte number or name
+  aukpocket info FILE [--cards COUNT]          say what a file is and what it holds
+  aukpocket verify REEL                        write and read again in each code, and compare
+  aukpocket check                              print one line about the reel on standard input
+
+  aukpocket COMMAND --help                     say more about one command
+  aukpocket --version                          print the version
+
+Exit status:
+  0  fine
+  1  wrong words on the command line, or trouble with a file or memory
+  2  refused: a sentence on standard error has the number of the cause, what is wrong and where
+  3  verify found a difference, which must never happen
+
+Places are counted from 0, byte numbers, as in the standard, from 1. A whole reel and its record have
+to fit in memory.
+";
+
+const OUTPUT: &str = "
+The output is written under a temporary name in the same folder (aukpocket-NUMBER-NUMBER.partial),
+synced to the disk and then given its name. So a run that fails or is killed leaves nothing half-written
+under that name, and a failing run removes the temporary file too. A file that is there already is kept.
+
+  --force   replace a file that is there already; the input is never replaced
+";
+
+const STATUS: &str = "
+Exit status: 0 fine, 1 wrong words or trouble with a file or memory, 2 refused.
+";
+
+pub fn read() -> String {
+    format!(
+        "\
+aukpocket read REEL RECORD [--force]
+
+Reads the reel and writes its canonical record: the cards, every header number and the exact value of
+every sample. Two reels have the same record exactly when they mean the same.
+{OUTPUT}{STATUS}"
+    )
+}
+
+pub fn write() -> String {
+    format!(
+        "\
+aukpocket write RECORD CODE REEL [--force]
+
+Writes the record as a reel in a format code:
+
+  1  IBM floating point, four bytes
+  2  whole numbers of four bytes
+  3  whole numbers of two bytes
+  4  two bytes with a gain, four bytes in all
+
+A code that can't hold some sample exactly is refused by 14. Reading the written reel gives the record
+again, byte for byte.
+{OUTPUT}{STATUS}"
+    )
+}
+
+pub fn look() -> String {
+    format!(
+        "\
+aukpocket look REEL TRACE BYTE
+
+Prints the signed number in one header field. TRACE is 0 for the binary header, 1 for the first trace.
+BYTE is the byte number at which the field begins, or its name. A 0 in trace fields 115 and 117 is
+taken as the reel's. Any fault of the reel is refused first.
+{STATUS}
+Fields of the binary header (TRACE 0); samples is also called count:
+{}
+Fields of a trace header (TRACE 1 and on); samples is also called count:
+{}",
+        fields::list(&fields::BINARY),
+        fields::list(&fields::TRACE)
+    )
+}
+
+pub fn info() -> String {
+    format!(
+        "\
+aukpocket info FILE [--cards COUNT]
+
+Says by its content whether the file is a record or a reel: a record begins with tag 01 and its length,
+010C80, and anything else is judged as a reel. Prints its length, the traces, the samples a trace, the
+interval and the code; for a record, the codes that hold it; and the first cards as text (EBCDIC code
+page 037, a dot for a control character). A refused file is shown as far as its headers go.
+
+  --cards COUNT   how many cards, 0 to 40; 5 unless given
+{STATUS}"
+    )
+}
+
+pub fn verify() -> String {
+    "\
+aukpocket verify REEL
+
+Reads the reel, writes its record in each of the codes 1 to 4, reads each written reel again and compares
+the records byte for byte. Says which codes hold the reel's samples exactly. Writes no file; the record,
+one written reel and a second record have to fit in memory.
+
+Exit status: 0 fine, 1 wrong words or trouble with a file or memory, 2 the reel is refused, 3 a record
+came back otherwise or the reel's own code doesn't hold it, which must never happen.
+"
+    .to_string()
+}
+
+pub fn check() -> String {
+    format!(
+        "\
+aukpocket check < REEL
+
+Reads a reel of any size from standard input and prints one line, as document 01 has it:
+
+  taken T N LENGTH         T traces of N samples, and the length of the record
+  refused NUMBER BESIDE    the number of the cause, and the place or length beside it
+
+Beside a refusal the sentence stands on standard error. Writes no file.
+{STATUS}"
+    )
+}

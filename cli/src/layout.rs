@@ -1,0 +1,97 @@
+//! Where things stand on a reel and in a record. Only sizes and the sentences of refusals are worked out from here: what a reel holds is
+//! for the library to say.
+
+use aukpocket::{record_length, reel_length};
+
+/// A reel's cards, and its cards and binary header.
+pub const CARDS: usize = 3200;
+pub const HEADERS: usize = 3600;
+
+/// The bytes of a field's tag and length in a record, and the places of its tag 02 and of its first trace.
+pub const TAG: usize = 3;
+pub const BINARY: usize = TAG + CARDS;
+pub const FIRST_TRACE: usize = BINARY + TAG + 60;
+
+/// A trace's tag 04 and its first pair, counted from its tag 03.
+pub const SAMPLES: usize = TAG + 180;
+pub const FIRST_PAIR: usize = SAMPLES + TAG;
+
+/// The two-byte number at a place, 0 beyond the end.
+pub fn number(bytes: &[u8], place: usize) -> u16 {
+    match place.checked_add(2).and_then(|end| bytes.get(place..end)) {
+        Some(two) => u16::from_be_bytes([two[0], two[1]]),
+        None => 0,
+    }
+}
+
+/// The numbers of a reel's or record's header as they stand, and the count of whole traces that its length gives.
+pub struct Shape {
+    pub interval: u16,
+    pub samples: u16,
+    pub code: u16,
+    pub trace_length: usize,
+    pub traces: usize,
+    /// Whether nothing follows the last whole trace.
+    pub whole: bool,
+}
+
+impl Shape {
+    /// Of a reel. One that is too short for its headers has no traces.
+    pub fn of_reel(reel: &[u8]) -> Shape {
+        let code = number(reel, 3224);
+        let samples = number(reel, 3220);
+        let width = if code == 3 { 2 } else { 4 };
+        let trace_length = 240 + width * usize::from(samples);
+        let traces = reel.len().saturating_sub(HEADERS) / trace_length;
+        Shape {
+            interval: number(reel, 3216),
+            samples,
+            code,
+            trace_length,
+            traces,
+            whole: HEADERS + traces * trace_length == reel.len(),
+        }
+    }
+
+    /// Of a record, which ends with seven bytes for the count of its traces.
+    pub fn of_record(record: &[u8]) -> Shape {
+        let samples = number(record, binary_place(3221));
+        let trace_length = FIRST_PAIR + 6 * usize::from(samples);
+        let traces = record.len().saturating_sub(FIRST_TRACE + 7) / trace_length;
+        Shape {
+            interval: number(record, binary_place(3217)),
+            samples,
+            code: number(record, binary_place(3225)),
+            trace_length,
+            traces,
+            whole: FIRST_TRACE + 7 + traces * trace_length == record.len(),
+        }
+    }
+
+    /// The length of the record or reel to be made, where the headers tell it: 0 for a shape that is sure to be refused.
+    pub fn record_length(&self) -> u64 {
+        self.made(record_length(self.traces as u64, self.samples.into()))
+    }
+
+    pub fn reel_length(&self, code: u32) -> u64 {
+        self.made(reel_length(self.traces as u64, self.samples.into(), code))
+    }
+
+    fn made(&self, length: Option<u64>) -> u64 {
+        if self.whole && self.traces <= 100_000 && (1..=8000).contains(&self.samples) {
+            length.unwrap_or(0)
+        } else {
+            0
+        }
+    }
+}
+
+/// The place in a record of a binary header field.
+pub fn binary_place(byte_number: usize) -> usize {
+    BINARY + TAG + byte_number - 3201
+}
+
+/// Whether a file begins as a record does, with tag 01 and its length. On a reel these would be three control characters.
+pub fn begins_as_record(bytes: &[u8]) -> bool {
+    bytes.starts_with(&[0x01, 0x0C, 0x80])
+}

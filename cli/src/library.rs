@@ -1,0 +1,229 @@
+//! A safe module over the C interface, which `include/aukpocket.h` explains.
+//!
+//! A call is lent slices and answers with numbers. It keeps no reference, allocates nothing, and leaves its output as it was where it
+//! refuses. A slice is never null, even an empty one, and one that is lent for writing overlaps no other: so what the header asks of its
+//! caller holds for every call that compiles.
+
+/// What the library declares, as the header has it.
+mod c {
+    #[repr(C)]
+    pub struct ReelAnswer {
+        pub number: u64,
+        pub traces: u64,
+        pub samples: u64,
+        pub length: u64,
+        pub beside: u64,
+    }
+
+    #[repr(C)]
+    pub struct FieldAnswer {
+        pub number: u32,
+        pub value: i32,
+        pub beside: u64,
+    }
+
+    #[repr(C)]
+    pub struct SampleAnswer {
+        pub number: u64,
+        pub beside: u64,
+    }
+
+    // The sizes that a C compiler gives these structures. tests/command.py holds the header to the same.
+    const _: () = assert!(size_of::<ReelAnswer>() == 40);
+    const _: () = assert!(size_of::<FieldAnswer>() == 16);
+    const _: () = assert!(size_of::<SampleAnswer>() == 16);
+    const _: () = assert!(size_of::<usize>() == 8);
+
+    extern "C" {
+        pub fn aukpocket_read_reel(
+            reel: *const u8,
+            reel_length: usize,
+            record: *mut u8,
+            record_length: usize,
+        ) -> ReelAnswer;
+        pub fn aukpocket_write_reel(
+            record: *const u8,
+            record_length: usize,
+            code: u32,
+            reel: *mut u8,
+            reel_length: usize,
+        ) -> ReelAnswer;
+        pub fn aukpocket_look_up(
+            reel: *const u8,
+            reel_length: usize,
+            trace: usize,
+            byte_number: u32,
+        ) -> FieldAnswer;
+        pub fn aukpocket_read_word(code: u32, word: *const u8, pair: *mut u8) -> SampleAnswer;
+        pub fn aukpocket_write_pair(code: u32, pair: *const u8, word: *mut u8) -> SampleAnswer;
+    }
+}
+
+/// A reel or record that was taken: its traces, the samples of each, and the length of what stands at the front of the output.
+#[derive(Clone, Copy, Debug, PartialEq, Eq)]
+pub struct Taken {
+    pub traces: u64,
+    pub samples: u64,
+    pub length: usize,
+}
+
+/// A refusal: the number of its cause, 1 to 16, and what stands beside it: a place, counted from 0, or a length.
+#[derive(Clone, Copy, Debug, PartialEq, Eq)]
+pub struct Refusal {
+    pub number: u64,
+    pub beside: u64,
+}
+
+/// The bytes of a record of that many traces and samples a trace.
+pub fn record_length(traces: u64, samples: u64) -> Option<u64> {
+    let trace = samples.checked_mul(6)?.checked_add(186)?;
+    traces.checked_mul(trace)?.checked_add(3273)
+}
+
+/// The bytes of a reel of that many traces and samples a trace, under a code.
+pub fn reel_length(traces: u64, samples: u64, code: u32) -> Option<u64> {
+    let width = if code == 3 { 2 } else { 4 };
+    let trace = samples.checked_mul(width)?.checked_add(240)?;
+    traces.checked_mul(trace)?.checked_add(3600)
+}
+
+/// Reads a reel and writes its record to the front of the output.
+pub fn read_reel(reel: &[u8], record: &mut [u8]) -> Result<Taken, Refusal> {
+    let room = record.len();
+    // SAFETY: each pointer is a slice's own, with its length.
+    let answer =
+        unsafe { c::aukpocket_read_reel(reel.as_ptr(), reel.len(), record.as_mut_ptr(), room) };
+    counts(answer, room)
+}
+
+/// Writes a record as a reel under a target code to the front of the output.
+pub fn write_reel(record: &[u8], code: u32, reel: &mut [u8]) -> Result<Taken, Refusal> {
+    let room = reel.len();
+    // SAFETY: each pointer is a slice's own, with its length.
+    let answer = unsafe {
+        c::aukpocket_write_reel(record.as_ptr(), record.len(), code, reel.as_mut_ptr(), room)
+    };
+    counts(answer, room)
+}
+
+/// Looks up the field that begins at a byte number, counted from 1: of the binary header for trace 0, else of that trace's header.
+pub fn look_up(reel: &[u8], trace: usize, byte_number: u32) -> Result<i32, Refusal> {
+    // SAFETY: the pointer is the slice's own, with its length.
+    let answer = unsafe { c::aukpocket_look_up(reel.as_ptr(), reel.len(), trace, byte_number) };
+    match answer.number {
+        0 => Ok(answer.value),
+        number => Err(refusal(number.into(), answer.beside)),
+    }
+}
+
+/// The canonical pair of a word under a code.
+pub fn read_word(code: u32, word: [u8; 4]) -> Result<[u8; 6], Refusal> {
+    let mut pair = [0; 6];
+    // SAFETY: the header asks for four bytes and for six, and the arrays have as many.
+    let answer = unsafe { c::aukpocket_read_word(code, word.as_ptr(), pair.as_mut_ptr()) };
+    match answer.number {
+        0 => Ok(pair),
+        number => Err(refusal(number, answer.beside)),
+    }
+}
+
+/// The word of a pair under a target code.
+pub fn write_pair(code: u32, pair: [u8; 6]) -> Result<[u8; 4], Refusal> {
+    let mut word = [0; 4];
+    // SAFETY: the header asks for six bytes and for four, and the arrays have as many.
+    let answer = unsafe { c::aukpocket_write_pair(code, pair.as_ptr(), word.as_mut_ptr()) };
+    match answer.number {
+        0 => Ok(word),
+        number => Err(refusal(number, answer.beside)),
+    }
+}
+
+/// What an answer says, for an output of that room. A length beyond it would tell of bytes that aren't there: another library was linked.
+fn counts(answer: c::ReelAnswer, room: usize) -> Result<Taken, Refusal> {
+    if answer.number != 0 {
+        return Err(refusal(answer.number, answer.beside));
+    }
+    let length = usize::try_from(answer.length).unwrap_or(usize::MAX);
+    assert!(
+        length <= room,
+        "the library tells of {length} bytes in an output of {room}"
+    );
+    Ok(Taken {
+        traces: answer.traces,
+        samples: answer.samples,
+        length,
+    })
+}
+
+fn refusal(number: u64, beside: u64) -> Refusal {
+    assert!(
+        number <= 16,
+        "the library refuses by {number}, which is no cause"
+    );
+    Refusal { number, beside }
+}
+
+#[cfg(test)]
+mod tests {
+    use super::*;
+
+    /// The reel of document 01: one trace of two samples, 41100000 and C276A000.
+    fn example() -> Vec<u8> {
+        let mut reel = vec![0x40; 3200];
+        reel.resize(3600 + 240, 0);
+        reel[3216..3218].copy_from_slice(&2000u16.to_be_bytes());
+        reel[3221] = 2;
+        reel[3225] = 1;
+        reel.extend([0x41, 0x10, 0, 0, 0xC2, 0x76, 0xA0, 0]);
+        reel
+    }
+
+    #[test]
+    fn a_reel_and_its_record() {
+        let reel = example();
+        let mut record = vec![0xEE; 3471 + 5];
+        let taken = read_reel(&reel, &mut record).unwrap();
+        assert_eq!((taken.traces, taken.samples, taken.length), (1, 2, 3471));
+        assert_eq!(record_length(1, 2), Some(3471));
+        assert_eq!(record[3471..], [0xEE; 5]);
+        let mut again = vec![0xEE; 3848];
+        let taken = write_reel(&record[..3471], 1, &mut again).unwrap();
+        assert_eq!((taken.traces, taken.samples, taken.length), (1, 2, 3848));
+        assert_eq!(reel_length(1, 2, 1), Some(3848));
+        assert_eq!(again[3840..], reel[3840..]);
+    }
+
+    #[test]
+    fn refusals_leave_the_output() {
+        let reel = example();
+        let mut short = [0xEE; 3470];
+        let refused = read_reel(&reel, &mut short).unwrap_err();
+        assert_eq!((refused.number, refused.beside), (10, 3471));
+        assert!(short.iter().all(|&b| b == 0xEE));
+        let refused = read_reel(&[], &mut []).unwrap_err();
+        assert_eq!((refused.number, refused.beside), (1, 0));
+        let refused = write_reel(&[], 1, &mut []).unwrap_err();
+        assert_eq!((refused.number, refused.beside), (12, 0));
+        let refused = write_reel(&[], 257, &mut []).unwrap_err();
+        assert_eq!((refused.number, refused.beside), (11, 0));
+    }
+
+    #[test]
+    fn fields() {
+        let reel = example();
+        assert_eq!(look_up(&reel, 0, 3217), Ok(2000));
+        assert_eq!(look_up(&reel, 1, 115), Ok(2));
+        assert_eq!(look_up(&reel, 2, 115).unwrap_err().number, 15);
+        assert_eq!(look_up(&reel, 1, 116).unwrap_err().number, 16);
+    }
+
+    #[test]
+    fn samples() {
+        let pair = [0xFF, 0xFD, 0xFF, 0xFF, 0xFC, 0x4B];
+        assert_eq!(read_word(1, [0xC2, 0x76, 0xA0, 0]), Ok(pair));
+        assert_eq!(write_pair(1, pair), Ok([0xC2, 0x76, 0xA0, 0]));
+        assert_eq!(write_pair(2, pair).unwrap_err().number, 14);
+        assert_eq!(read_word(4, [1, 0, 0, 0]).unwrap_err().number, 9);
+        assert_eq!(read_word(5, [0; 4]).unwrap_err().number, 2);
+    }
+}

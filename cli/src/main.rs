@@ -1,0 +1,550 @@
+//! The command `aukpocket`: reels into records, records into reels, and what they hold.
+
+mod cards;
+mod fields;
+mod files;
+mod help;
+mod layout;
+mod refusals;
+mod trouble;
+
+use aukpocket::{look_up, read_reel, write_reel, Refusal, Taken};
+use files::{step, Target};
+use layout::{begins_as_record, number, Shape};
+use std::env;
+use std::ffi::{OsStr, OsString};
+use std::fmt::Write as _;
+use std::io::{self, ErrorKind, Write};
+use std::path::Path;
+use std::process::ExitCode;
+use std::str::FromStr;
+use trouble::Trouble;
+
+/// The cards that `info` shows unless told otherwise.
+const FIRST_CARDS: usize = 5;
+
+const CODES: [u32; 4] = [1, 2, 3, 4];
+
+/// What stands on the command line after the command's name.
+struct Words {
+    words: Vec<OsString>,
+    force: bool,
+    cards: usize,
+}
+
+impl Words {
+    fn path(&self, i: usize) -> &Path {
+        Path::new(&self.words[i])
+    }
+
+    /// A word that has to be a number.
+    fn number<T: FromStr>(&self, i: usize, what: &str) -> Result<T, Trouble> {
+        parse(&self.words[i]).ok_or_else(|| {
+            Trouble::usage(format!(
+                "{what} has to be a number, and `{}` is none, or is too large",
+                self.words[i].to_string_lossy()
+            ))
+        })
+    }
+}
+
+/// A command: its name, the words that it takes, the options that it knows, its help and its work.
+struct Command {
+    name: &'static str,
+    words: &'static [&'static str],
+    force: bool,
+    cards: bool,
+    help: fn() -> String,
+    run: fn(&Words) -> Result<(), Trouble>,
+}
+
+const COMMANDS: [Command; 6] = [
+    Command {
+        name: "read",
+        words: &["REEL", "RECORD"],
+        force: true,
+        cards: false,
+        help: help::read,
+        run: read,
+    },
+    Command {
+        name: "write",
+        words: &["RECORD", "CODE", "REEL"],
+        force: true,
+        cards: false,
+        help: help::write,
+        run: write,
+    },
+    Command {
+        name: "look",
+        words: &["REEL", "TRACE", "BYTE"],
+        force: false,
+        cards: false,
+        help: help::look,
+        run: look,
+    },
+    Command {
+        name: "info",
+        words: &["FILE"],
+        force: false,
+        cards: true,
+        help: help::info,
+        run: info,
+    },
+    Command {
+        name: "verify",
+        words: &["REEL"],
+        force: false,
+        cards: false,
+        help: help::verify,
+        run: verify,
+    },
+    Command {
+        name: "check",
+        words: &[],
+        force: false,
+        cards: false,
+        help: help::check,
+        run: check,
+    },
+];
+
+fn main() -> ExitCode {
+    match run(env::args_os().skip(1).collect()) {
+        Ok(()) => ExitCode::SUCCESS,
+        Err(trouble) => {
+            if !trouble.sentence.is_empty() {
+                let _ = writeln!(io::stderr(), "aukpocket: {}", trouble.sentence);
+            }
+            ExitCode::from(trouble.status)
+        }
+    }
+}
+
+fn run(arguments: Vec<OsString>) -> Result<(), Trouble> {
+    let Some((first, rest)) = arguments.split_first() else {
+        return Err(Trouble::usage(
+            "a command is missing; see `aukpocket --help`",
+        ));
+    };
+    match first.to_str() {
+        Some("--help" | "-h" | "help") => return print(help::ALL),
+        Some("--version") => return print(concat!("aukpocket ", env!("CARGO_PKG_VERSION"), "\n")),
+        _ => {}
+    }
+    let Some(command) = COMMANDS.iter().find(|command| first == command.name) else {
+        return Err(Trouble::usage(format!(
+            "there is no command `{}`; see `aukpocket --help`",
+            first.to_string_lossy()
+        )));
+    };
+    match take_words(command, rest)? {
+        Some(words) => (command.run)(&words),
+        None => print(&(command.help)()),
+    }
+}
+
+/// Takes a command's words and options apart. None where its help is asked for.
+fn take_words(command: &Command, arguments: &[OsString]) -> Result<Option<Words>, Trouble> {
+    let wrong = |what: String| {
+        let name = command.name;
+        Trouble::usage(format!("{name}: {what}; see `aukpocket {name} --help`"))
+    };
+    let mut taken = Words {
+        words: Vec::new(),
+        force: false,
+        cards: FIRST_CARDS,
+    };
+    let mut options = true;
+    let mut arguments = arguments.iter();
+    while let Some(argument) = arguments.next() {
+        match argument.to_str() {
+            Some("--") if options => options = false,
+            Some("--help" | "-h") if options => return Ok(None),
+            Some("--force") if options && command.force => taken.force = true,
+            Some("--cards") if options && command.cards => {
+                taken.cards = arguments
+                    .next()
+                    .and_then(|count| parse(count))
+                    .filter(|&count| count <= cards::COUNT)
+                    .ok_or_else(|| wrong("--cards wants a number from 0 to 40".to_string()))?;
+            }
+            Some(option) if options && option.starts_with("--") => {
+                return Err(wrong(format!("there is no option `{option}`")));
+            }
+            _ => taken.words.push(argument.clone()),
+        }
+    }
+    if taken.words.len() != command.words.len() {
+        return Err(wrong(match command.words {
+            [] => "it takes no words".to_string(),
+            words => format!("it takes {}", words.join(" ")),
+        }));
+    }
+    Ok(Some(taken))
+}
+
+/// A number without a sign.
+fn parse<T: FromStr>(word: &OsStr) -> Option<T> {
+    let word = word.to_str()?;
+    if word.starts_with('+') {
+        return None;
+    }
+    word.parse().ok()
+}
+
+/// Prints to standard output. Where its reader has gone there is nobody left to tell.
+fn print(text: &str) -> Result<(), Trouble> {
+    let mut output = io::stdout().lock();
+    output
+        .write_all(text.as_bytes())
+        .and_then(|()| output.flush())
+        .map_err(|e| match e.kind() {
+            ErrorKind::BrokenPipe => Trouble::file(""),
+            _ => Trouble::file(format!("standard output: can't be written: {e}")),
+        })
+}
+
+/// Traces and samples, for people.
+fn extent(traces: u64, samples: u64) -> String {
+    let s = |count| if count == 1 { "" } else { "s" };
+    format!(
+        "{traces} trace{} of {samples} sample{}",
+        s(traces),
+        s(samples)
+    )
+}
+
+fn code_name(code: u16) -> &'static str {
+    match code {
+        1 => ", IBM floating point",
+        2 => ", whole numbers of four bytes",
+        3 => ", whole numbers of two bytes",
+        4 => ", two bytes with a gain",
+        _ => "",
+    }
+}
+
+/// The record of a reel. Its length is worked out from the reel's header; where that can't be, the library tells it.
+fn record_of(reel: &[u8], name: &str) -> Result<(Vec<u8>, Taken), Trouble> {
+    let mut room = Shape::of_reel(reel).record_length();
+    loop {
+        step(format_args!("making the record of {name}"), room);
+        let mut record = files::buffer(room, format_args!("{name}: its record"))?;
+        match read_reel(reel, &mut record) {
+            Ok(taken) => {
+                record.truncate(taken.length);
+                return Ok((record, taken));
+            }
+            Err(Refusal { number: 10, beside }) if beside > room => room = beside,
+            Err(refusal) => return Err(Trouble::refused(name, refusals::of_reel(reel, refusal))),
+        }
+    }
+}
+
+/// The reel of a record under a code; or the refusal, in the inner result.
+fn reel_of(
+    record: &[u8],
+    code: u32,
+    name: &str,
+) -> Result<Result<(Vec<u8>, Taken), Refusal>, Trouble> {
+    let mut room = Shape::of_record(record).reel_length(code);
+    loop {
+        step(
+            format_args!("making the reel of {name} in code {code}"),
+            room,
+        );
+        let mut reel = files::buffer(room, format_args!("{name}: its reel"))?;
+        match write_reel(record, code, &mut reel) {
+            Ok(taken) => {
+                reel.truncate(taken.length);
+                return Ok(Ok((reel, taken)));
+            }
+            Err(Refusal { number: 10, beside }) if beside > room => room = beside,
+            Err(refusal) => return Ok(Err(refusal)),
+        }
+    }
+}
+
+fn read(words: &Words) -> Result<(), Trouble> {
+    let (from, to) = (words.path(0), words.path(1));
+    let target = Target::new(to, words.force, from)?;
+    let reel = files::load(from)?;
+    let (record, taken) = record_of(&reel, &from.display().to_string())?;
+    target.put(&record)?;
+    print(&format!(
+        "{}: {}; {}: its record, {} bytes\n",
+        from.display(),
+        extent(taken.traces, taken.samples),
+        to.display(),
+        taken.length
+    ))
+}
+
+fn write(words: &Words) -> Result<(), Trouble> {
+    let (from, to) = (words.path(0), words.path(2));
+    let code = words.number(1, "CODE")?;
+    let target = Target::new(to, words.force, from)?;
+    let record = files::load(from)?;
+    let name = from.display().to_string();
+    let (reel, taken) = reel_of(&record, code, &name)?
+        .map_err(|refusal| Trouble::refused(&name, refusals::of_record(&record, code, refusal)))?;
+    target.put(&reel)?;
+    print(&format!(
+        "{name}: {}; {}: its reel in code {code}, {} bytes\n",
+        extent(taken.traces, taken.samples),
+        to.display(),
+        taken.length
+    ))
+}
+
+fn look(words: &Words) -> Result<(), Trouble> {
+    let path = words.path(0);
+    let trace: usize = words.number(1, "TRACE")?;
+    let byte_number = match parse(&words.words[2]) {
+        Some(byte_number) => byte_number,
+        None => named(trace, &words.words[2].to_string_lossy())?,
+    };
+    let reel = files::load(path)?;
+    let value = look_up(&reel, trace, byte_number).map_err(|refusal| {
+        Trouble::refused(
+            path.display(),
+            refusals::of_look_up(&reel, trace, byte_number, refusal),
+        )
+    })?;
+    print(&format!("{value}\n"))
+}
+
+/// The byte number of a field that is given by its name.
+fn named(trace: usize, name: &str) -> Result<u32, Trouble> {
+    let (this, other) = match trace {
+        0 => (
+            "the binary header (trace 0)",
+            "a trace header (trace 1 and on)",
+        ),
+        _ => (
+            "a trace header (trace 1 and on)",
+            "the binary header (trace 0)",
+        ),
+    };
+    fields::byte_number(fields::header(trace), name).ok_or_else(|| {
+        let elsewhere = fields::byte_number(fields::header(usize::from(trace == 0)), name);
+        Trouble::usage(match elsewhere {
+            Some(_) => format!("look: `{name}` is a field of {other}, not of {this}"),
+            None => {
+                format!("look: no field of {this} is called `{name}`; see `aukpocket look --help`")
+            }
+        })
+    })
+}
+
+fn info(words: &Words) -> Result<(), Trouble> {
+    let path = words.path(0);
+    let bytes = files::load(path)?;
+    let name = path.display().to_string();
+    if is_record(&bytes) {
+        info_of_record(&bytes, &name, words.cards)
+    } else {
+        info_of_reel(&bytes, &name, words.cards)
+    }
+}
+
+/// Whether a file is to be judged as a record: it begins as one, and isn't refused as one and taken as a reel.
+fn is_record(bytes: &[u8]) -> bool {
+    begins_as_record(bytes)
+        && (record_fault(write_reel(bytes, 1, &mut [])).is_none()
+            || reel_fault(read_reel(bytes, &mut [])).is_some())
+}
+
+/// Why a record isn't valid. With no room for the reel, a code that holds a valid record is refused by 10, one that doesn't by 14.
+fn record_fault(answer: Result<Taken, Refusal>) -> Option<Refusal> {
+    answer.err().filter(|r| matches!(r.number, 12 | 13))
+}
+
+/// Why a reel isn't taken. With no room for the record, a reel that would be taken is refused by 10 with the length of its record.
+fn reel_fault(answer: Result<Taken, Refusal>) -> Option<Refusal> {
+    answer.err().filter(|r| r.number != 10)
+}
+
+fn info_of_reel(reel: &[u8], name: &str, cards: usize) -> Result<(), Trouble> {
+    let refusal = reel_fault(read_reel(reel, &mut []));
+    let kind = match refusal {
+        None => "reel",
+        Some(Refusal { number: 1, .. }) => "neither a record nor as long as a reel",
+        Some(_) => "no record, and refused as a reel; its headers as they stand:",
+    };
+    let mut text = format!("file      {name}, {} bytes\nkind      {kind}\n", reel.len());
+    if reel.len() >= layout::HEADERS {
+        let shape = Shape::of_reel(reel);
+        // Without a code and samples a trace within their limits there are no traces to count.
+        if !matches!(refusal, Some(Refusal { number: 2 | 3, .. })) {
+            let _ = writeln!(text, "traces    {}", shape.traces);
+        }
+        let _ = writeln!(text, "samples   {} a trace", shape.samples as i16);
+        let _ = writeln!(text, "interval  {} microseconds", shape.interval as i16);
+        let _ = writeln!(
+            text,
+            "code      {}{}",
+            shape.code as i16,
+            code_name(shape.code)
+        );
+        if refusal.is_none() {
+            let _ = writeln!(text, "record    {} bytes", shape.record_length());
+        }
+        add_cards(&mut text, &reel[..layout::CARDS], cards);
+    }
+    print(&text)?;
+    match refusal {
+        None => Ok(()),
+        Some(refusal) => Err(Trouble::refused(name, refusals::of_reel(reel, refusal))),
+    }
+}
+
+fn info_of_record(record: &[u8], name: &str, cards: usize) -> Result<(), Trouble> {
+    let tried = CODES.map(|code| (code, write_reel(record, code, &mut [])));
+    let refusal = record_fault(tried[0].1);
+    let kind = match refusal {
+        None => "record",
+        Some(_) => "record, refused; its headers as they stand:",
+    };
+    let mut text = format!(
+        "file      {name}, {} bytes\nkind      {kind}\n",
+        record.len()
+    );
+    if record.len() >= layout::FIRST_TRACE {
+        let shape = Shape::of_record(record);
+        let _ = writeln!(text, "traces    {}", shape.traces);
+        let _ = writeln!(text, "samples   {} a trace", shape.samples as i16);
+        let _ = writeln!(text, "interval  {} microseconds", shape.interval as i16);
+        if refusal.is_none() {
+            text.push_str("code      none: a record has exact values\n");
+            for (code, answer) in tried {
+                match answer {
+                    Err(Refusal { number: 10, beside }) => {
+                        let _ =
+                            writeln!(text, "code {code}    holds it, as a reel of {beside} bytes");
+                    }
+                    _ => {
+                        let _ = writeln!(text, "code {code}    doesn't hold it");
+                    }
+                }
+            }
+        }
+        add_cards(&mut text, &record[layout::TAG..layout::BINARY], cards);
+    }
+    print(&text)?;
+    match refusal {
+        None => Ok(()),
+        Some(refusal) => Err(Trouble::refused(
+            name,
+            refusals::of_record(record, 1, refusal),
+        )),
+    }
+}
+
+fn add_cards(text: &mut String, bytes: &[u8], count: usize) {
+    if count > 0 {
+        let _ = writeln!(text, "cards     {count} of {}", cards::COUNT);
+        text.push_str(&cards::text(bytes, count));
+    }
+}
+
+fn verify(words: &Words) -> Result<(), Trouble> {
+    let path = words.path(0);
+    let name = path.display().to_string();
+    let reel = files::load(path)?;
+    let (record, taken) = record_of(&reel, &name)?;
+    let own = u32::from(Shape::of_reel(&reel).code);
+    print(&format!(
+        "{name}: {} in code {own}, {} bytes; its record, {} bytes\n",
+        extent(taken.traces, taken.samples),
+        reel.len(),
+        record.len()
+    ))?;
+    drop(reel);
+    let mut holding = Vec::new();
+    let mut differences = Vec::new();
+    for code in CODES {
+        match again(&record, taken, code, &name)? {
+            Again::Same(length) => {
+                holding.push(code.to_string());
+                print(&format!("code {code}: holds it; written ({length} bytes) and read again, the record is the same\n"))?;
+            }
+            Again::Refused(sentence) if code != own => {
+                print(&format!("code {code}: doesn't hold it; {sentence}\n"))?;
+            }
+            Again::Refused(sentence) | Again::Differs(sentence) => {
+                print(&format!("code {code}: DIFFERENT; {sentence}\n"))?;
+                differences.push(code.to_string());
+            }
+        }
+    }
+    print(&format!("codes that hold it: {}\n", holding.join(" ")))?;
+    if differences.is_empty() {
+        Ok(())
+    } else {
+        Err(Trouble::differs(format!(
+            "{name}: came back otherwise in code {}; keep the tape, and report this",
+            differences.join(" ")
+        )))
+    }
+}
+
+/// What writing a record and reading it again comes to.
+enum Again {
+    Same(usize),
+    Refused(String),
+    Differs(String),
+}
+
+fn again(record: &[u8], taken: Taken, code: u32, name: &str) -> Result<Again, Trouble> {
+    let (reel, written) = match reel_of(record, code, name)? {
+        Ok(made) => made,
+        Err(refusal) if refusal.number == 14 => {
+            return Ok(Again::Refused(refusals::of_record(record, code, refusal)));
+        }
+        Err(refusal) => {
+            return Ok(Again::Differs(refusals::of_record(record, code, refusal)));
+        }
+    };
+    let mut back = files::buffer(record.len() as u64, format_args!("{name}: a second record"))?;
+    step(
+        format_args!("reading the reel in code {code} again"),
+        reel.len() as u64,
+    );
+    Ok(match read_reel(&reel, &mut back) {
+        Err(refusal) => Again::Differs(refusals::of_reel(&reel, refusal)),
+        Ok(read) if read != taken || written.traces != taken.traces => {
+            Again::Differs("the counts of the record differ".to_string())
+        }
+        Ok(_) if record == back => Again::Same(written.length),
+        Ok(_) => {
+            let same = record.iter().zip(&back).take_while(|(a, b)| a == b);
+            Again::Differs(format!("the records differ from place {} on", same.count()))
+        }
+    })
+}
+
+fn check(_: &Words) -> Result<(), Trouble> {
+    let reel = files::load_from(&mut io::stdin().lock(), 0, "standard input")?;
+    step("checking standard input", reel.len() as u64);
+    // With no room for the record, a reel that would be taken is refused by 10 with the length of its record, from which T follows.
+    match read_reel(&reel, &mut []) {
+        Ok(taken) => print(&format!(
+            "taken {} {} {}\n",
+            taken.traces, taken.samples, taken.length
+        )),
+        Err(Refusal { number: 10, beside }) => {
+            let samples = u64::from(number(&reel, 3220));
+            let traces = (beside - 3273) / (186 + 6 * samples);
+            print(&format!("taken {traces} {samples} {beside}\n"))
+        }
+        Err(refusal) => {
+            print(&format!("refused {} {}\n", refusal.number, refusal.beside))?;
+            Err(Trouble::refused(
+                "standard input",
+                refusals::of_reel(&reel, refusal),
+            ))
+        }
+    }
+}

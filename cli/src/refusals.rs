@@ -1,0 +1,295 @@
+//! A refusal in a sentence: the number, what is wrong, the place, and the trace and field that it falls in.
+
+use crate::fields::header;
+use crate::layout::{
+    binary_place, number, Shape, BINARY, CARDS, FIRST_PAIR, FIRST_TRACE, HEADERS, SAMPLES, TAG,
+};
+use aukpocket::Refusal;
+
+/// The most traces that a reel or record has.
+const MOST_TRACES: usize = 100_000;
+
+/// A reel's refusal, by 1 to 10.
+pub fn of_reel(reel: &[u8], refusal: Refusal) -> String {
+    let shape = Shape::of_reel(reel);
+    let place = place_of(refusal);
+    let signed = number(reel, place) as i16;
+    let what = match refusal.number {
+        1 => format!(
+            "it has {} bytes, and the cards and binary header of a reel alone have {HEADERS}",
+            refusal.beside
+        ),
+        2 => format!(
+            "the format code is {signed}, not 1 to 4 ({})",
+            binary_at(place)
+        ),
+        3 => format!(
+            "the samples a trace are {signed}, not 1 to 8000 ({})",
+            binary_at(place)
+        ),
+        4 => format!(
+            "the sample interval is {signed}, not 1 to 32767 ({})",
+            binary_at(place)
+        ),
+        5 => format!(
+            "{} bytes follow the last whole trace (place {place}: trace {} would take {} bytes)",
+            reel.len().saturating_sub(place),
+            shape.traces + 1,
+            shape.trace_length
+        ),
+        6 => format!(
+            "it has {} traces, more than {MOST_TRACES} (place {place}: trace {})",
+            shape.traces,
+            MOST_TRACES + 1
+        ),
+        7 => format!(
+            "the sample count of a trace is {signed}, neither 0 nor the reel's {} ({})",
+            shape.samples,
+            reel_at(&shape, place)
+        ),
+        8 => format!(
+            "the sample interval of a trace is {signed}, neither 0 nor the reel's {} ({})",
+            shape.interval,
+            reel_at(&shape, place)
+        ),
+        9 => format!(
+            "a gain word begins with {:02X}, not 00 ({})",
+            reel.get(place).copied().unwrap_or(0),
+            reel_at(&shape, place)
+        ),
+        _ => return other(refusal),
+    };
+    sentence(refusal, &what)
+}
+
+/// A look-up's refusal: those of a reel, and 15 and 16.
+pub fn of_look_up(reel: &[u8], trace: usize, byte_number: u32, refusal: Refusal) -> String {
+    let what = match refusal.number {
+        15 => format!(
+            "there is no trace {trace}: the reel has {} traces",
+            Shape::of_reel(reel).traces
+        ),
+        16 => format!(
+            "no assigned field of {} begins at byte number {byte_number}",
+            if trace == 0 {
+                "the binary header"
+            } else {
+                "a trace header"
+            }
+        ),
+        _ => return of_reel(reel, refusal),
+    };
+    sentence(refusal, &what)
+}
+
+/// A record's refusal under a target code, by 10 to 14.
+pub fn of_record(record: &[u8], code: u32, refusal: Refusal) -> String {
+    let place = place_of(refusal);
+    let what = match refusal.number {
+        11 => format!("the target code is {code}, not 1 to 4"),
+        12 => wrong_form(record, place),
+        13 => wrong_number(record, place),
+        14 => format!(
+            "a sample, {}, doesn't fit code {code} ({})",
+            value(record, place),
+            record_at(record, place)
+        ),
+        _ => return other(refusal),
+    };
+    sentence(refusal, &what)
+}
+
+fn sentence(refusal: Refusal, what: &str) -> String {
+    format!("refused by {}: {what}", refusal.number)
+}
+
+/// A refusal that the command doesn't run into, since it asks for a length first.
+fn other(refusal: Refusal) -> String {
+    match refusal.number {
+        10 => sentence(
+            refusal,
+            &format!(
+                "the output is too short: {} bytes are needed",
+                refusal.beside
+            ),
+        ),
+        _ => sentence(refusal, &format!("{} stands beside it", refusal.beside)),
+    }
+}
+
+fn place_of(refusal: Refusal) -> usize {
+    usize::try_from(refusal.beside).unwrap_or(usize::MAX)
+}
+
+/// The name of the field that begins at a byte number.
+fn field(trace: usize, byte_number: usize) -> String {
+    let name = header(trace)
+        .iter()
+        .find(|field| field.0 as usize == byte_number)
+        .map_or("unassigned", |field| field.1);
+    format!("field {byte_number}, {name}")
+}
+
+/// A place in the binary header of a reel.
+fn binary_at(place: usize) -> String {
+    format!("place {place}: binary header, {}", field(0, place + 1))
+}
+
+/// A place in a trace of a reel.
+fn reel_at(shape: &Shape, place: usize) -> String {
+    let from = place.saturating_sub(HEADERS);
+    let (trace, rest) = (from / shape.trace_length + 1, from % shape.trace_length);
+    if rest < 240 {
+        format!("place {place}: trace {trace}, {}", field(trace, rest + 1))
+    } else {
+        // Reading refuses samples under code 4 alone, whose words have four bytes.
+        format!(
+            "place {place}: trace {trace}, sample {}",
+            (rest - 240) / 4 + 1
+        )
+    }
+}
+
+/// A place in a trace of a record: the trace, from 1, and the bytes from its tag 03.
+fn trace_at(record: &[u8], place: usize) -> (usize, usize) {
+    let from = place.saturating_sub(FIRST_TRACE);
+    let length = Shape::of_record(record).trace_length;
+    (from / length + 1, from % length)
+}
+
+/// The number in a record at a place, by what it belongs to.
+fn record_at(record: &[u8], place: usize) -> String {
+    let part = if place < BINARY {
+        let from = place.saturating_sub(TAG);
+        format!("card {}, column {}", from / 80 + 1, from % 80 + 1)
+    } else if place < FIRST_TRACE {
+        let byte_number = (place + 3201).saturating_sub(BINARY + TAG);
+        format!("binary header, {}", field(0, byte_number))
+    } else {
+        match trace_at(record, place) {
+            (trace, rest) if rest < SAMPLES => {
+                format!(
+                    "trace {trace}, {}",
+                    field(trace, (rest + 1).saturating_sub(TAG))
+                )
+            }
+            (trace, rest) => {
+                format!(
+                    "trace {trace}, sample {}",
+                    rest.saturating_sub(FIRST_PAIR) / 6 + 1
+                )
+            }
+        }
+    };
+    format!("place {place}: {part}")
+}
+
+/// Number 13: what is wrong with the number at a place.
+fn wrong_number(record: &[u8], place: usize) -> String {
+    let at = record_at(record, place);
+    let signed = number(record, place) as i16;
+    let shape = Shape::of_record(record);
+    if place < BINARY {
+        return format!("a card byte is 00 ({at})");
+    }
+    if place < FIRST_TRACE {
+        return if place == binary_place(3217) {
+            format!("the sample interval is {signed}, not 1 to 32767 ({at})")
+        } else if place == binary_place(3221) {
+            format!("the samples a trace are {signed}, not 1 to 8000 ({at})")
+        } else {
+            format!("the format code is {signed}, where a record has 0 ({at})")
+        };
+    }
+    match trace_at(record, place).1 {
+        rest if rest == TAG + 114 => format!(
+            "the sample count of a trace is {signed}, not the reel's {} ({at})",
+            shape.samples
+        ),
+        rest if rest < SAMPLES => format!(
+            "the sample interval of a trace is {signed}, not the reel's {} ({at})",
+            shape.interval
+        ),
+        _ => format!("a pair, {}, isn't canonical ({at})", value(record, place)),
+    }
+}
+
+/// Number 12: what is wrong with the field whose tag stands, or should stand, at a place.
+fn wrong_form(record: &[u8], place: usize) -> String {
+    let samples = usize::from(Shape::of_record(record).samples);
+    let tag = record.get(place).copied();
+    if place == 0 {
+        return wrong_field(record, place, 0x01, CARDS, "the cards");
+    }
+    if place == BINARY {
+        return wrong_field(record, place, 0x02, 60, "the binary header");
+    }
+    match trace_at(record, place) {
+        (trace, SAMPLES) => wrong_field(
+            record,
+            place,
+            0x04,
+            6 * samples,
+            &format!("the samples of trace {trace}"),
+        ),
+        (trace, 0) if tag == Some(0x03) && trace > MOST_TRACES => {
+            format!("trace {trace} begins, and a record has at most {MOST_TRACES} (place {place})")
+        }
+        (trace, 0) if tag == Some(0x03) => wrong_field(
+            record,
+            place,
+            0x03,
+            180,
+            &format!("the header of trace {trace}"),
+        ),
+        (trace, 0) if tag == Some(0x05) => {
+            let whole = number(record, place + 1) == 4 && record.len() >= place + TAG + 4;
+            if whole {
+                let count = u32::from(number(record, place + 3)) << 16
+                    | u32::from(number(record, place + 5));
+                format!(
+                    "the count of traces is {count}, and {} stand before it (place {place}: tag 05)",
+                    trace - 1
+                )
+            } else {
+                wrong_field(record, place, 0x05, 4, "the count of traces")
+            }
+        }
+        (trace, 0) => {
+            let found = match tag {
+                Some(tag) => format!("tag {tag:02X} stands"),
+                None => "the record ends".to_string(),
+            };
+            format!("{found} where tag 03 of trace {trace} or tag 05 should stand (place {place})")
+        }
+        _ => format!(
+            "{} bytes follow the record's end (place {place})",
+            record.len().saturating_sub(place)
+        ),
+    }
+}
+
+/// What is wrong with a field that should have that tag and length.
+fn wrong_field(record: &[u8], place: usize, tag: u8, length: usize, what: &str) -> String {
+    let at = format!("place {place}: tag {tag:02X}, {what}");
+    match record.get(place) {
+        None => format!("the record ends where a field should begin ({at})"),
+        Some(&found) if found != tag => {
+            format!("tag {found:02X} stands where a field should begin ({at})")
+        }
+        _ if record.len() < place + TAG => format!("the record ends within a field ({at})"),
+        _ if usize::from(number(record, place + 1)) != length => format!(
+            "a field's length is {}, not {length} ({at})",
+            number(record, place + 1)
+        ),
+        _ => format!("the record ends within a field ({at})"),
+    }
+}
+
+/// The value of the pair at a place in a record.
+fn value(record: &[u8], place: usize) -> String {
+    let e = number(record, place) as i16;
+    let m =
+        (u32::from(number(record, place + 2)) << 16 | u32::from(number(record, place + 4))) as i32;
+    format!("{m} * 2^{e}")
+}

@@ -1,0 +1,834 @@
+"""Tries the command `aukpocket` as a user would.
+
+    python3 tests/command.py PATH_OF_COMMAND
+
+What it writes and answers is compared with tools/vectors, which was written from document 01 alone. The inputs are the same at every
+run. What the examples need is built in a temporary folder, over target/staticlib/libaukpocket.a.
+"""
+
+import os
+import pty
+import random
+import re
+import resource
+import shutil
+import signal
+import stat
+import subprocess
+import sys
+import tempfile
+import threading
+import time
+import unittest
+from pathlib import Path
+
+sys.dont_write_bytecode = True
+TOP = Path(__file__).resolve().parents[1]
+sys.path[:0] = [str(TOP / "tools" / "vectors"), str(TOP / "tests")]
+
+import make_sample_reel  # noqa: E402
+import records  # noqa: E402
+import reels  # noqa: E402
+from records import (  # noqa: E402
+    make_record, place_of_binary, place_of_card, place_of_end, place_of_field, place_of_pair, place_of_samples, place_of_trace,
+)
+from reels import example, gain, make_reel, make_trace, random_reel, trace_size, whole16, whole32  # noqa: E402
+from samples import pair_bytes  # noqa: E402
+
+SAMPLE = TOP / "examples" / "sample.sgy"
+ARCHIVE = TOP / "target" / "staticlib" / "libaukpocket.a"
+COMMAND = None  # a copy of the command, which other users may run too
+ROOM = None  # the folder of the whole test
+SECONDS = 120  # how long one run may take
+MEGABYTE = 1_000_000
+
+
+def with_bytes(data, place, other):
+    return data[:place] + other + data[place + len(other) :]
+
+
+def limited(kind, most):
+    """What a child does first: takes a limit on its file sizes or memory, and ignores the signal that goes with it."""
+
+    def first():
+        signal.signal(signal.SIGXFSZ, signal.SIG_IGN)
+        resource.setrlimit(kind, (most, most))
+
+    return first
+
+
+class Case(unittest.TestCase):
+    """Each test has a folder of its own."""
+
+    def setUp(self):
+        self.folder = Path(tempfile.mkdtemp(dir=ROOM))
+        self.folder.chmod(0o777)
+
+    def tearDown(self):
+        shutil.rmtree(self.folder)
+
+    def file(self, name, content):
+        path = self.folder / name
+        path.write_bytes(content)
+        return path
+
+    def run_command(self, *words, stdin=b"", **named):
+        if not hasattr(stdin, "fileno"):
+            named["input"] = stdin
+        else:
+            named["stdin"] = stdin
+        named.setdefault("stdout", subprocess.PIPE)
+        named.setdefault("stderr", subprocess.PIPE)
+        return subprocess.run([str(COMMAND), *map(str, words)], timeout=SECONDS, **named)
+
+    def fine(self, *words, **named):
+        """Runs it; it must end well and say nothing on standard error. What it prints."""
+        run = self.run_command(*words, **named)
+        self.assertEqual((run.returncode, run.stderr), (0, b""), words)
+        return run.stdout.decode("utf-8")
+
+    def trouble(self, status, *words, stdout="", **named):
+        """Runs it; it must end with that status and one sentence on standard error, which is returned."""
+        run = self.run_command(*words, **named)
+        said = run.stderr.decode("utf-8")
+        self.assertEqual(run.returncode, status, (words, said))
+        self.assertEqual(said.count("\n"), 1, (words, said))
+        self.assertTrue(said.startswith("aukpocket: ") and said.endswith("\n"), said)
+        if stdout is not None:
+            self.assertEqual(run.stdout.decode("utf-8"), stdout, words)
+        return said[len("aukpocket: ") : -1]
+
+    def names(self):
+        return sorted(path.name for path in self.folder.iterdir())
+
+
+class Sample(Case):
+    """Each command on the sample reel."""
+
+    def setUp(self):
+        super().setUp()
+        self.reel = SAMPLE.read_bytes()
+        self.record = reels.record_of(self.reel)
+
+    def test_the_sample_is_what_its_script_makes(self):
+        self.assertEqual(self.reel, make_sample_reel.sample_reel())
+        self.assertLess(len(self.reel), 20_000)
+
+    def test_read_and_write(self):
+        record = self.folder / "a.record"
+        said = self.fine("read", SAMPLE, record)
+        self.assertEqual(said, f"{SAMPLE}: 6 traces of 240 samples; {record}: its record, 13029 bytes\n")
+        self.assertEqual(record.read_bytes(), self.record)
+        for code in (1, 4):
+            reel, again = self.folder / f"{code}.sgy", self.folder / f"{code}.record"
+            said = self.fine("write", record, code, reel)
+            self.assertEqual(said, f"{record}: 6 traces of 240 samples; {reel}: its reel in code {code}, 10800 bytes\n")
+            self.assertEqual(reel.read_bytes(), records.reel_of(self.record, code))
+            self.fine("read", reel, again)
+            self.assertEqual(again.read_bytes(), self.record)
+        # The sample has words that aren't normal, so its own bytes don't come back; what they mean does.
+        self.assertNotEqual((self.folder / "1.sgy").read_bytes(), self.reel)
+        before = self.names()
+        for code in (2, 3):
+            said = self.trouble(2, "write", record, code, self.folder / "none")
+            place = records.write_reel(self.record, code, 0)[2]
+            self.assertIn(f"refused by 14: a sample, -431 * 2^-3, doesn't fit code {code} (place {place}: trace 1, sample 90)", said)
+        self.assertEqual(self.names(), before)
+
+    def test_names_in_the_folder_where_it_is_run(self):
+        shutil.copy(SAMPLE, self.folder)
+        self.fine("read", "sample.sgy", "b.record", cwd=self.folder)
+        self.fine("read", "--", "sample.sgy", "--force", cwd=self.folder)
+        self.assertEqual(self.names(), ["--force", "b.record", "sample.sgy"])
+        self.assertEqual((self.folder / "--force").read_bytes(), self.record)
+
+    def test_every_field_by_number_and_name(self):
+        lines = re.findall(r"^ +(\d+)  (\S+)", self.fine("look", "--help"), re.M)
+        listed = {int(byte_number): name for byte_number, name in lines if int(byte_number) > 0}
+        self.assertEqual(set(listed), set(reels.BINARY_FIELDS) | set(reels.TRACE_FIELDS))
+        self.assertEqual(len(lines), 27 + 71)
+        for byte_number, name in listed.items():
+            trace = 0 if byte_number > 3200 else 3
+            value = f"{reels.look_up(self.reel, trace, byte_number)[1]}\n"
+            self.assertEqual(self.fine("look", SAMPLE, trace, byte_number), value)
+            self.assertEqual(self.fine("look", SAMPLE, trace, name), value, name)
+
+    def test_some_fields(self):
+        for trace, field, value in (
+            (0, "samples", 240), (0, "count", 240), (0, "interval", 2000), (0, "code", 1), (0, "job", 1975), (0, 3213, 6),
+            (2, "samples", 240), (2, "count", 240), (2, 115, 240), (2, "interval", 2000), (2, 117, 2000),  # both are 0 on the reel
+            (1, "offset", -50), (6, "source-y", -612300), (6, "elevation-scalar", -10), (5, 165, 25),
+        ):
+            self.assertEqual(self.fine("look", SAMPLE, trace, field), f"{value}\n", (trace, field))
+
+    def test_info(self):
+        cards = "".join(f"  {line}\n" for line in (
+            "C 1 CLIENT  AUKPOCKET SAMPLE SURVEY",
+            "C 2 LINE 12     AREA  SKERRY BANK     MAP ID  NONE",
+        ))
+        counts = "traces    6\nsamples   240 a trace\ninterval  2000 microseconds\n"
+        self.assertEqual(
+            self.fine("info", SAMPLE, "--cards", 2),
+            f"file      {SAMPLE}, 10800 bytes\nkind      reel\n{counts}code      1, IBM floating point\n"
+            f"record    13029 bytes\ncards     2 of 40\n{cards}")
+        record = self.file("a.record", self.record)
+        self.assertEqual(
+            self.fine("info", "--cards", 2, record),
+            f"file      {record}, 13029 bytes\nkind      record\n{counts}code      none: a record has exact values\n"
+            "code 1    holds it, as a reel of 10800 bytes\ncode 2    doesn't hold it\ncode 3    doesn't hold it\n"
+            f"code 4    holds it, as a reel of 10800 bytes\ncards     2 of 40\n{cards}")
+        self.assertIn("  C40 END EBCDIC\n", self.fine("info", SAMPLE, "--cards", 40))
+        self.assertEqual(self.fine("info", SAMPLE).count("\n  C "), 5)
+        self.assertNotIn("cards", self.fine("info", SAMPLE, "--cards", 0))
+
+    def test_verify(self):
+        said = self.fine("verify", SAMPLE)
+        self.assertEqual(said.count("the record is the same"), 2)
+        self.assertTrue(said.endswith("codes that hold it: 1 4\n"), said)
+
+    def test_check(self):
+        self.assertEqual(self.fine("check", stdin=self.reel), "taken 6 240 13029\n")
+        self.assertEqual(self.fine("check", stdin=example()), "taken 1 2 3471\n")
+
+
+class Help(Case):
+    def test_help(self):
+        whole = self.fine("--help")
+        self.assertEqual(whole, self.fine("-h"))
+        self.assertRegex(self.fine("--version"), r"^aukpocket \d+\.\d+\.\d+\n$")
+        for status in ("0  fine", "1  wrong words", "2  refused", "3  verify found"):
+            self.assertIn(status, whole)
+        for command in ("read", "write", "look", "info", "verify", "check"):
+            self.assertIn(f"  aukpocket {command}", whole)
+            said = self.fine(command, "--help")
+            self.assertTrue(said.startswith(f"aukpocket {command}"), said)
+            self.assertIn("Exit status", said)
+            self.assertEqual(said, self.fine(command, "some", "words", "-h"))
+
+    def test_wrong_words(self):
+        for words in (
+            (), ("fetch",), ("",), ("READ", SAMPLE, "x"), ("--force",), ("read",), ("read", SAMPLE), ("read", SAMPLE, "x", "y"),
+            ("read", SAMPLE, "x", "--fast"), ("look", SAMPLE, 1, "samples", "--force"), ("write", SAMPLE, "x"),
+            ("write", SAMPLE, "ibm", "x"), ("write", SAMPLE, "-1", "x"), ("write", SAMPLE, "+1", "x"), ("write", SAMPLE, "", "x"),
+            ("write", SAMPLE, "4294967297", "x"), ("look", SAMPLE, "first", 1), ("look", SAMPLE, 1), ("look", SAMPLE, 1, "colour"),
+            ("look", SAMPLE, 1, "code"), ("look", SAMPLE, 0, "offset"), ("look", SAMPLE, 1, "-1"), ("look", SAMPLE, "-1", 1),
+            ("info",), ("info", SAMPLE, "--cards"), ("info", SAMPLE, "--cards", "41"), ("info", SAMPLE, "--cards", "all"),
+            ("verify",), ("verify", SAMPLE, SAMPLE), ("check", SAMPLE),
+        ):
+            self.trouble(1, *words, cwd=self.folder)
+        self.assertEqual(self.names(), [])
+
+
+class Refusals(Case):
+    """Every number, with its place and the trace and field that it falls in."""
+
+    def reel_refused(self, reel, number, beside, *parts):
+        self.assertEqual(reels.read_reel(reel, 0)[0], ("refused", number, beside))
+        path = self.file("bad.sgy", reel)
+        output = self.folder / "none"
+        said = [
+            self.trouble(2, "read", path, output),
+            self.trouble(2, "verify", path),
+            self.trouble(2, "look", path, 0, 3225),
+            self.trouble(2, "info", path, stdout=None),
+            self.trouble(2, "check", stdin=reel, stdout=f"refused {number} {beside}\n"),
+        ]
+        self.assertEqual(self.names(), ["bad.sgy"])
+        for sentence in said:
+            self.assertEqual(sentence.split(": ", 1)[1], said[0].split(": ", 1)[1])
+            self.assertIn(f": refused by {number}: ", sentence)
+            for part in parts:
+                self.assertIn(part, sentence)
+
+    def record_refused(self, record, code, number, beside, *parts):
+        self.assertEqual(records.write_reel(record, code, 0)[:3], ("refused", number, beside))
+        path = self.file("bad.record", record)
+        said = self.trouble(2, "write", path, code, self.folder / "none")
+        self.assertEqual(self.names(), ["bad.record"])
+        self.assertIn(f": refused by {number}: ", said)
+        for part in parts:
+            self.assertIn(part, said)
+        if number in (12, 13) and record[:3] == b"\x01\x0c\x80":
+            self.assertEqual(self.trouble(2, "info", path, stdout=None), said)
+
+    def test_1_to_5(self):
+        rnd = random.Random(1)
+        good = random_reel(rnd, 1, 3, 2)
+        self.reel_refused(b"", 1, 0, "it has 0 bytes")
+        self.reel_refused(good[:3599], 1, 3599, "it has 3599 bytes")
+        self.reel_refused(with_bytes(good, 3224, b"\xff\xfb"), 2, 3224, "is -5, not 1 to 4", "place 3224: binary header, field 3225, code")
+        self.reel_refused(with_bytes(good, 3220, b"\x1f\x41"), 3, 3220, "are 8001, not", "place 3220: binary header, field 3221, samples")
+        self.reel_refused(with_bytes(good, 3216, b"\x80\x00"), 4, 3216, "is -32768, not", "place 3216: binary header, field 3217, interval")
+        self.reel_refused(good + b"\0" * 7, 5, len(good), "7 bytes follow", f"place {len(good)}: trace 3 would take 252 bytes")
+        self.reel_refused(good[:-1], 5, 3852, "251 bytes follow", "place 3852: trace 2 would")
+        self.reel_refused(good[:3700], 5, 3600, "100 bytes follow", "place 3600: trace 1 would")
+
+    def test_6(self):
+        reel = make_reel(2000, 1, 3) + bytes(trace_size(3, 1)) * 100_001
+        place = 3600 + 100_000 * 242
+        path = self.file("many.sgy", reel)
+        parts = "refused by 6: it has 100001 traces", f"place {place}: trace 100001"
+        said = self.trouble(2, "read", path, self.folder / "none")
+        self.assertEqual(said, self.trouble(2, "look", path, 1, 1))
+        for part in parts:
+            self.assertIn(part, said)
+        self.trouble(2, "check", stdin=reel, stdout=f"refused 6 {place}\n")
+        self.assertEqual(self.fine("check", stdin=reel[:-242]), f"taken 100000 1 {3273 + 100_000 * 192}\n")
+        # And a record of as many traces, whose last is one too many.
+        record = self.folder / "most.record"
+        path.write_bytes(reel[:-242])
+        self.fine("read", path, record)
+        most = record.read_bytes()
+        one_more = most[:-7] + most[-7 - 192 : -7] + bytes.fromhex("050004000186a1")
+        place = len(most) - 7
+        said = self.trouble(2, "write", self.file("more.record", one_more), 1, self.folder / "none")
+        self.assertIn(f"refused by 12: trace 100001 begins, and a record has at most 100000 (place {place})", said)
+
+    def test_7_to_9(self):
+        traces = [make_trace([whole32(9)] * 3) for _ in range(5)]
+        faults = list(traces)
+        faults[3] = make_trace([whole32(9)] * 3, {115: 4})
+        self.reel_refused(
+            make_reel(500, 3, 2, faults), 7, 3600 + 3 * 252 + 114, "is 4, neither 0 nor the reel's 3",
+            f"place {3600 + 3 * 252 + 114}: trace 4, field 115, samples")
+        faults[1] = make_trace([whole32(9)] * 3, {117: -500})
+        self.reel_refused(
+            make_reel(500, 3, 2, faults), 8, 3600 + 252 + 116, "is -500, neither 0 nor the reel's 500",
+            "trace 2, field 117, interval")
+        gains = [make_trace([gain(3, 7)] * 2), make_trace([gain(3, 7), gain(3, 7, first=0xA1)])]
+        place = 3600 + 248 + 240 + 4
+        self.reel_refused(make_reel(500, 2, 4, gains), 9, place, "begins with A1, not 00", f"place {place}: trace 2, sample 2")
+
+    def test_11_to_14(self):
+        one = pair_bytes(0, 1)
+        good = make_record(n=2, traces=[[one, one]] * 3)
+        self.assertEqual(records.write_reel(good, 3, 10**6)[0], "taken")
+        for code in (0, 5, 257):
+            self.record_refused(good, code, 11, 0, f"the target code is {code}, not 1 to 4")
+        header, samples, end = place_of_trace(2, 2), place_of_samples(2, 2), place_of_end(3, 2)
+        for record, place, *parts in (
+            (b"", 0, "the record ends where a field should begin", "tag 01, the cards"),
+            (SAMPLE.read_bytes(), 0, "tag C3 stands", "tag 01, the cards"),
+            (good[:2], 0, "ends within a field", "tag 01, the cards"),
+            (good[:3000], 0, "ends within a field", "tag 01, the cards"),
+            (with_bytes(good, 1, b"\x0c\x81"), 0, "length is 3201, not 3200", "tag 01, the cards"),
+            (with_bytes(good, 3203, b"\x07"), 3203, "tag 07 stands", "place 3203: tag 02, the binary header"),
+            (good[:3203], 3203, "the record ends where", "place 3203: tag 02"),
+            (with_bytes(good, header, b"\x04"), header, "tag 04 stands where tag 03 of trace 2 or tag 05 should"),
+            (good[:header], header, "the record ends where tag 03 of trace 2 or tag 05"),
+            (with_bytes(good, header + 1, b"\0\x01"), header, "length is 1, not 180", "tag 03, the header of trace 2"),
+            (with_bytes(good, samples, b"\x03"), samples, "tag 03 stands", "tag 04, the samples of trace 2"),
+            (with_bytes(good, samples + 2, b"\x0b"), samples, "length is 11, not 12", "tag 04, the samples of trace 2"),
+            (good[: samples + 9], samples, "ends within a field", "tag 04, the samples of trace 2"),
+            (with_bytes(good, end + 6, b"\x09"), end, "the count of traces is 9, and 3 stand before it", "tag 05"),
+            (good[:-1], end, "ends within a field", "tag 05, the count of traces"),
+            (with_bytes(good, end + 2, b"\x05"), end, "length is 5, not 4", "tag 05, the count of traces"),
+            (good + b"xyz", end + 7, "3 bytes follow the record's end", f"place {end + 7}"),
+        ):
+            self.record_refused(record, 1, 12, place, f"place {place}", *parts)
+        for place, other, *parts in (
+            (place_of_card(0), b"\0", "a card byte is 00", "card 1, column 1"),
+            (place_of_card(3199), b"\0", "a card byte is 00", "card 40, column 80"),
+            (place_of_binary(3217), b"\0\0", "interval is 0, not 1 to 32767", "field 3217, interval"),
+            (place_of_binary(3221), b"\xff\xff", "are -1, not 1 to 8000", "field 3221, samples"),
+            (place_of_binary(3225), b"\0\x01", "code is 1, where a record has 0", "field 3225, code"),
+            (place_of_field(3, 2, 115), b"\0\x03", "is 3, not the reel's 2", "trace 3, field 115, samples"),
+            (place_of_field(3, 2, 117), b"\0\x03", "is 3, not the reel's 2000", "trace 3, field 117, interval"),
+            (place_of_pair(2, 2, 2), pair_bytes(1, 6), "6 * 2^1, isn't canonical", "trace 2, sample 2"),
+        ):
+            self.record_refused(with_bytes(good, place, other), 1, 13, place, f"place {place}: ", *parts)
+        unfit = with_bytes(good, place_of_pair(3, 2, 2), pair_bytes(-280, -3))
+        for code in (2, 3, 4):
+            self.record_refused(unfit, code, 14, place_of_pair(3, 2, 2), f"-3 * 2^-280, doesn't fit code {code}", "trace 3, sample 2")
+
+    def test_15_and_16(self):
+        for trace, byte_number, number, part in (
+            (7, 1, 15, "there is no trace 7: the reel has 6 traces"),
+            (2**64 - 1, 9999, 15, "there is no trace 18446744073709551615: the reel has 6 traces"),
+            (0, 3202, 16, "no assigned field of the binary header begins at byte number 3202"), (0, 1, 16, "byte number 1"),
+            (6, 3201, 16, "no assigned field of a trace header begins at byte number 3201"), (1, 116, 16, "byte number 116"),
+            (1, 0, 16, "byte number 0"), (1, 181, 16, "byte number 181"),
+        ):
+            self.assertEqual(reels.look_up(SAMPLE.read_bytes(), trace, byte_number)[:2], ("refused", number))
+            said = self.trouble(2, "look", SAMPLE, trace, byte_number)
+            self.assertIn(f": refused by {number}: ", said)
+            self.assertTrue(said.endswith(part), said)
+
+    def test_damaged_reels_and_records(self):
+        """Whatever was done to a file, the number and place are the rules', and the command ends with a sentence."""
+        rnd = random.Random(2024)
+        for i in range(150):
+            code, n, t = rnd.choice((1, 2, 3, 4)), rnd.randint(1, 4), rnd.randint(0, 3)
+            reel = bytearray(random_reel(rnd, code, n, t))
+            for _ in range(rnd.randint(0, 2)):
+                place = rnd.choice((rnd.randrange(len(reel)), rnd.randrange(3200, len(reel)), rnd.randrange(3216, 3226)))
+                reel[place] = rnd.randrange(256)
+            reel = bytes(reel)[: len(reel) - rnd.choice((0, 0, 0, 1, trace_size(code, n)))] + bytes(rnd.choice((0, 0, 0, 5)))
+            said, path = reels.read_reel(reel, 10**9)[0], self.file("reel", reel)
+            if said[0] == "taken":
+                self.assertEqual(self.fine("check", stdin=reel), "taken %d %d %d\n" % said[1:4])
+                self.fine("verify", path)
+                record = reels.record_of(reel)
+            else:
+                self.trouble(2, "check", stdin=reel, stdout="refused %d %d\n" % said[1:])
+                record = reels.record_of(random_reel(rnd, code, n, t))
+            self.trouble_or_fine(path)
+            damaged = bytearray(record)
+            for _ in range(rnd.randint(1, 2)):
+                place = rnd.choice((rnd.randrange(len(record)), rnd.randrange(3200, len(record)), rnd.randrange(min(len(record), 3300))))
+                damaged[place] = rnd.choice((0, 3, 4, 5, rnd.randrange(256)))
+            damaged = bytes(damaged)[: rnd.choice((len(record), len(record), rnd.randrange(len(record))))]
+            path, output, target = self.file("record", damaged), self.folder / "output", rnd.choice((1, 2, 3, 4))
+            said = records.write_reel(damaged, target, 10**9)
+            if said[0] == "taken":
+                self.fine("write", path, target, output, "--force")
+                self.assertEqual(output.read_bytes(), records.reel_of(damaged, target))
+            else:
+                sentence = self.trouble(2, "write", path, target, output, "--force")
+                self.assertIn(f": refused by {said[1]}: ", sentence)
+                self.assertIn(f"place {said[2]}", sentence)
+            self.trouble_or_fine(path)
+
+    def trouble_or_fine(self, path):
+        run = self.run_command("info", path)
+        self.assertEqual((run.returncode, run.stderr != b""), (2, True) if run.stderr else (0, False))
+
+
+class Codes(Case):
+    def test_verify_says_which_codes_hold_it(self):
+        rnd = random.Random(7)
+        small = make_reel(1000, 2, 1, [make_trace([bytes.fromhex("41100000"), bytes.fromhex("C2FF0000")])])
+        wide = make_reel(1000, 1, 2, [make_trace([whole32(40_000)])])
+        edge = make_reel(1000, 1, 2, [make_trace([whole32(-(2**31))])])
+        odd = make_reel(1000, 1, 2, [make_trace([whole32(2**31 - 1)])])
+        tiny = make_reel(1000, 1, 1, [make_trace([bytes.fromhex("00000001")])])
+        short = make_reel(1000, 2, 3, [make_trace([whole16(-32768), whole16(32767)])])
+        empty = make_reel(1000, 8000, 4)
+        for reel, codes in (
+            (small, "1 2 3 4"), (wide, "1 2"), (edge, "1 2"), (odd, "2"), (tiny, "1"), (short, "1 2 3 4"), (empty, "1 2 3 4"),
+        ):
+            said = self.fine("verify", self.file("reel", reel))
+            self.assertTrue(said.endswith(f"codes that hold it: {codes}\n"), (said, codes))
+        for code in (1, 2, 3, 4):
+            reel = random_reel(rnd, code, 5, 4)
+            record = reels.record_of(reel)
+            holding = [c for c in (1, 2, 3, 4) if records.write_reel(record, c, 10**9)[0] == "taken"]
+            self.assertIn(code, holding)
+            said = self.fine("verify", self.file("reel", reel))
+            self.assertTrue(said.endswith("codes that hold it: " + " ".join(map(str, holding)) + "\n"), (said, holding))
+
+
+class Info(Case):
+    def test_every_card_byte(self):
+        """The cards as Python's table of code page 037 has them, a dot for a control character, a blank for 00."""
+        rows = [bytes(range(i, i + 80)) for i in (0, 80, 160)] + [bytes(range(176, 256))]
+        cards = b"".join(rows) + b"\x40" * (3200 - 320)
+        lines = self.fine("info", self.file("reel", make_reel(1, 1, 1, cards=cards)), "--cards", 4).split("\n")[-5:-1]
+        for row, line in zip(rows, lines):
+            text = "".join("." if ord(c) < 0x20 or 0x7F <= ord(c) < 0xA0 else c for c in row.replace(b"\0", b"\x40").decode("cp037"))
+            self.assertEqual(line, "  " + text.rstrip(" "))
+
+    def test_which_kind(self):
+        """Tag 01 makes a record, unless it is refused as one and taken as a reel."""
+        first = bytes.fromhex("010c80")
+        reel = make_reel(1, 1, 1, cards=first + b"\x40" * 3197)
+        self.assertIn("kind      reel\n", self.fine("info", self.file("reel", reel)))
+        run = self.run_command("info", self.file("reel", reel + b"x"))
+        self.assertIn(b"kind      record, refused", run.stdout)
+        self.assertIn(b"refused by 13: a card byte is 00", run.stderr)
+        run = self.run_command("info", self.file("reel", first))
+        self.assertEqual(run.returncode, 2)
+        self.assertIn(b"refused by 12: the record ends within a field (place 0: tag 01, the cards)", run.stderr)
+
+    def test_what_is_no_reel(self):
+        text = self.file("text", b"These are no seismic data.\n")
+        run = self.run_command("info", text)
+        self.assertEqual(run.returncode, 2)
+        self.assertEqual(run.stdout.decode(), f"file      {text}, 27 bytes\nkind      neither a record nor as long as a reel\n")
+        self.assertIn(b"refused by 1: it has 27 bytes", run.stderr)
+        cut = self.file("cut", SAMPLE.read_bytes()[:9000])
+        run = self.run_command("info", cut)
+        self.assertEqual(run.returncode, 2)
+        self.assertIn(b"traces    4\nsamples   240 a trace\ninterval  2000 microseconds\ncode      1, IBM", run.stdout)
+        self.assertIn(b"  C 1 CLIENT", run.stdout)
+        self.assertIn(b"refused by 5: 600 bytes follow", run.stderr)
+
+
+class Files(Case):
+    def test_missing_and_folder(self):
+        missing, output = self.folder / "missing.sgy", self.folder / "output"
+        for name, part in ((missing, "missing.sgy: can't be opened: No such file"), (ROOM, f"{ROOM}: is a folder, not a file")):
+            for words in (("read", name, output), ("write", name, 1, output), ("look", name, 0, 3225), ("info", name), ("verify", name)):
+                self.assertIn(part, self.trouble(1, *words))
+        self.assertIn("is a folder", self.trouble(1, "read", SAMPLE, self.folder))
+        self.assertIn("is a folder", self.trouble(1, "read", SAMPLE, self.folder, "--force"))
+        self.assertIn("its folder isn't there", self.trouble(1, "read", SAMPLE, self.folder / "no" / "record"))
+        self.assertIn("names no file", self.trouble(1, "read", SAMPLE, self.folder / ".." / ".."))
+        self.trouble(1, "read", SAMPLE, "")
+        self.trouble(1, "read", "", output)
+        self.trouble(1, "read", SAMPLE, str(output) + "/")
+        folder = os.open(self.folder, os.O_RDONLY)
+        run = subprocess.run([str(COMMAND), "check"], stdin=folder, capture_output=True, timeout=SECONDS)
+        os.close(folder)
+        self.assertEqual((run.returncode, run.stdout), (1, b""))
+        self.assertIn(b"standard input: can't be read: Is a directory", run.stderr)
+        self.assertEqual(self.names(), [])
+
+    def test_unreadable_and_unwritable(self):
+        reel = self.file("sample.sgy", SAMPLE.read_bytes())
+        other = {"user": 65534, "group": 65534, "extra_groups": []} if os.getuid() == 0 else {}
+        reel.chmod(0o000)
+        self.assertIn("can't be opened: Permission denied", self.trouble(1, "read", reel, self.folder / "output", **other))
+        reel.chmod(0o644)
+        self.folder.chmod(0o555)
+        said = self.trouble(1, "read", reel, self.folder / "output", **other)
+        self.folder.chmod(0o777)
+        self.assertIn("output: can't be written: Permission denied", said)
+        self.assertEqual(self.names(), ["sample.sgy"])
+        self.fine("read", reel, self.folder / "output", **other)
+
+    def test_an_existing_file_is_kept(self):
+        record = reels.record_of(SAMPLE.read_bytes())
+        output = self.file("output", b"old")
+        self.assertIn("is there already and is kept; --force replaces it", self.trouble(1, "read", SAMPLE, output))
+        self.assertEqual(output.read_bytes(), b"old")
+        output.chmod(0o640)
+        self.fine("read", SAMPLE, output, "--force")
+        self.assertEqual(output.read_bytes(), record)
+        self.assertEqual(stat.S_IMODE(output.stat().st_mode), 0o640)
+        self.assertIn("is there already", self.trouble(1, "write", output, 1, self.file("reel", b"old")))
+        self.fine("write", "--force", output, 1, self.folder / "reel")
+        self.assertEqual((self.folder / "reel").read_bytes(), records.reel_of(record, 1))
+        # A refusal and a failure keep it too, and --force makes a file that isn't there.
+        bad = self.file("bad.sgy", SAMPLE.read_bytes()[:-1])
+        self.trouble(2, "read", bad, output, "--force")
+        self.assertEqual(output.read_bytes(), record)
+        self.fine("read", SAMPLE, self.folder / "new", "--force")
+        self.assertEqual(self.names(), ["bad.sgy", "new", "output", "reel"])
+
+    def test_the_input_is_never_replaced(self):
+        reel = self.file("sample.sgy", SAMPLE.read_bytes())
+        os.link(reel, self.folder / "second")
+        (self.folder / "link").symlink_to(reel)
+        for name in ("sample.sgy", "second", "link"):
+            self.assertIn("is there already", self.trouble(1, "read", reel, self.folder / name))
+            self.assertIn("is the input, which is never replaced", self.trouble(1, "read", reel, self.folder / name, "--force"))
+        self.assertEqual(reel.read_bytes(), SAMPLE.read_bytes())
+
+    def test_links_and_special_files(self):
+        target = self.file("target", b"old")
+        (self.folder / "link").symlink_to("target")
+        (self.folder / "nowhere").symlink_to("missing")
+        os.mkfifo(self.folder / "pipe")
+        self.assertIn("is there already", self.trouble(1, "read", SAMPLE, self.folder / "nowhere"))
+        self.trouble(1, "read", SAMPLE, self.folder / "nowhere", "--force")
+        self.assertIn("is no regular file", self.trouble(1, "read", SAMPLE, self.folder / "pipe", "--force"))
+        self.assertIn("is no regular file", self.trouble(1, "read", SAMPLE, "/dev/null", "--force"))
+        self.fine("read", SAMPLE, self.folder / "link", "--force")
+        self.assertTrue((self.folder / "link").is_symlink())
+        self.assertEqual(target.read_bytes(), reels.record_of(SAMPLE.read_bytes()))
+        self.assertEqual(self.names(), ["link", "nowhere", "pipe", "target"])
+
+    def test_a_file_that_another_makes_meanwhile(self):
+        """The command looks at the output, waits for a reel from a pipe, and then finds the name taken."""
+        os.mkfifo(self.folder / "pipe")
+        output = self.folder / "output"
+        feeder = threading.Thread(target=lambda: (
+            (file := open(self.folder / "pipe", "wb")), output.write_bytes(b"another's"), file.write(SAMPLE.read_bytes()), file.close()))
+        feeder.start()
+        said = self.trouble(1, "read", self.folder / "pipe", output)
+        feeder.join()
+        self.assertIn("was made by another meanwhile, and is kept", said)
+        self.assertEqual(output.read_bytes(), b"another's")
+        self.assertEqual(self.names(), ["output", "pipe"])
+
+    def test_a_full_disk(self):
+        for most in (0, 1, 13028):
+            said = self.trouble(1, "read", SAMPLE, self.folder / "output", preexec_fn=limited(resource.RLIMIT_FSIZE, most))
+            self.assertIn("output: can't be written: File too large", said)
+            self.assertEqual(self.names(), [])
+        output = self.file("output", b"old")
+        self.trouble(1, "read", SAMPLE, output, "--force", preexec_fn=limited(resource.RLIMIT_FSIZE, 4000))
+        self.assertEqual((self.names(), output.read_bytes()), (["output"], b"old"))
+        self.fine("read", SAMPLE, output, "--force", preexec_fn=limited(resource.RLIMIT_FSIZE, 13029))
+        self.assertEqual(self.names(), ["output"])
+
+    def test_standard_output_that_fails(self):
+        with open("/dev/full", "wb") as full:
+            run = self.run_command("check", stdin=example(), stdout=full)
+        self.assertEqual(run.returncode, 1)
+        self.assertIn(b"standard output: can't be written", run.stderr)
+        ours, theirs = os.pipe()
+        os.close(ours)
+        run = self.run_command("look", "--help", stdout=theirs)
+        os.close(theirs)
+        self.assertEqual((run.returncode, run.stderr), (1, b""))
+
+    def test_names_that_are_no_text(self):
+        strange = os.fsencode(self.folder) + b"/\xff\xfe.sgy"
+        shutil.copy(SAMPLE, strange)
+        run = subprocess.run([str(COMMAND).encode(), b"read", strange, strange + b".record"], capture_output=True, timeout=SECONDS)
+        self.assertEqual((run.returncode, run.stderr), (0, b""))
+        with open(strange + b".record", "rb") as file:
+            self.assertEqual(file.read(), reels.record_of(SAMPLE.read_bytes()))
+
+
+class Large(Case):
+    """A reel of 32 MB, whose work is long enough to be shown, killed and refused for want of memory."""
+
+    N, T = 8000, 1000
+
+    @classmethod
+    def setUpClass(cls):
+        cls.reel = Path(ROOM) / "large.sgy"
+        trace = make_trace([bytes.fromhex("41100000")] * cls.N)
+        cls.reel.write_bytes(make_reel(2000, cls.N, 1) + trace * cls.T)
+        cls.length = reels.record_length(cls.T, cls.N)
+
+    @classmethod
+    def tearDownClass(cls):
+        cls.reel.unlink()
+
+    def terminal(self, *words, **named):
+        """What the command says on a terminal that is its standard error."""
+        ours, theirs = pty.openpty()
+        run = self.run_command(*words, stderr=theirs, **named)
+        os.close(theirs)
+        said = b""
+        try:
+            while piece := os.read(ours, 65536):
+                said += piece
+        except OSError:  # the end, as a terminal tells it
+            pass
+        os.close(ours)
+        self.assertEqual(run.returncode, 0, said)
+        return said.decode().replace("\r\n", "\n")
+
+    def test_steps_on_a_terminal(self):
+        output = self.folder / "output"
+        said = self.terminal("read", self.reel, output)
+        self.assertEqual(said, "".join(f"aukpocket: {what}\n" for what in (
+            f"loading {self.reel}, 32 MB", f"making the record of {self.reel}, 48 MB", f"writing {output}, 48 MB")))
+        self.assertEqual(output.stat().st_size, self.length)
+        self.assertIn("aukpocket: reading the reel in code 3 again, 16 MB\n", self.terminal("verify", self.reel))
+        self.assertEqual(self.terminal("read", SAMPLE, self.folder / "small"), "")
+        self.fine("read", self.reel, output, "--force")
+        with open(self.reel, "rb") as file:
+            self.assertEqual(self.fine("check", stdin=file), f"taken {self.T} {self.N} {self.length}\n")
+
+    def killed(self, output, *words):
+        """Runs it and kills it as soon as a temporary file is seen. The temporary file's size by then, or None where it got away."""
+        run = subprocess.Popen([str(COMMAND), "read", str(self.reel), str(output), *words], stdout=subprocess.DEVNULL)
+        size = None
+        while run.poll() is None and size is None:
+            for path in self.folder.glob("*.partial"):
+                run.kill()
+                run.wait()
+                size = path.stat().st_size if path.exists() else None
+        run.wait()
+        for path in self.folder.glob("*.partial"):
+            path.unlink()
+        return size
+
+    def test_killed_while_it_writes(self):
+        output = self.folder / "output"
+        halves = 0
+        for _ in range(8):
+            size = self.killed(output)
+            if output.exists():
+                self.assertEqual(output.stat().st_size, self.length)
+                output.unlink()
+            elif size is not None and size < self.length:
+                halves += 1
+        self.assertGreater(halves, 0, "no run was killed while it wrote")
+        halves = 0
+        for _ in range(8):
+            output.write_bytes(b"old")
+            size = self.killed(output, "--force")
+            if output.stat().st_size == 3:
+                self.assertEqual(output.read_bytes(), b"old")
+                halves += size is not None and size < self.length
+            else:
+                self.assertEqual(output.stat().st_size, self.length)
+        self.assertGreater(halves, 0, "no run was killed while it wrote")
+
+    def test_killed_at_any_time(self):
+        output = self.folder / "output"
+        for i in range(12):
+            run = subprocess.Popen([str(COMMAND), "read", str(self.reel), str(output)], stdout=subprocess.DEVNULL)
+            time.sleep(0.01 * i)
+            run.kill()
+            run.wait()
+            if output.exists():
+                self.assertEqual(output.stat().st_size, self.length)
+                output.unlink()
+
+    def test_too_large_for_memory(self):
+        limit = limited(resource.RLIMIT_AS, 60 * MEGABYTE)
+        output = self.folder / "output"
+        said = self.trouble(1, "read", self.reel, output, preexec_fn=limit)
+        self.assertIn("its record: too large for the memory that this run may have: 48 MB are needed", said)
+        limit = limited(resource.RLIMIT_AS, 20 * MEGABYTE)
+        said = self.trouble(1, "info", self.reel, preexec_fn=limit)
+        self.assertIn("large.sgy: too large for the memory that this run may have: 32 MB are needed", said)
+        with open(self.reel, "rb") as file:
+            said = self.trouble(1, "check", stdin=file, preexec_fn=limit)
+        self.assertIn("standard input: too large for the memory", said)
+        huge = self.file("huge.sgy", SAMPLE.read_bytes())
+        try:
+            os.truncate(huge, 10**12)
+        except OSError:
+            return  # the file system has no files of that size
+        for words in (("read", huge, output), ("info", huge), ("verify", huge)):
+            said = self.trouble(1, *words)
+            self.assertIn("huge.sgy: too large for this machine's memory: 1000 GB are needed, and ", said)
+        self.assertEqual(self.names(), ["huge.sgy"])
+
+
+class Built(Case):
+    def built(self, *words, **named):
+        run = subprocess.run(list(map(str, words)), capture_output=True, text=True, timeout=SECONDS, **named)
+        self.assertEqual((run.returncode, run.stdout + run.stderr), (0, ""), words)
+
+
+# A library that calls the proved one and is wrong in one way.
+WRONG_LIBRARY = r"""
+#include "aukpocket.h"
+#include <stdlib.h>
+#include <string.h>
+struct aukpocket_reel_answer proved_read_reel(const uint8_t *, size_t, uint8_t *, size_t);
+struct aukpocket_reel_answer proved_write_reel(const uint8_t *, size_t, uint32_t, uint8_t *, size_t);
+static int wrong(const char *way) { return getenv("WRONG") != NULL && strcmp(getenv("WRONG"), way) == 0; }
+static int reads;
+struct aukpocket_reel_answer aukpocket_read_reel(const uint8_t *reel, size_t reel_length, uint8_t *record, size_t record_length)
+{
+    struct aukpocket_reel_answer answer = proved_read_reel(reel, reel_length, record, record_length);
+    reads += 1;
+    if (wrong("byte") && reads == 2)
+        record[answer.length - 8] ^= 0x02;
+    if (wrong("count") && reads == 3)
+        answer.traces += 1;
+    if (wrong("length"))
+        answer.length += 1;
+    return answer;
+}
+struct aukpocket_reel_answer aukpocket_write_reel(const uint8_t *record, size_t record_length, uint32_t code, uint8_t *reel, size_t length)
+{
+    struct aukpocket_reel_answer unfit = {14, 0, 0, 0, 3452}, invalid = {13, 0, 0, 0, 3};
+    if (wrong("own") && code == 1)
+        return unfit;
+    if (wrong("valid") && code == 4)
+        return invalid;
+    return proved_write_reel(record, record_length, code, reel, length);
+}
+"""
+
+
+class Wrong(Built):
+    """The command over a library that is wrong, or missing."""
+
+    def test_verify_finds_a_difference(self):
+        library, command = self.folder / "libaukpocket.a", self.folder / "command"
+        names = [f"--redefine-sym=aukpocket_{call}=proved_{call}" for call in ("read_reel", "write_reel")]
+        self.built("objcopy", *names, ARCHIVE, library)
+        wrong = self.file("wrong.c", WRONG_LIBRARY.encode())
+        self.built("cc", "-I", TOP / "include", "-c", wrong, "-o", self.folder / "wrong.o")
+        self.built("ar", "r", library, self.folder / "wrong.o")
+        rustc = ["rustc", "--edition", "2021", "--out-dir", self.folder]
+        self.built(*rustc, "--crate-type", "rlib", "--crate-name", "aukpocket", TOP / "cli/src/library.rs",
+                   "-L", f"native={self.folder}", "-l", "static=aukpocket")
+        self.built(*rustc, "--crate-name", "command", TOP / "cli/src/main.rs", "--extern", f"aukpocket={self.folder}/libaukpocket.rlib",
+                   env={**os.environ, "CARGO_PKG_VERSION": "0.0.0"})
+        for way, code, part in (
+            ("none", None, ""), ("byte", 1, "the records differ from place 13021 on"), ("count", 4, "the counts of the record differ"),
+            ("own", 1, "refused by 14: "), ("valid", 4, "refused by 13: a card byte is 00"),
+        ):
+            run = subprocess.run([command, "verify", SAMPLE], capture_output=True, text=True, env={"WRONG": way}, timeout=SECONDS)
+            if code is None:
+                self.assertEqual((run.returncode, run.stderr), (0, ""))
+                continue
+            self.assertEqual(run.returncode, 3, run)
+            self.assertIn(f"code {code}: DIFFERENT; {part}", run.stdout)
+            self.assertEqual(run.stderr, f"aukpocket: {SAMPLE}: came back otherwise in code {code}; keep the tape, and report this\n")
+        # A length beyond the output is never believed.
+        run = subprocess.run([command, "read", SAMPLE, self.folder / "none"], capture_output=True, text=True, env={"WRONG": "length"})
+        self.assertNotIn(run.returncode, (0, 2))
+        self.assertIn("the library tells of 13030 bytes in an output of 13029", run.stderr)
+        self.assertFalse((self.folder / "none").exists())
+
+    def test_a_missing_library(self):
+        shutil.copytree(TOP / "cli", self.folder / "cli", ignore=shutil.ignore_patterns("target"))
+        run = subprocess.run(
+            ["cargo", "build", "--offline"], cwd=self.folder / "cli", capture_output=True, text=True, timeout=SECONDS,
+            env={**os.environ, "CARGO_TARGET_DIR": str(self.folder / "built")})
+        self.assertNotEqual(run.returncode, 0)
+        self.assertIn("is missing: run `rt staticlib aukpocket` in the repository's root, which makes it.", run.stderr)
+
+
+class Examples(Built):
+    """The examples as their own comments say to build and run them."""
+
+    def example(self, *words):
+        run = subprocess.run(list(map(str, words)), capture_output=True, text=True, timeout=SECONDS)
+        return run.returncode, run.stdout
+
+    def both(self, *program):
+        record = self.folder / "record"
+        self.assertEqual(self.example(*program, SAMPLE, record), (0, "taken 6 240 13029\n"))
+        self.assertEqual(record.read_bytes(), reels.record_of(SAMPLE.read_bytes()))
+        self.assertEqual(self.example(*program, SAMPLE, record), (1, ""))  # it is there already
+        for reel, said in ((b"", "refused 1 0\n"), (example()[:-1], "refused 5 3600\n")):
+            self.assertEqual(self.example(*program, self.file("bad", reel), self.folder / "none"), (2, said))
+        self.assertFalse((self.folder / "none").exists())
+        self.assertEqual(self.example(*program, self.folder / "missing", self.folder / "none")[0], 1)
+        self.assertEqual(self.example(*program)[0], 1)
+
+    def test_c(self):
+        program = self.folder / "read_reel"
+        self.built("cc", "-Wall", "-Wextra", "-Werror", "-I", TOP / "include", TOP / "examples/c/read_reel.c", ARCHIVE, "-o", program)
+        self.both(program)
+
+    def test_python(self):
+        library = self.folder / "libaukpocket.so"
+        self.built("cc", "-shared", "-o", library, "-Wl,--whole-archive", ARCHIVE, "-Wl,--no-whole-archive")
+        self.both(sys.executable, TOP / "examples/python/read_reel.py", library)
+
+    def test_the_header(self):
+        """The sizes that cli/src/library.rs and the examples count on, in C and in C++."""
+        sizes = (("reel", "length", 40, 24), ("field", "value", 16, 4), ("sample", "beside", 16, 8))
+        source = '#include "aukpocket.h"\n' + "".join(
+            f"typedef char {kind}_size[sizeof(struct aukpocket_{kind}_answer) == {size} ? 1 : -1];\n"
+            f"typedef char {kind}_place[offsetof(struct aukpocket_{kind}_answer, {member}) == {place} ? 1 : -1];\n"
+            for kind, member, size, place in sizes)
+        source += "int main(void) { unsigned char none[1]; return aukpocket_read_reel(none, 0, none, 0).number == 1 ? 0 : 1; }\n"
+        for compiler, name in (("cc", "sizes.c"), ("c++", "sizes.cpp")):
+            if compiler == "c++" and shutil.which(compiler) is None:
+                continue
+            program = self.folder / "sizes"
+            self.built(compiler, "-I", TOP / "include", self.file(name, source.encode()), ARCHIVE, "-o", program)
+            self.assertEqual(self.example(program), (0, ""))
+
+
+def main():
+    global COMMAND, ROOM
+    if len(sys.argv) != 2 or not Path(sys.argv[1]).is_file():
+        sys.exit("usage: command.py PATH_OF_COMMAND")
+    begun = time.monotonic()
+    with tempfile.TemporaryDirectory() as room:
+        ROOM = room
+        os.chmod(room, 0o755)
+        COMMAND = Path(room) / "aukpocket"
+        shutil.copy(sys.argv[1], COMMAND)
+        COMMAND.chmod(0o755)
+        suite = unittest.defaultTestLoader.loadTestsFromModule(sys.modules[__name__])
+        with open(os.devnull, "w") as nowhere:
+            result = unittest.TextTestRunner(stream=nowhere).run(suite)
+    for test, report in result.failures + result.errors:
+        print(f"command: {test.id()}\n{report}")
+    failed = len(result.failures) + len(result.errors)
+    print(f"command: {result.testsRun - failed} tests passed, {failed} failed, {time.monotonic() - begun:.0f} s")
+    sys.exit(1 if failed else 0)
+
+
+if __name__ == "__main__":
+    main()
