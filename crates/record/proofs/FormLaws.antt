@@ -112,19 +112,27 @@ trace-form s n i at =
     ap (λ (x : ℕ). then (headerCauses s n i at) (then (fieldCause s 4 (pairLength * n) (at + 183)) (firstOf (walk (pairCause s) pairLength n x)))) e
     ∙ sym (then-assoc (headerCauses s n i at) (fieldCause s 4 (pairLength * n) (at + 183)) (firstOf (walk (pairCause s) pairLength n (at + 186))))
 
--- a trace's causes, one after the other
+-- a header's causes one after the other, before any other check
+header-then : (s : List ℕ) (n i at : ℕ) (d : Check)
+    → then (headerCauses s n i at) d
+    ≡ then (fieldCause s 3 180 at)
+    (then (refuseIf (not (eqb (word s (at + 117)) n)) 13 (at + 117))
+    (then (refuseIf (not (eqb (word s (at + 119)) i)) 13 (at + 119)) d))
+unfolding headerCauses
+header-then s n i at d =
+    let a = fieldCause s 3 180 at in
+    let b = refuseIf (not (eqb (word s (at + 117)) n)) 13 (at + 117) in
+    let c = refuseIf (not (eqb (word s (at + 119)) i)) 13 (at + 119) in
+    then-assoc a (then b c) d ∙ ap (then a) (then-assoc b c d)
+
+-- so a trace's causes,
 pub trace-parts : (s : List ℕ) (n i at : ℕ)
     → traceForm s n i at
     ≡ then (fieldCause s 3 180 at)
     (then (refuseIf (not (eqb (word s (at + 117)) n)) 13 (at + 117))
     (then (refuseIf (not (eqb (word s (at + 119)) i)) 13 (at + 119)) (samplesCauses s n (at + 183))))
-unfolding traceForm headerCauses
-trace-parts s n i at =
-    let a = fieldCause s 3 180 at in
-    let b = refuseIf (not (eqb (word s (at + 117)) n)) 13 (at + 117) in
-    let c = refuseIf (not (eqb (word s (at + 119)) i)) 13 (at + 119) in
-    let d = samplesCauses s n (at + 183) in
-    then-assoc a (then b c) d ∙ ap (then a) (then-assoc b c d)
+unfolding traceForm
+trace-parts s n i at = header-then s n i at (samplesCauses s n (at + 183))
 
 -- and those of its fields alone
 pub head-form : (s : List ℕ) (n i at : ℕ)
@@ -132,13 +140,8 @@ pub head-form : (s : List ℕ) (n i at : ℕ)
     ≡ then (fieldCause s 3 180 at)
     (then (refuseIf (not (eqb (word s (at + 117)) n)) 13 (at + 117))
     (then (refuseIf (not (eqb (word s (at + 119)) i)) 13 (at + 119)) (fieldCause s 4 (pairLength * n) (at + 183))))
-unfolding headForm headerCauses
-head-form s n i at =
-    let a = fieldCause s 3 180 at in
-    let b = refuseIf (not (eqb (word s (at + 117)) n)) 13 (at + 117) in
-    let c = refuseIf (not (eqb (word s (at + 119)) i)) 13 (at + 119) in
-    let d = fieldCause s 4 (pairLength * n) (at + 183) in
-    then-assoc a (then b c) d ∙ ap (then a) (then-assoc b c d)
+unfolding headForm
+head-form s n i at = header-then s n i at (fieldCause s 4 (pairLength * n) (at + 183))
 
 -- a trace whose fields stand whole ends within the record
 pub head-room : (s : List ℕ) (n i at : ℕ) → headForm s n i at ≡ Fine → at + (186 + n * 6) ≤ length s

@@ -40,14 +40,18 @@ no-gain s code h w (suc k) at = rw (ne-eqb code 4 h) (no-gain s code h w k (at +
 
 -- ## Codes
 
--- the code that is left
-pub last-code : (code : ℕ) → isCode code ≡ true → (code ≡ 1 → ⊥) → (code ≡ 2 → ⊥) → (code ≡ 3 → ⊥) → code ≡ 4
-last-code code h a b c = go (leb 1 code) (leb code 4) refl refl h
+-- a code is from 1 to 4
+pub code-limits : (code : ℕ) → isCode code ≡ true → (1 ≤ code) × (code ≤ 4)
+code-limits code h = go (leb 1 code) (leb code 4) refl refl h
   where
-    go : (x y : Bool) → leb 1 code ≡ x → leb code 4 ≡ y → (x && y) ≡ true → code ≡ 4
-    go true true p q e = let l = leb-true 1 code p in let m = leb-true code 4 q in omega arith
+    go : (x y : Bool) → leb 1 code ≡ x → leb code 4 ≡ y → (x && y) ≡ true → (1 ≤ code) × (code ≤ 4)
+    go true true p q e = (leb-true 1 code p, leb-true code 4 q)
     go true false p q e = absurd (subst T (sym e) tt)
     go false y p q e = absurd (subst T (sym e) tt)
+
+-- the code that is left
+pub last-code : (code : ℕ) → isCode code ≡ true → (code ≡ 1 → ⊥) → (code ≡ 2 → ⊥) → (code ≡ 3 → ⊥) → code ≡ 4
+last-code code h a b c = omega (arith, code-limits code h)
 
 -- ## Where nothing is found
 

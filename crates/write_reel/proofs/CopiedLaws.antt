@@ -1,17 +1,15 @@
 -- The pieces of a reel as the code writes them: how long each is, and one more and none of its samples and traces. Assumes nothing.
-use mathlib.Core.Path.{_≡_, refl, sym, ap, _∙_, subst}
-use mathlib.Core.Bool.{Bool, true, false, _&&_}
+use mathlib.Core.Path.{_≡_, refl, ap, _∙_}
+use mathlib.Core.Bool.{Bool, true, false}
 use mathlib.Core.List.{List, [], _∷_, _++_, map}
 use Prim.Native.Nat.{ℕ, _+_, _-_, _*_, _≤_, _<_}
 use native.Mathlib.Omega.{arith}
-use borrow.Author.Tests.{leb-true}
 use borrow.Rule.Slice.PartMut.{putMid}
-use lib.Dec.{T, leb, eqb}
+use lib.Dec.{eqb}
 use lib.ListN.{length, take, replicate, length-append, length-replicate}
 use Rattle.numbers.specs.Walk.{pick, walk, flat, bytesAt}
 use Rattle.numbers.proofs.WalkLaws.{flat-length, flat-more, flat-none, size-bytes}
 use Rattle.numbers.proofs.Filling.{Filling, again, lend}
-use Rattle.sample.specs.Reading.{isCode}
 use Rattle.sample.specs.Calls.{pairLength}
 use Rattle.sample.specs.declared.Written.{Written}
 use Rattle.sample.specs.declared.Written.the-variants.{Word, Refused}
@@ -19,15 +17,6 @@ use Rattle.reel.specs.Layout.{sampleBytes, stride}
 use Rattle.record.specs.Form.{heldStride, tracesPlace}
 use Rattle.write_reel.specs.Reel.{wordContent}
 use Rattle.write_reel.specs.Copied.{zerosFor, wordBytes, writtenAt, samplesCopied, traceCopied, binaryCopied, reelCopied}
-
--- a code is at most 4
-pub most-code : (code : ℕ) → isCode code ≡ true → code ≤ 4
-most-code code h = go (leb 1 code) (leb code 4) refl h
-  where
-    go : (x y : Bool) → leb code 4 ≡ y → (x && y) ≡ true → code ≤ 4
-    go true true q e = leb-true code 4 q
-    go true false q e = absurd (subst T (sym e) tt)
-    go false y q e = absurd (subst T (sym e) tt)
 
 -- unassigned bytes in a slice of k bytes
 pub zeroed : (out : List ℕ) (k : ℕ) {ys : List ℕ} → ys ≡ zerosFor out → length out ≡ k → ys ≡ replicate k 0

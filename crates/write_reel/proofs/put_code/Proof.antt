@@ -1,5 +1,5 @@
 -- `write_reel::put_code` meets its contract. Assumes nothing.
-use Rattle.write_reel.proofs.CopiedLaws.{most-code}
+use Rattle.reel.proofs.CheckLaws.{code-limits}
 use Rattle.numbers.proofs.WalkLaws.{stored}
 use Rattle.numbers.specs.BigEndian.{bytesOf}
 use native.Mathlib.Omega.{arith}
@@ -8,7 +8,7 @@ use Rattle.write_reel.proofs.put_code.Statement.{statement}
 use Rattle.write_reel.proofs.put_code.Tie as tie
 
 cast-bytes16 : tie.Need-cast-bytes16
-cast-bytes16 c = omega (arith, most-code (c .before .args .code) (c .before .pre .0))
+cast-bytes16 c = omega (arith, code-limits (c .before .args .code) (c .before .pre .0))
 
 bytes16-requires : tie.Need-bytes16-requires
 bytes16-requires c κs = search needs
