@@ -6,4 +6,5 @@ pub mod Exact
 pub mod IbmLaws
 pub mod WholeLaws
 pub mod Apart
+pub mod PartsLaws
 pub mod Codes

@@ -3,7 +3,7 @@ use mathlib.Core.Path.{_≡_, refl, sym, ap, _∙_, subst}
 use mathlib.Core.Logic.{_⊎_, inl, inr, ⊎-elim}
 use mathlib.Core.Bool.{Bool, true, false}
 use Prim.Native.Nat.{ℕ, zero, suc, _+_, _-_, _*_, _/_, _%_, _^_, _≤_, _<_, min}
-use native.Mathlib.Nat.{le-trans, mul-le-mul-left, mul-le-mul-right, le-of-eq}
+use native.Mathlib.Nat.{le-trans, mul-le-mul-left, mul-le-mul-right, one-mul}
 use native.Mathlib.Omega.{arith}
 use borrow.Author.Tests.{lt-ltb, le-ltb}
 use lib.Pow.{pow-mono}
@@ -16,19 +16,12 @@ use Rattle.sample.specs.declared.Written.the-variants.{Word, Refused}
 use Rattle.sample.proofs.First.{first-at, first-none}
 use Rattle.sample.proofs.Exact.{holds-yes, holds-big, holds-odd, number-at}
 
--- a shift that is cut off at 32: where the result is below a limit of at most 2 ^ 32, nothing was cut off
-pub cut-small : (o t q n : ℕ) → o % 2 ≡ 1 → q ≡ o * 2 ^ min t 32 → q < n → n ≤ 2 ^ 32 → q ≡ o * 2 ^ t
-cut-small o t q n e h l b =
-    ⊎-elim (λ (p : t < 33). h ∙ ap (λ (x : ℕ). o * 2 ^ x) (omega arith)) (λ (p : 33 ≤ t). absurd (no p)) (below-or t 33)
+-- an odd number that is shifted up by 32 or more is beyond every limit of at most 2 ^ 32
+pub far-up : (o t n : ℕ) → o % 2 ≡ 1 → 32 ≤ t → n ≤ 2 ^ 32 → n ≤ o * 2 ^ t
+far-up o t n e h b = le-trans b (le-trans (pow-mono h) (rw one-mul at (mul-le-mul-right (2 ^ t) one)))
   where
-    no : 33 ≤ t → ⊥
-    no p =
-        let c : min t 32 ≡ 32 = omega arith in
-        let some : 1 ≤ o = omega arith in
-        omega (arith, h ∙ ap (λ (x : ℕ). o * 2 ^ x) c, mul-le-mul-right (2 ^ 32) some)
-
-pub cut-big : (o t q n : ℕ) → q ≡ o * 2 ^ min t 32 → n ≤ q → n ≤ o * 2 ^ t
-cut-big o t q n h l = le-trans l (le-trans (le-of-eq h) (mul-le-mul-left o (pow-mono (omega arith))))
+    one : 1 ≤ o
+    one = omega arith
 
 module _ (s : Bool) (o k : ℕ) (e : o % 2 ≡ 1) where
   module _ (w up : ℕ) where

@@ -29,13 +29,13 @@ pairLength = 2 + mantissaBits / 8
 abbrev pub pairBytes : ℤ → ℤ → List ℕ
 pairBytes e m = bytesOf 2 (bitsOf 16 e) ++ bytesOf (mantissaBits / 8) (bitsOf mantissaBits m)
 
+-- The pair of the bits of e and m, both in two's complement.
+abbrev pub pairOfBits : ℕ → ℕ → Pair
+pairOfBits e m = record { e = signedOf 16 e; m = signedOf mantissaBits m }
+
 -- The pair of six bytes.
 abbrev pub pairIn : List ℕ → Pair
-pairIn b =
-    record {
-      e = signedOf 16 (number (bytesAt b 0 2));
-      m = signedOf mantissaBits (number (bytesAt b 2 (mantissaBits / 8)));
-    }
+pairIn b = pairOfBits (number (bytesAt b 0 2)) (number (bytesAt b 2 (mantissaBits / 8)))
 
 -- Document 01's number and place for each case of the answer.
 abbrev pub saidBy : Answer → Said

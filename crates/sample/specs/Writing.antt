@@ -94,3 +94,8 @@ wordOf code v =
 -- A single pair is refused by 11, 13, 14.
 abbrev pub writePair : ℕ → Pair → Written
 writePair code p = pick (isCode code) (pick (isCanonical p) (wordOf code (valueOf p)) (Refused 13)) (Refused 11)
+
+-- The bits of a word, 0 where there is none.
+abbrev pub wordBits : Written → ℕ
+wordBits (Word n) = n
+wordBits (Refused number) = 0

@@ -6,12 +6,12 @@ ghost use lib.IntN.{natAbs, subℕ};
 ghost use Rattle.numbers.specs.Walk.{pick};
 ghost use Rattle.numbers.specs.Outcome.{refused};
 ghost use Rattle.numbers.specs.TwosComplement.{signedOf, bitsOf};
-ghost use Rattle.sample.specs.Value.{denominatorPower, signMagnitude, fraction, ibmValue, wholeValue};
+ghost use Rattle.sample.specs.Value.{denominatorPower, signMagnitude, fraction, ibmValue, wholeValue, gainValue};
 ghost use Rattle.sample.specs.Pair.{highestExponent, isCanonical};
 ghost use Rattle.sample.specs.Reading.{pairTaken, readWord};
-ghost use Rattle.sample.specs.Writing.{ibmWord, wholeWord, gainWord, writePair};
-ghost use Rattle.sample.specs.Calls.{pairBytes, pairIn, saidBy, wordRead, pairWritten, readOutcome, writeOutcome};
-ghost use Rattle.sample.specs.Parts.{PartsOf, WholeBelow};
+ghost use Rattle.sample.specs.Writing.{ibmWord, wholeWord, gainWord, writePair, wordBits};
+ghost use Rattle.sample.specs.Calls.{pairBytes, pairOfBits, pairIn, saidBy, wordRead, pairWritten, readOutcome, writeOutcome};
+ghost use Rattle.sample.specs.Parts.{PartsOf, WholeBelow, LeastCharacteristic};
 use numbers::Place;
 
 // A sample as exponent and mantissa: the value m × 2^e.
@@ -159,19 +159,25 @@ pub fn whole16(n: u16) -> Sample
     canonical(0x8000 <= n, magnitude16(n) as u32, DENOMINATOR_POWER)
 }
 
-// Code 4: the pair of d / 2^g, by the word's bytes: 00, the gain g, and the two of d.
+// Code 4: the pair of d / 2^g, by the gain g and the 16 bits of d.
+pub fn gain_number(g: u8, d: u16) -> Sample
+    ensures { λ r. ⌜ r ≡ pairTaken (gainValue g (signedOf 16 d)) ⌝ }
+{
+    canonical(
+        0x8000 <= d,
+        magnitude16(d) as u32,
+        DENOMINATOR_POWER - g as u32,
+    )
+}
+
+// The same by the word's bytes: 00, the gain g, and the two of d.
 pub fn gain(first: u8, g: u8, high: u8, low: u8) -> Sample
     ensures { λ r. ⌜ r ≡ readWord 4 (first ∷ g ∷ high ∷ low ∷ []) ⌝ }
 {
     if first != 0 {
         return Sample::Refused { number: BAD_GAIN };
     }
-    let d = numbers::be16(high, low);
-    canonical(
-        0x8000 <= d,
-        magnitude16(d) as u32,
-        DENOMINATOR_POWER - g as u32,
-    )
+    gain_number(g, numbers::be16(high, low))
 }
 
 // The canonical pair of a word under a code.
@@ -236,14 +242,6 @@ fn sign_bit(neg: bool) -> u32
     if neg { 0x8000_0000 } else { 0 }
 }
 
-// By how many hexadecimal digits a fraction of 24 bits is moved up so that its first digit isn't 0.
-fn digits(f: u32) -> u32
-    requires { ⌜ (0 < f) × (f < 2 ^ 24) ⌝ }
-    ensures { λ r. ⌜ (r < 6) × (2 ^ 20 ≤ f * 2 ^ (r * 4)) × (f * 2 ^ (r * 4) < 2 ^ 24) ⌝ }
-{
-    (u32::leading_zeros(f) - 8) / 4
-}
-
 // Shifts up that lose nothing.
 fn shifted_wide(a: u32, s: u32) -> u64
     requires { ⌜ s ≤ 32 ⌝ }
@@ -259,20 +257,32 @@ fn shifted_up(a: u32, s: u32) -> u32
     a << s
 }
 
-// The normal word of V = ± o × 2^k, for an odd o. First the largest C that leaves F whole, where F
-// is least; then F goes up and C down, digit by digit, until F's first digit isn't 0 or C is 0.
+// The least characteristic at which the fraction of o × 2^k is below 2^24: there its first hexadecimal digit isn't 0, unless the
+// characteristic is 0.
+fn characteristic_of(o: u32, k: u32) -> u32
+    requires { ⌜ (0 < o) × (k ≤ denominatorPower + highestExponent) ⌝ }
+    ensures { λ r. ⌜ LeastCharacteristic (o * 2 ^ k) r × (r ≤ 2 ^ 8) ⌝ }
+{
+    let highest = 31 - u32::leading_zeros(o) + k;
+    if highest < 20 {
+        return 0;
+    }
+    (highest - 20) / 4
+}
+
+// The normal word of V = ± o × 2^k, for an odd o: where the least characteristic doesn't leave the fraction whole, no larger one does.
 fn ibm_of(neg: bool, o: u32, k: u32) -> Written
     requires { ⌜ (o % 2 ≡ 1) × (k ≤ denominatorPower + highestExponent) ⌝ }
     ensures { λ r. ⌜ r ≡ ibmWord (signMagnitude neg (o * 2 ^ k)) ⌝ }
 {
-    let top = lesser(k / 4, 127);
-    let wide = shifted_wide(o, k - top * 4);
-    if 0x100_0000 <= wide {
+    let c = characteristic_of(o, k);
+    if 127 < c {
         return Written::Refused { number: UNFIT };
     }
-    let f = wide as u32;
-    let d = lesser(digits(f), top);
-    let bits = sign_bit(neg) + (top - d) * 0x100_0000 + shifted_up(f, d * 4);
+    if k < c * 4 {
+        return Written::Refused { number: UNFIT };
+    }
+    let bits = sign_bit(neg) + c * 0x100_0000 + shifted_up(o, k - c * 4);
     Written::Word { bits }
 }
 
@@ -323,7 +333,11 @@ fn whole_below(o: u32, k: u32, limit: u64) -> Whole
     if k < DENOMINATOR_POWER {
         return Whole::Beyond;
     }
-    let q = shifted_wide(o, lesser(k - DENOMINATOR_POWER, 32));
+    let up = k - DENOMINATOR_POWER;
+    if 32 <= up {
+        return Whole::Beyond;
+    }
+    let q = shifted_wide(o, up);
     if limit <= q {
         return Whole::Beyond;
     }
@@ -370,6 +384,16 @@ fn gain_of(neg: bool, o: u32, k: u32) -> Written
             bits: g * 0x1_0000 + complement16(neg, q),
         },
         Whole::Beyond => Written::Refused { number: UNFIT },
+    }
+}
+
+// The bits of a word, 0 where there is none.
+fn bits_of(word: Written) -> u32
+    ensures { λ r. ⌜ r ≡ wordBits word ⌝ }
+{
+    match word {
+        Written::Word { bits } => bits,
+        Written::Refused { number: _ } => ZERO_WORD,
     }
 }
 
@@ -475,6 +499,47 @@ impl Pair {
             Parts::Odd { neg, o, k } => gain_of(neg, o, k),
         }
     }
+
+    // The bits of the pair's word under each code, 0 where it has none: for a caller who knows that it has one.
+    pub fn ibm_bits(self) -> u32
+        ensures { λ r. ⌜ r ≡ wordBits (writePair 1 self) ⌝ }
+    {
+        match self.parts() {
+            Parts::NotCanonical => ZERO_WORD,
+            Parts::Zero => ZERO_WORD,
+            Parts::Odd { neg, o, k } => bits_of(ibm_of(neg, o, k)),
+        }
+    }
+
+    pub fn whole32_bits(self) -> u32
+        ensures { λ r. ⌜ r ≡ wordBits (writePair 2 self) ⌝ }
+    {
+        match self.parts() {
+            Parts::NotCanonical => ZERO_WORD,
+            Parts::Zero => ZERO_WORD,
+            Parts::Odd { neg, o, k } => bits_of(whole32_of(neg, o, k)),
+        }
+    }
+
+    pub fn whole16_bits(self) -> u32
+        ensures { λ r. ⌜ r ≡ wordBits (writePair 3 self) ⌝ }
+    {
+        match self.parts() {
+            Parts::NotCanonical => ZERO_WORD,
+            Parts::Zero => ZERO_WORD,
+            Parts::Odd { neg, o, k } => bits_of(whole16_of(neg, o, k)),
+        }
+    }
+
+    pub fn gain_bits(self) -> u32
+        ensures { λ r. ⌜ r ≡ wordBits (writePair 4 self) ⌝ }
+    {
+        match self.parts() {
+            Parts::NotCanonical => ZERO_WORD,
+            Parts::Zero => ZERO_WORD,
+            Parts::Odd { neg, o, k } => bits_of(gain_of(neg, o, k)),
+        }
+    }
 }
 
 // The word of a pair under a code.
@@ -490,14 +555,24 @@ pub fn write(code: u32, p: Pair) -> Written
     }
 }
 
+// The pair of the 16 bits of e and the 32 of m.
+pub fn pair_of_bits(e: u16, m: u32) -> Pair
+    ensures { λ r. ⌜ r ≡ pairOfBits e m ⌝ }
+{
+    Pair {
+        e: numbers::signed16(e),
+        m: numbers::signed32(m),
+    }
+}
+
 // The pair of six bytes.
 pub fn pair_in(b: [u8; 6]) -> Pair
     ensures { λ r. ⌜ r ≡ pairIn b ⌝ }
 {
-    Pair {
-        e: numbers::signed16(numbers::be16(b[0], b[1])),
-        m: numbers::signed32(numbers::be32(b[2], b[3], b[4], b[5])),
-    }
+    pair_of_bits(
+        numbers::be16(b[0], b[1]),
+        numbers::be32(b[2], b[3], b[4], b[5]),
+    )
 }
 
 // One sample, from its pair to its word.

@@ -1,8 +1,5 @@
 -- `sample::pair_in` meets its contract. Assumes nothing.
 use Rattle.numbers.specs.Walk.{bytesAt}
-use mir.Facts.{toZ-ofZ}
-use mir.Syntax.{w16, w32}
-use borrow.Author.Needs.{sfits-of}
 use borrow.Author.Needs.{needs}
 use Rattle.sample.proofs.pair_in.Statement.{statement}
 use Rattle.sample.proofs.pair_in.Tie as tie
@@ -15,9 +12,6 @@ array-read-be16-2 c = search needs
 
 be16-requires : tie.Need-be16-requires
 be16-requires c κs = search needs
-
-signed16-requires : tie.Need-signed16-requires
-signed16-requires c κs = search needs
 
 array-read-be32 : tie.Need-array-read-be32
 array-read-be32 c = search needs
@@ -34,13 +28,12 @@ array-read-be32-4 c = search needs
 be32-requires : tie.Need-be32-requires
 be32-requires c κs = search needs
 
-signed32-requires : tie.Need-signed32-requires
-signed32-requires c κs = search needs
+pair-of-bits-requires : tie.Need-pair-of-bits-requires
+pair-of-bits-requires c κs = search needs
 
 returns : tie.Need-returns
 unfolding bytesAt
-returns c =
-    rw (toZ-ofZ {w = w16} (sfits-of (c .before .before .signed16 .ok)), toZ-ofZ {w = w32} (sfits-of (c .signed32 .ok)), c .before .before .signed16 .ensures, c .signed32 .ensures, c .before .before .before .be16 .ensures, c .before .be32 .ensures)
+returns c = rw (← (c .before .before .be16 .ensures), ← (c .before .be32 .ensures)) (c .pair-of-bits .ensures)
 
 pub pair-in-spec : {M : Type 1} → statement M
 pair-in-spec =
@@ -49,11 +42,10 @@ pair-in-spec =
     array-read-be16
     array-read-be16-2
     be16-requires
-    signed16-requires
     array-read-be32
     array-read-be32-2
     array-read-be32-3
     array-read-be32-4
     be32-requires
-    signed32-requires
+    pair-of-bits-requires
     returns)

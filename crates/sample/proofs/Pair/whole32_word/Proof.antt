@@ -1,18 +1,11 @@
 -- `sample::Pair::whole32_word` meets its contract. Assumes nothing.
-use Rattle.sample.specs.declared.Written.the-variants.{Word}
+use Rattle.sample.proofs.PartsLaws.{not-canonical, zero-pair, odd-pair, zero-whole32}
 use Rattle.sample.specs.declared.Parts.the-variants.{Odd}
 use Rattle.sample.specs.Parts.{PartsOf}
-use Rattle.sample.specs.Writing.{first, wholeWord}
-use lib.IntN.{pos}
-use mathlib.Core.Path.{_≡_, refl, sym, subst}
+use mathlib.Core.Path.{_≡_, refl, sym, subst, _∙_}
 use borrow.Author.Needs.{needs}
 use Rattle.sample.proofs.Pair.whole32_word.Statement.{statement}
 use Rattle.sample.proofs.Pair.whole32_word.Tie as tie
-
--- zero is written as 00000000
-nil : wholeWord 32 1 (pos 0) ≡ Word 0
-unfolding first
-nil = refl
 
 -- the pair taken apart
 apart : (c : tie.After-neg) → PartsOf (c .before .before .before .args .self) (Odd (c .neg .given .0 .0) (c .neg .given .0 .1 .0) (c .neg .given .0 .1 .1 .0))
@@ -34,15 +27,13 @@ whole32-of-requires : tie.Need-whole32-of-requires
 whole32-of-requires c κs = apart (c .before) .1 .odd
 
 returns : tie.Need-returns
-returns c = rw (subst (PartsOf (c .before .before .before .args .self)) (c .enum-told .given .1) (c .before .before .parts .ensures))
+returns c = let p = c .before .before .before .args .self in sym (not-canonical 2 p refl (subst (PartsOf p) (c .enum-told .given .1) (c .before .before .parts .ensures)))
 
 returns-2 : tie.Need-returns-2
-returns-2 c =
-    let h = subst (PartsOf (c .before .before .before .args .self)) (c .enum-told2 .given .1) (c .before .before .parts .ensures) in
-    rw (h .0, h .1) (sym nil)
+returns-2 c = let p = c .before .before .before .args .self in sym (zero-pair 2 p refl zero-whole32 (subst (PartsOf p) (c .enum-told2 .given .1) (c .before .before .parts .ensures)))
 
 returns-3 : tie.Need-returns-3
-returns-3 c = let a = apart (c .before .before) in rw (a .0, a .1 .value) (c .whole32-of .ensures)
+returns-3 c = c .whole32-of .ensures ∙ sym (odd-pair 2 (c .before .before .before .before .before .args .self) refl _ _ _ (apart (c .before .before)))
 
 pub whole32-word-spec : {M : Type 1} → statement M
 whole32-word-spec =
