@@ -7,4 +7,5 @@ pub mod IbmLaws
 pub mod WholeLaws
 pub mod Apart
 pub mod PartsLaws
+pub mod PairBytes
 pub mod Codes

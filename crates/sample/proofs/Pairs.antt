@@ -1,4 +1,4 @@
--- The pair of a value: one fact for all codes. The canonical pair of ± a × 2 ^ k is ± a's odd part, with the exponent k and a's twos less the denominatorPowerinator's. Assumes nothing.
+-- The pair of a value: one fact for all codes. The canonical pair of ± a × 2 ^ k is ± a's odd part, with the exponent k and a's twos less the denominator's. Assumes nothing.
 use mathlib.Core.Path.{_≡_, refl, sym, ap, _∙_, subst}
 use mathlib.Core.Logic.{_⊎_, inl, inr, ⊎-elim}
 use mathlib.Core.Bool.{Bool, true, false}
@@ -21,14 +21,14 @@ use Rattle.sample.specs.declared.Sample.the-variants.{Taken}
 use Rattle.sample.proofs.Magnitudes.{signed-mul}
 use Rattle.sample.proofs.Twos.{twos-at, oddPart-at, below-shl, split, twos-split}
 
--- ---- a difference of naturals, and a signMagnitude magnitude, fit a signMagnitude width
+-- a difference of naturals, and a magnitude with its sign, fit a signed width
 
 pub sfits-sub : (w : Width) (a b : ℕ) → a < 2 ^ hbits w → b ≤ 2 ^ hbits w → SFits w (subℕ a b)
 sfits-sub w a b h l =
     ⊎-elim (λ p. subst (SFits w) (sym (sub-below a b p)) (record { sfits = omega arith }))
     (λ p. subst (SFits w) (sym (sub-above a b p)) (record { sfits = omega arith })) (below-or a b)
 
--- ---- the one fact
+-- the one fact
 
 pub pair-of : (s : Bool) (a : ℕ) → 0 < a → pairOf (signMagnitude s a) ≡ record { e = subℕ (twos a) denominatorPower; m = signMagnitude s (oddPart a) }
 pair-of s zero p = absurd (none p)
@@ -69,7 +69,7 @@ pub sixteens : (c : ℕ) → 2 ^ (c * 4) ≡ 16 ^ c
 sixteens zero = refl
 sixteens (suc c) = rw (suc-mul c 4, pow-add 2 (c * 4) 4, sixteens c, pow-suc 16 c)
 
--- ---- the value of the pair of a value is the value again, so no two values have one pair
+-- the value of the pair of a value is the value again, so no two values have one pair
 
 pub sub-add : (t d : ℕ) → subℕ t d +ℤ pos d ≡ pos t
 sub-add t d =

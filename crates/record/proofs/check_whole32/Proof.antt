@@ -1,34 +1,45 @@
 -- `record::check_whole32` meets its contract. Assumes nothing.
-use Rattle.numbers.proofs.CauseLaws.{first-none, first-more, first-stop}
+use Rattle.record.proofs.PairLaws.{pair-cause, pairs-stop, pairs-more, pairs-last}
+use Rattle.numbers.proofs.CauseLaws.{first-none}
 use Rattle.numbers.proofs.WalkLaws.{times-more}
 use Rattle.numbers.specs.Cause.{firstOf}
-use Rattle.numbers.specs.Walk.{walk}
+use Rattle.numbers.specs.Walk.{walk, bytesAt}
+use Rattle.numbers.specs.BigEndian.{number}
 use Rattle.record.specs.Parts.{pairRefused, pairCheck}
-use Rattle.sample.specs.Writing.{writePair}
 use lib.ListN.{length}
-use Prim.Native.Nat.{_+_, _*_, _≤_}
-use mathlib.Core.Path.{_≡_, refl, sym, ap, _∙_}
-use native.Mathlib.Omega.{arith}
+use Prim.Native.Nat.{ℕ, _+_, _-_, _*_, _≤_}
+use mathlib.Core.Path.{_≡_, sym, ap, _∙_}
 use borrow.Author.Needs.{needs}
+use native.Mathlib.Omega.{arith}
 use Rattle.record.proofs.check_whole32.Statement.{statement}
 use Rattle.record.proofs.check_whole32.Tie as tie
 
 abbrev Inv-loop : tie.InvT-loop
-Inv-loop «record» n start at₀ left₀ at left =
-    (firstOf (walk (pairCheck «record» 2) 6 n start) ≡ firstOf (walk (pairCheck «record» 2) 6 left at)) × (at + left * 6 ≤ length «record»)
+Inv-loop «record» n start at₀ left₀ e₀ m₀ at left e m =
+    (firstOf (walk (pairCheck «record» 2) 6 n start) ≡ firstOf (walk (pairCheck «record» 2) 6 (left + 1) at)) × (at + left * 6 + 6 ≤ length «record»)
+    × (e ≡ number (bytesAt «record» at 2)) × (m ≡ number (bytesAt «record» (at + 2) 4))
 
 abbrev μ-loop : tie.MeasureT-loop
-μ-loop «record» n start at₀ left₀ at left = left
+μ-loop «record» n start at₀ left₀ e₀ m₀ at left e m = left
 
--- the pair's cause, by what writing it gives
-cause : (c : tie.After-whole32-word Inv-loop μ-loop) → pairRefused (c .whole32-word .result) (c .before .before .before .loop .at) ≡ pairCheck (c .before .before .before .before .before .args .«record» .now) 2 (c .before .before .before .loop .at)
-cause c = ap (λ w. pairRefused w (c .before .before .before .loop .at)) (c .whole32-word .ensures ∙ ap (writePair 2) (c .before .pair-at .ensures))
+returns : tie.Need-returns Inv-loop μ-loop
+returns c = first-none (pairCheck (c .before .before .args .«record» .now) 2) 6 (c .before .before .args .n) (c .before .before .args .start) (omega (arith, c .if1 .taken))
+
+exponent-at-requires : tie.Need-exponent-at-requires Inv-loop μ-loop
+exponent-at-requires c κs = omega (arith, times-more (c .before .before .args .n) 6 (omega (arith, c .if1 .left)), c .before .before .pre)
+
+mantissa-at-requires : tie.Need-mantissa-at-requires Inv-loop μ-loop
+mantissa-at-requires c κs = omega (arith, times-more (c .before .before .before .args .n) 6 (omega (arith, c .before .if1 .left)), c .before .before .before .pre)
 
 loop-holds : tie.Need-loop-holds Inv-loop μ-loop
-loop-holds c = search needs
+loop-holds c =
+    let a = c .before .before .before .before .args in
+    let some = c .before .before .if1 .left in
+    let e : a .n ≡ a .n - 1 + 1 = omega (arith, some) in
+    (ap (λ (j : ℕ). firstOf (walk (pairCheck (a .«record» .now) 2) 6 j (a .start))) e, omega (arith, times-more (a .n) 6 (omega (arith, some)), c .before .before .before .before .pre), c .before .exponent-at .ensures, c .mantissa-at .ensures)
 
-pair-at-requires : tie.Need-pair-at-requires Inv-loop μ-loop
-pair-at-requires c κs = omega (arith, times-more (c .before .loop .left) 6 (c .loop-test .taken), c .before .loop .inv)
+pair-of-bits-requires : tie.Need-pair-of-bits-requires Inv-loop μ-loop
+pair-of-bits-requires c κs = search needs
 
 whole32-word-requires : tie.Need-whole32-word-requires Inv-loop μ-loop
 whole32-word-requires c κs = search needs
@@ -42,17 +53,21 @@ enum-told-2 c = search needs
 refused-requires : tie.Need-refused-requires Inv-loop μ-loop
 refused-requires c κs = search needs
 
-returns : tie.Need-returns Inv-loop μ-loop
-returns c =
-    let h = c .before .before .before .before .before .before in
-    let s = c .before .before .before .before .before .before .before .before .args .«record» .now in
-    let e = c .before .enum-told2 .given .1 in
-    let k = sym (cause (c .before .before .before)) ∙ ap (λ w. pairRefused w (h .loop .at)) e in
-    c .refused .ensures ∙ ap (λ w. pairRefused w (h .loop .at)) e
-    ∙ sym (h .loop .inv .0 ∙ first-stop (pairCheck s 2) 6 (h .loop .left) (h .loop .at) (c .before .before .before .before .before .loop-test .taken) k)
+returns-2 : tie.Need-returns-2 Inv-loop μ-loop
+returns-2 c =
+    let s = c .before .before .before .before .before .before .before .before .before .before .before .args .«record» .now in
+    let l = c .before .before .before .before .before .before .loop in
+    let k = pair-cause s 2 (l .at) (l .e) (l .m) (c .before .before .before .before .pair-of-bits .result) (c .before .before .before .whole32-word .result) (c .before .before .before .whole32-word .ensures) (c .before .before .before .before .pair-of-bits .ensures) (l .inv .2) (l .inv .3) in
+    c .refused .ensures ∙ k ∙ pairs-stop s 2 (l .left) (l .at) (sym k ∙ ap (λ w. pairRefused w (l .at)) (c .before .enum-told2 .given .1)) ∙ sym (l .inv .0)
 
 add-at : tie.Need-add-at Inv-loop μ-loop
-add-at c = omega (arith, times-more (c .before .before .before .before .before .loop .left) 6 (c .before .before .before .before .loop-test .taken), c .before .before .before .before .before .loop .inv)
+add-at c = omega (arith, times-more (c .before .before .before .before .before .loop .left) 6 (c .before .before .before .before .loop-test .taken), c .before .before .before .before .before .loop .inv .1)
+
+exponent-at-requires-2 : tie.Need-exponent-at-requires-2 Inv-loop μ-loop
+exponent-at-requires-2 c κs = omega (arith, times-more (c .before .before .before .before .before .loop .left) 6 (c .before .before .before .before .loop-test .taken), c .before .before .before .before .before .loop .inv .1)
+
+mantissa-at-requires-2 : tie.Need-mantissa-at-requires-2 Inv-loop μ-loop
+mantissa-at-requires-2 c κs = omega (arith, times-more (c .before .before .before .before .before .before .loop .left) 6 (c .before .before .before .before .before .loop-test .taken), c .before .before .before .before .before .before .loop .inv .1)
 
 sub-left : tie.Need-sub-left Inv-loop μ-loop
 sub-left c = search needs
@@ -62,16 +77,26 @@ loop-less c = search needs
 
 loop-again : tie.Need-loop-again Inv-loop μ-loop
 loop-again c =
-    let h = c .before .before .before .before .before in
-    let s = c .before .before .before .before .before .before .before .args .«record» .now in
-    let k = sym (cause (c .before .before)) ∙ ap (λ w. pairRefused w (h .loop .at)) (c .enum-told .given .1) in (
-      h .loop .inv .0 ∙ first-more (pairCheck s 2) 6 (h .loop .left) (h .loop .at) (c .before .before .before .before .loop-test .taken) k,
-      omega (arith, times-more (h .loop .left) 6 (c .before .before .before .before .loop-test .taken), h .loop .inv),
-    )
+    let s = c .before .before .before .before .before .before .before .before .before .before .before .before .args .«record» .now in
+    let l = c .before .before .before .before .before .before .before .loop in
+    let k = pair-cause s 2 (l .at) (l .e) (l .m) (c .before .before .before .before .before .pair-of-bits .result) (c .before .before .before .before .whole32-word .result) (c .before .before .before .before .whole32-word .ensures) (c .before .before .before .before .before .pair-of-bits .ensures) (l .inv .2) (l .inv .3) in
+    (l .inv .0 ∙ pairs-more s 2 (l .left) (l .at) (c .before .before .before .before .before .before .loop-test .taken) (sym k ∙ ap (λ w. pairRefused w (l .at)) (c .before .before .enum-told .given .1)), omega (arith, times-more (l .left) 6 (c .before .before .before .before .before .before .loop-test .taken), l .inv .1), c .before .exponent-at2 .ensures, c .mantissa-at2 .ensures)
 
-returns-2 : tie.Need-returns-2 Inv-loop μ-loop
-returns-2 c =
-    first-none (pairCheck (c .before .before .before .args .«record» .now) 2) 6 (c .before .loop .left) (c .before .loop .at) (c .loop-test .left) ∙ sym (c .before .loop .inv .0)
+pair-of-bits-requires-2 : tie.Need-pair-of-bits-requires-2 Inv-loop μ-loop
+pair-of-bits-requires-2 c κs = search needs
+
+whole32-word-requires-2 : tie.Need-whole32-word-requires-2 Inv-loop μ-loop
+whole32-word-requires-2 c κs = search needs
+
+refused-requires-2 : tie.Need-refused-requires-2 Inv-loop μ-loop
+refused-requires-2 c κs = search needs
+
+returns-3 : tie.Need-returns-3 Inv-loop μ-loop
+returns-3 c =
+    let s = c .before .before .before .before .before .before .before .before .before .args .«record» .now in
+    let l = c .before .before .before .before .loop in
+    c .refused2 .ensures ∙ pair-cause s 2 (l .at) (l .e) (l .m) (c .before .before .pair-of-bits2 .result) (c .before .whole32-word2 .result) (c .before .whole32-word2 .ensures) (c .before .before .pair-of-bits2 .ensures) (l .inv .2) (l .inv .3)
+    ∙ sym (l .inv .0 ∙ pairs-last s 2 (l .left) (l .at) (c .before .before .before .loop-test .left))
 
 pub check-whole32-spec : {M : Type 1} → statement M
 check-whole32-spec =
@@ -79,15 +104,23 @@ check-whole32-spec =
     (tie.spec
     Inv-loop
     μ-loop
+    returns
+    exponent-at-requires
+    mantissa-at-requires
     loop-holds
-    pair-at-requires
+    pair-of-bits-requires
     whole32-word-requires
     enum-told
     enum-told-2
     refused-requires
-    returns
+    returns-2
     add-at
+    exponent-at-requires-2
+    mantissa-at-requires-2
     sub-left
     loop-less
     loop-again
-    returns-2)
+    pair-of-bits-requires-2
+    whole32-word-requires-2
+    refused-requires-2
+    returns-3)

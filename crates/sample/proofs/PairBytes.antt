@@ -1,0 +1,18 @@
+-- The pair that stands in six bytes of a list. Assumes nothing.
+use Prim.Native.Nat.{ℕ, _+_}
+use mathlib.Core.Path.{_≡_}
+use mathlib.Core.List.{List}
+use native.Mathlib.Omega.{arith}
+use Rattle.numbers.specs.Walk.{bytesAt}
+use Rattle.numbers.specs.BigEndian.{number}
+use Rattle.sample.specs.Calls.{pairOfBits, pairIn}
+
+-- by the bits of its exponent and of its mantissa
+pub pair-there : (s : List ℕ) (at : ℕ) → pairIn (bytesAt s at 6) ≡ pairOfBits (number (bytesAt s at 2)) (number (bytesAt s (at + 2) 4))
+unfolding bytesAt
+pair-there s at =
+    let d : at + 1 + 1 + 1 + 1 + 1 ≡ at + 2 + 1 + 1 + 1 = omega arith in
+    let c : at + 1 + 1 + 1 + 1 ≡ at + 2 + 1 + 1 = omega arith in
+    let b : at + 1 + 1 + 1 ≡ at + 2 + 1 = omega arith in
+    let a : at + 1 + 1 ≡ at + 2 = omega arith in
+    rw (d, c, b, a)
