@@ -1,5 +1,5 @@
 -- The pieces of a reel as the code writes them: how long each is, and one more and none of its samples and traces. Assumes nothing.
-use mathlib.Core.Path.{_≡_, refl, ap, _∙_}
+use mathlib.Core.Path.{_≡_, refl, sym, ap, _∙_}
 use mathlib.Core.Bool.{Bool, true, false}
 use mathlib.Core.List.{List, [], _∷_, _++_, map}
 use Prim.Native.Nat.{ℕ, _+_, _-_, _*_, _≤_, _<_}
@@ -9,10 +9,14 @@ use lib.Dec.{eqb}
 use lib.ListN.{length, take, replicate, length-append, length-replicate}
 use Rattle.numbers.specs.Walk.{pick, walk, flat, bytesAt}
 use Rattle.numbers.proofs.WalkLaws.{flat-length, flat-more, flat-none, size-bytes}
-use Rattle.numbers.proofs.Filling.{Filling, again, lend}
-use Rattle.sample.specs.Calls.{pairLength}
+use Rattle.numbers.specs.BigEndian.{number, bytesOf}
+use Rattle.numbers.proofs.Filling.{Filling, finish, again, lend}
+use Rattle.sample.specs.Writing.{writePair, wordBits}
+use Rattle.sample.specs.Calls.{pairLength, pairOfBits}
+use Rattle.sample.specs.declared.Pair.{Pair}
 use Rattle.sample.specs.declared.Written.{Written}
 use Rattle.sample.specs.declared.Written.the-variants.{Word, Refused}
+use Rattle.sample.proofs.PairBytes.{pair-there}
 use Rattle.reel.specs.Layout.{sampleBytes, stride}
 use Rattle.record.specs.Form.{heldStride, tracesPlace}
 use Rattle.write_reel.specs.Reel.{wordContent}
@@ -79,3 +83,23 @@ pub sample-put : (s : List ℕ) (code k at o e : ℕ) {all out ys : List ℕ} �
     → Filling all (putMid o (e - o) out ys) e (samplesCopied s code (k - 1) (at + pairLength))
 sample-put s code k at o e h q w is =
     lend (wordBytes code (writtenAt s code at)) (samplesCopied s code (k - 1) (at + pairLength)) e (again w (samples-more s code k at h)) (omega arith) (size-word code (writtenAt s code at) ∙ omega arith) is
+
+-- the same where the first of the samples that are left has been fetched, and k stand behind it
+module _ (s : List ℕ) (code : ℕ) where
+  -- a sample's bytes, by the bits of its pair
+  pub sample-bytes : (at e m : ℕ) (p : Pair) (bits : ℕ) → bits ≡ wordBits (writePair code p) → p ≡ pairOfBits e m → e ≡ number (bytesAt s at 2) → m ≡ number (bytesAt s (at + 2) 4)
+      → take (sampleBytes code) (bytesOf 4 bits) ≡ wordBytes code (writtenAt s code at)
+  sample-bytes at e m p bits h q i j =
+      let same : p ≡ pairOfBits (number (bytesAt s at 2)) (number (bytesAt s (at + 2) 4)) = q ∙ ap (λ (x : ℕ). pairOfBits x m) i ∙ ap (pairOfBits (number (bytesAt s at 2))) j in
+      ap (λ (x : ℕ). take (sampleBytes code) (bytesOf 4 x)) (h ∙ ap (λ (x : Pair). wordBits (writePair code x)) (same ∙ sym (pair-there s at)))
+
+  pub next-put : (k at o e : ℕ) {all out ys : List ℕ} → 0 < k → e ≡ o + sampleBytes code → Filling all out o (samplesCopied s code (k + 1) at) → ys ≡ wordBytes code (writtenAt s code at)
+      → Filling all (putMid o (e - o) out ys) e (samplesCopied s code (k - 1 + 1) (at + pairLength))
+  next-put k at o e some q w is =
+      let j : k + 1 - 1 ≡ k - 1 + 1 = omega arith in
+      again (sample-put s code (k + 1) at o e (omega arith) q w is) (ap (λ (x : ℕ). samplesCopied s code x (at + pairLength)) j)
+
+  pub last-put : (k at o e : ℕ) {all out ys : List ℕ} → k ≤ 0 → e ≡ o + sampleBytes code → Filling all out o (samplesCopied s code (k + 1) at) → ys ≡ wordBytes code (writtenAt s code at)
+      → putMid o (e - o) out ys ≡ all
+  last-put k at o e none q w is =
+      finish (sample-put s code (k + 1) at o e (omega arith) q w is) (samples-none s code (k + 1 - 1) (at + pairLength) (omega arith))

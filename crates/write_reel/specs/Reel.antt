@@ -5,17 +5,15 @@ use lib.ListN.{replicate, take}
 use lib.IntN.{ℤ}
 use Rattle.numbers.specs.Walk.{flat}
 use Rattle.numbers.specs.BigEndian.{bytesOf}
-use Rattle.sample.specs.Writing.{wordOf}
+use Rattle.sample.specs.Writing.{wordOf, wordBits}
 use Rattle.sample.specs.declared.Written.{Written}
-use Rattle.sample.specs.declared.Written.the-variants.{Word, Refused}
 use Rattle.reel.specs.Layout.{firstTrace, stride, sampleBytes, traceWidths}
 use Rattle.reel.specs.Meaning.{Trace, Meaning}
 use Rattle.record.specs.Record.{numberBytes, binaryBytes}
 
 -- The four bytes of a word. Where there is none, 14 refuses the call; the bytes are then given as 00.
 abbrev pub wordContent : Written → List ℕ
-wordContent (Word n) = bytesOf 4 n
-wordContent (Refused number) = replicate 4 0
+wordContent w = bytesOf 4 (wordBits w)
 
 -- A sample under a code: the bytes of its value's word, of which code 3 has the first two.
 abbrev pub sampleWritten : ℕ → ℤ → List ℕ

@@ -1,14 +1,9 @@
 -- `write_reel::put_word` meets its contract. Assumes nothing.
 use Rattle.numbers.proofs.WalkLaws.{stored}
 use Rattle.numbers.specs.BigEndian.{bytesOf}
-use lib.ListN.{take}
-use mathlib.Core.Path.{_≡_, ap, _∙_}
 use borrow.Author.Needs.{needs}
 use Rattle.write_reel.proofs.put_word.Statement.{statement}
 use Rattle.write_reel.proofs.put_word.Tie as tie
-
-bits-of-requires : tie.Need-bits-of-requires
-bits-of-requires c κs = search needs
 
 bytes32-requires : tie.Need-bytes32-requires
 bytes32-requires c κs = search needs
@@ -41,13 +36,12 @@ same-length : tie.Need-same-length
 same-length c = search needs
 
 returns : tie.Need-returns
-returns c = rw (c .bytes32 .ensures) (stored (bytesOf 4 (c .before .bits-of .result)) (c .before .before .before .args .out .now) (c .before .before .before .pre)) ∙ ap (take 4) (c .before .bits-of .ensures)
+returns c = rw (c .bytes32 .ensures) (stored (bytesOf 4 (c .before .before .args .bits)) (c .before .before .args .out .now) (c .before .before .pre))
 
 pub put-word-spec : {M : Type 1} → statement M
 put-word-spec =
     tie.close
     (tie.spec
-    bits-of-requires
     bytes32-requires
     array-read-out
     slice-write-out
