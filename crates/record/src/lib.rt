@@ -224,7 +224,11 @@ fn check_ibm(record: &[u8], n: usize, start: usize) -> Check
         m = mantissa_at(record, at);
         left -= 1;
     }
-    refused(sample::pair_of_bits(e, m).ibm_word(), at)
+    let word = sample::pair_of_bits(e, m).ibm_word();
+    let Written::Word { bits: _ } = word else {
+        return refused(word, at);
+    };
+    Check::Fine
 }
 
 fn check_whole32(record: &[u8], n: usize, start: usize) -> Check
@@ -248,7 +252,11 @@ fn check_whole32(record: &[u8], n: usize, start: usize) -> Check
         m = mantissa_at(record, at);
         left -= 1;
     }
-    refused(sample::pair_of_bits(e, m).whole32_word(), at)
+    let word = sample::pair_of_bits(e, m).whole32_word();
+    let Written::Word { bits: _ } = word else {
+        return refused(word, at);
+    };
+    Check::Fine
 }
 
 fn check_whole16(record: &[u8], n: usize, start: usize) -> Check
@@ -272,7 +280,11 @@ fn check_whole16(record: &[u8], n: usize, start: usize) -> Check
         m = mantissa_at(record, at);
         left -= 1;
     }
-    refused(sample::pair_of_bits(e, m).whole16_word(), at)
+    let word = sample::pair_of_bits(e, m).whole16_word();
+    let Written::Word { bits: _ } = word else {
+        return refused(word, at);
+    };
+    Check::Fine
 }
 
 fn check_gain(record: &[u8], n: usize, start: usize) -> Check
@@ -296,7 +308,11 @@ fn check_gain(record: &[u8], n: usize, start: usize) -> Check
         m = mantissa_at(record, at);
         left -= 1;
     }
-    refused(sample::pair_of_bits(e, m).gain_word(), at)
+    let word = sample::pair_of_bits(e, m).gain_word();
+    let Written::Word { bits: _ } = word else {
+        return refused(word, at);
+    };
+    Check::Fine
 }
 
 // The same under a code, which is 1 to 4.

@@ -3,10 +3,12 @@ use Prim.Native.Nat.{ℕ, _+_, _*_, _/_}
 use mathlib.Core.List.{List, _∷_, _++_, map}
 use lib.ListN.{replicate}
 use lib.Dec.{eqb}
+use lib.IntN.{pos}
 use Rattle.numbers.specs.Walk.{pick, walk, flat, bytesAt}
 use Rattle.numbers.specs.BigEndian.{bytesOf}
-use Rattle.numbers.specs.TwosComplement.{bitsOf}
-use Rattle.sample.specs.Reading.{readWord}
+use Rattle.numbers.specs.TwosComplement.{signedOf, bitsOf}
+use Rattle.sample.specs.Value.{gainValue}
+use Rattle.sample.specs.Reading.{pairTaken, readWord}
 use Rattle.sample.specs.Pair.{mantissaBits}
 use Rattle.sample.specs.Calls.{pairLength, pairBytes}
 use Rattle.sample.specs.declared.Sample.{Sample}
@@ -49,6 +51,11 @@ exponentContent (Refused number) = replicate 2 0
 abbrev pub mantissaContent : Sample → List ℕ
 mantissaContent (Taken e m) = bytesOf (mantissaBits / 8) (bitsOf mantissaBits m)
 mantissaContent (Refused number) = replicate (mantissaBits / 8) 0
+
+-- What reading a gain word gives, by its first byte, its gain and the bits of its number; zero where it is refused, which has the same
+-- six bytes.
+abbrev pub gainOrZero : ℕ → ℕ → ℕ → Sample
+gainOrZero first g d = pick (eqb first 0) (pairTaken (gainValue g (signedOf 16 d))) (Taken (pos 0) (pos 0))
 
 -- The sample at a place.
 abbrev pub sampleCopied : List ℕ → ℕ → ℕ → List ℕ

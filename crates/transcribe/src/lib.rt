@@ -7,15 +7,16 @@ ghost use Prim.Native.Nat.{_+_, _-_, _*_, _<_, _≤_};
 ghost use lib.ListN.{length};
 ghost use Rattle.numbers.specs.Walk.{flat, bytesAt};
 ghost use Rattle.numbers.specs.BigEndian.{number, bytesOf};
-ghost use Rattle.sample.specs.Value.{ibmValue};
-ghost use Rattle.sample.specs.Reading.{isCode, pairTaken, readWord};
+ghost use Rattle.numbers.specs.TwosComplement.{signedOf};
+ghost use Rattle.sample.specs.Value.{ibmValue, wholeValue};
+ghost use Rattle.sample.specs.Reading.{isCode, pairTaken};
 ghost use Rattle.sample.specs.Calls.{pairBytes};
 ghost use Rattle.reel.specs.Layout.{firstTrace, word, sampleBytes, stride};
 ghost use Rattle.reel.specs.Causes.{mostSamples, mostTraces, checkedOf};
 ghost use Rattle.reel.specs.Meaning.{blank};
 ghost use Rattle.record.specs.Answer.{outcome};
 ghost use Rattle.transcribe.specs.Reading.{readOutcome};
-ghost use Rattle.transcribe.specs.Copied.{tagBytes, binaryCopied, headCopied, ownOr, headerCopied, exponentContent, mantissaContent, sampleContent, sampleCopied, places, samplesCopied, traceCopied, recordCopied};
+ghost use Rattle.transcribe.specs.Copied.{tagBytes, binaryCopied, headCopied, ownOr, headerCopied, exponentContent, mantissaContent, sampleContent, gainOrZero, sampleCopied, places, samplesCopied, traceCopied, recordCopied};
 use numbers::Place;
 use record::Answer;
 use reel::Checked;
@@ -157,7 +158,7 @@ fn put_exponent(word: Sample, out: &mut [u8])
     put16(numbers::bits16(e), out);
 }
 
-// The number in the four bytes at a place.
+// The number in the four bytes at a place, and in two.
 fn word32_at(reel: &[u8], at: usize) -> u32
     requires { ⌜ at + 4 ≤ length (now reel) ⌝ }
     ensures { λ r. ⌜ r ≡ number (bytesAt (now (reel .entry)) at 4) ⌝ }
@@ -165,7 +166,14 @@ fn word32_at(reel: &[u8], at: usize) -> u32
     numbers::be32(reel[at], reel[at + 1], reel[at + 2], reel[at + 3])
 }
 
-// Writes what an IBM word gives, and fetches the next word between the two stores: the compiler then makes one store of each, and one
+fn word16_at(reel: &[u8], at: usize) -> u16
+    requires { ⌜ at + 2 ≤ length (now reel) ⌝ }
+    ensures { λ r. ⌜ r ≡ number (bytesAt (now (reel .entry)) at 2) ⌝ }
+{
+    numbers::be16(reel[at], reel[at + 1])
+}
+
+// Each writes what a word gives, and fetches the next word between the two stores: the compiler then makes one store of each, and one
 // fetch of the word.
 fn put_ibm_word(reel: &[u8], word: u32, next: usize, out: &mut [u8]) -> u32
     requires { ⌜ (next + 4 ≤ length (now reel)) × (length (now out) ≡ 6) ⌝ }
@@ -178,26 +186,49 @@ fn put_ibm_word(reel: &[u8], word: u32, next: usize, out: &mut [u8]) -> u32
     w
 }
 
-// What reading the word at a place gives, under the other codes.
-fn whole32_at(reel: &[u8], at: usize) -> Sample
-    requires { ⌜ at + 4 ≤ length (now reel) ⌝ }
-    ensures { λ r. ⌜ r ≡ readWord 2 (bytesAt (now (reel .entry)) at 4) ⌝ }
+fn put_whole32_word(reel: &[u8], word: u32, next: usize, out: &mut [u8]) -> u32
+    requires { ⌜ (next + 4 ≤ length (now reel)) × (length (now out) ≡ 6) ⌝ }
+    ensures { λ r. ⌜ (r ≡ number (bytesAt (now (reel .entry)) next 4)) × (now (out .exit) ≡ sampleContent (pairTaken (wholeValue (signedOf 32 word)))) ⌝ }
 {
-    sample::whole32(numbers::be32(reel[at], reel[at + 1], reel[at + 2], reel[at + 3]))
+    let pair = sample::whole32(word);
+    put_mantissa(pair, &mut out[2..6]);
+    let w = word32_at(reel, next);
+    put_exponent(pair, &mut out[0..2]);
+    w
 }
 
-fn whole16_at(reel: &[u8], at: usize) -> Sample
-    requires { ⌜ at + 2 ≤ length (now reel) ⌝ }
-    ensures { λ r. ⌜ r ≡ readWord 3 (bytesAt (now (reel .entry)) at 4) ⌝ }
+fn put_whole16_word(reel: &[u8], word: u16, next: usize, out: &mut [u8]) -> u16
+    requires { ⌜ (next + 2 ≤ length (now reel)) × (length (now out) ≡ 6) ⌝ }
+    ensures { λ r. ⌜ (r ≡ number (bytesAt (now (reel .entry)) next 2)) × (now (out .exit) ≡ sampleContent (pairTaken (wholeValue (signedOf 16 word)))) ⌝ }
 {
-    sample::whole16(numbers::be16(reel[at], reel[at + 1]))
+    let pair = sample::whole16(word);
+    put_mantissa(pair, &mut out[2..6]);
+    let w = word16_at(reel, next);
+    put_exponent(pair, &mut out[0..2]);
+    w
 }
 
-fn gain_at(reel: &[u8], at: usize) -> Sample
-    requires { ⌜ at + 4 ≤ length (now reel) ⌝ }
-    ensures { λ r. ⌜ r ≡ readWord 4 (bytesAt (now (reel .entry)) at 4) ⌝ }
+// What reading a gain word gives, by its first byte, its gain and its number. One that 9 refuses, which only the types allow here, is given
+// as zero, as in `put_sample`.
+fn gain_or_zero(first: u8, g: u8, d: u16) -> Sample
+    ensures { λ r. ⌜ r ≡ gainOrZero first g d ⌝ }
 {
-    sample::gain(reel[at], reel[at + 1], reel[at + 2], reel[at + 3])
+    if first != 0 {
+        return Sample::Taken { e: 0, m: 0 };
+    }
+    sample::gain_number(g, d)
+}
+
+// The same for a gain word, of which d is fetched early.
+fn put_gain_word(reel: &[u8], at: usize, d: u16, out: &mut [u8]) -> u16
+    requires { ⌜ (at + 8 ≤ length (now reel)) × (length (now out) ≡ 6) × (d ≡ number (bytesAt (now reel) (at + 2) 2)) ⌝ }
+    ensures { λ r. ⌜ (r ≡ number (bytesAt (now (reel .entry)) (at + 6) 2)) × (now (out .exit) ≡ sampleCopied (now (reel .entry)) 4 at) ⌝ }
+{
+    let pair = gain_or_zero(reel[at], reel[at + 1], d);
+    put_mantissa(pair, &mut out[2..6]);
+    let w = word16_at(reel, at + 6);
+    put_exponent(pair, &mut out[0..2]);
+    w
 }
 
 // The samples of a trace, a loop for each code.
@@ -226,48 +257,63 @@ fn put_whole32(reel: &[u8], n: usize, start: usize, out: &mut [u8])
     requires { ⌜ (start + n * 4 ≤ length (now reel)) × (length (now out) ≡ n * 6) ⌝ }
     ensures { λ _. ⌜ now (out .exit) ≡ samplesCopied (now (reel .entry)) 2 n start ⌝ }
 {
+    if n < 1 {
+        return;
+    }
     let mut at = start;
     let mut o = 0;
-    let mut left = n;
+    let mut left = n - 1;
+    let mut w = word32_at(reel, start);
     while 0 < left {
         let e = o + 6;
-        put_sample(whole32_at(reel, at), &mut out[o..e]);
         at += 4;
+        w = put_whole32_word(reel, w, at, &mut out[o..e]);
         o = e;
         left -= 1;
     }
+    put_sample(sample::whole32(w), &mut out[o..o + 6]);
 }
 
 fn put_whole16(reel: &[u8], n: usize, start: usize, out: &mut [u8])
     requires { ⌜ (start + n * 2 ≤ length (now reel)) × (length (now out) ≡ n * 6) ⌝ }
     ensures { λ _. ⌜ now (out .exit) ≡ samplesCopied (now (reel .entry)) 3 n start ⌝ }
 {
+    if n < 1 {
+        return;
+    }
     let mut at = start;
     let mut o = 0;
-    let mut left = n;
+    let mut left = n - 1;
+    let mut w = word16_at(reel, start);
     while 0 < left {
         let e = o + 6;
-        put_sample(whole16_at(reel, at), &mut out[o..e]);
         at += 2;
+        w = put_whole16_word(reel, w, at, &mut out[o..e]);
         o = e;
         left -= 1;
     }
+    put_sample(sample::whole16(w), &mut out[o..o + 6]);
 }
 
 fn put_gain(reel: &[u8], n: usize, start: usize, out: &mut [u8])
     requires { ⌜ (start + n * 4 ≤ length (now reel)) × (length (now out) ≡ n * 6) ⌝ }
     ensures { λ _. ⌜ now (out .exit) ≡ samplesCopied (now (reel .entry)) 4 n start ⌝ }
 {
+    if n < 1 {
+        return;
+    }
     let mut at = start;
     let mut o = 0;
-    let mut left = n;
+    let mut left = n - 1;
+    let mut d = word16_at(reel, start + 2);
     while 0 < left {
         let e = o + 6;
-        put_sample(gain_at(reel, at), &mut out[o..e]);
+        d = put_gain_word(reel, at, d, &mut out[o..e]);
         at += 4;
         o = e;
         left -= 1;
     }
+    put_sample(gain_or_zero(reel[at], reel[at + 1], d), &mut out[o..o + 6]);
 }
 
 // The samples of a trace under the reel's code, which is 1 to 4.

@@ -116,7 +116,10 @@ fn put_whole32(record: &[u8], n: usize, start: usize, out: &mut [u8])
         o = next;
         left -= 1;
     }
-    put_word(sample::pair_of_bits(e, m).whole32_bits(), &mut out[o..o + 4]);
+    put_word(
+        sample::pair_of_bits(e, m).whole32_bits(),
+        &mut out[o..o + 4],
+    );
 }
 
 fn put_whole16(record: &[u8], n: usize, start: usize, out: &mut [u8])
@@ -140,7 +143,10 @@ fn put_whole16(record: &[u8], n: usize, start: usize, out: &mut [u8])
         o = next;
         left -= 1;
     }
-    put_half(sample::pair_of_bits(e, m).whole16_bits(), &mut out[o..o + 2]);
+    put_half(
+        sample::pair_of_bits(e, m).whole16_bits(),
+        &mut out[o..o + 2],
+    );
 }
 
 fn put_gain(record: &[u8], n: usize, start: usize, out: &mut [u8])

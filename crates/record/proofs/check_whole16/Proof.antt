@@ -88,15 +88,28 @@ pair-of-bits-requires-2 c κs = search needs
 whole16-word-requires-2 : tie.Need-whole16-word-requires-2 Inv-loop μ-loop
 whole16-word-requires-2 c κs = search needs
 
+enum-told-3 : tie.Need-enum-told-3 Inv-loop μ-loop
+enum-told-3 c = search needs
+
+enum-told-4 : tie.Need-enum-told-4 Inv-loop μ-loop
+enum-told-4 c = search needs
+
 refused-requires-2 : tie.Need-refused-requires-2 Inv-loop μ-loop
 refused-requires-2 c κs = search needs
 
 returns-3 : tie.Need-returns-3 Inv-loop μ-loop
 returns-3 c =
-    let s = c .before .before .before .before .before .before .before .before .before .args .«record» .now in
-    let l = c .before .before .before .before .loop in
-    c .refused2 .ensures ∙ pair-cause s 3 (l .at) (l .e) (l .m) (c .before .before .pair-of-bits2 .result) (c .before .whole16-word2 .result) (c .before .whole16-word2 .ensures) (c .before .before .pair-of-bits2 .ensures) (l .inv .2) (l .inv .3)
-    ∙ sym (l .inv .0 ∙ pairs-last s 3 (l .left) (l .at) (c .before .before .before .loop-test .left))
+    let s = c .before .before .before .before .before .before .before .before .before .before .before .args .«record» .now in
+    let l = c .before .before .before .before .before .before .loop in
+    c .refused2 .ensures ∙ pair-cause s 3 (l .at) (l .e) (l .m) (c .before .before .before .before .pair-of-bits2 .result) (c .before .before .before .whole16-word2 .result) (c .before .before .before .whole16-word2 .ensures) (c .before .before .before .before .pair-of-bits2 .ensures) (l .inv .2) (l .inv .3)
+    ∙ sym (l .inv .0 ∙ pairs-last s 3 (l .left) (l .at) (c .before .before .before .before .before .loop-test .left))
+
+returns-4 : tie.Need-returns-4 Inv-loop μ-loop
+returns-4 c =
+    let s = c .before .before .before .before .before .before .before .before .before .before .args .«record» .now in
+    let l = c .before .before .before .before .before .loop in
+    let k = pair-cause s 3 (l .at) (l .e) (l .m) (c .before .before .before .pair-of-bits2 .result) (c .before .before .whole16-word2 .result) (c .before .before .whole16-word2 .ensures) (c .before .before .before .pair-of-bits2 .ensures) (l .inv .2) (l .inv .3) in
+    sym (ap (λ w. pairRefused w (l .at)) (c .enum-told3 .given .1)) ∙ k ∙ sym (l .inv .0 ∙ pairs-last s 3 (l .left) (l .at) (c .before .before .before .before .loop-test .left))
 
 pub check-whole16-spec : {M : Type 1} → statement M
 check-whole16-spec =
@@ -122,5 +135,8 @@ check-whole16-spec =
     loop-again
     pair-of-bits-requires-2
     whole16-word-requires-2
+    enum-told-3
+    enum-told-4
     refused-requires-2
-    returns-3)
+    returns-3
+    returns-4)

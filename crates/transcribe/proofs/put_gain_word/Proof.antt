@@ -1,0 +1,83 @@
+-- `transcribe::put_gain_word` meets its contract. Assumes nothing.
+use Rattle.transcribe.proofs.CopiedLaws.{content-parts, gain-copied}
+use Rattle.transcribe.specs.Copied.{sampleContent}
+use Rattle.numbers.proofs.Filling.{behind-first}
+use mathlib.Core.Path.{ap, _∙_}
+use borrow.Author.Needs.{needs}
+use Rattle.transcribe.proofs.put_gain_word.Statement.{statement}
+use Rattle.transcribe.proofs.put_gain_word.Tie as tie
+
+shared-slice-read-gain-or-zero : tie.Need-shared-slice-read-gain-or-zero
+shared-slice-read-gain-or-zero c = search needs
+
+add-gain-or-zero : tie.Need-add-gain-or-zero
+add-gain-or-zero c = search needs
+
+shared-slice-read-gain-or-zero-2 : tie.Need-shared-slice-read-gain-or-zero-2
+shared-slice-read-gain-or-zero-2 c = search needs
+
+gain-or-zero-requires : tie.Need-gain-or-zero-requires
+gain-or-zero-requires c κs = search needs
+
+sub-put-mantissa : tie.Need-sub-put-mantissa
+sub-put-mantissa c = search needs
+
+part-put-mantissa-start : tie.Need-part-put-mantissa-start
+part-put-mantissa-start c = search needs
+
+part-put-mantissa-end : tie.Need-part-put-mantissa-end
+part-put-mantissa-end c = search needs
+
+put-mantissa-requires : tie.Need-put-mantissa-requires
+put-mantissa-requires c κs = search needs
+
+add-word16-at : tie.Need-add-word16-at
+add-word16-at c = search needs
+
+word16-at-requires : tie.Need-word16-at-requires
+word16-at-requires c κs = search needs
+
+sub-put-exponent : tie.Need-sub-put-exponent
+sub-put-exponent c = search needs
+
+part-put-exponent-start : tie.Need-part-put-exponent-start
+part-put-exponent-start c = search needs
+
+part-put-exponent-end : tie.Need-part-put-exponent-end
+part-put-exponent-end c = search needs
+
+put-exponent-requires : tie.Need-put-exponent-requires
+put-exponent-requires c κs = search needs
+
+same-length : tie.Need-same-length
+same-length c = search needs
+
+returns : tie.Need-returns
+returns c =
+    let p = (c .before .before .before .before .before .before .before .before .before) in
+    let s = (c .before .before .before .before .before .before .before .before .before .before .before .before .before .before) in (
+      c .before .before .before .before .word16-at .ensures,
+      behind-first 2 4 (s .args .out .now) (s .pre .1) (c .before .before .before .before .before .before .before .put-mantissa .ensures) (c .before .before .put-exponent .ensures) ∙ content-parts (p .gain-or-zero .result)
+          ∙ ap sampleContent (p .gain-or-zero .ensures) ∙ gain-copied (s .args .reel .now) (s .args .at) (s .args .d) (s .pre .2),
+    )
+
+pub put-gain-word-spec : {M : Type 1} → statement M
+put-gain-word-spec =
+    tie.close
+    (tie.spec
+    shared-slice-read-gain-or-zero
+    add-gain-or-zero
+    shared-slice-read-gain-or-zero-2
+    gain-or-zero-requires
+    sub-put-mantissa
+    part-put-mantissa-start
+    part-put-mantissa-end
+    put-mantissa-requires
+    add-word16-at
+    word16-at-requires
+    sub-put-exponent
+    part-put-exponent-start
+    part-put-exponent-end
+    put-exponent-requires
+    same-length
+    returns)

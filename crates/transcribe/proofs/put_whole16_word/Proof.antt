@@ -1,0 +1,67 @@
+-- `transcribe::put_whole16_word` meets its contract. Assumes nothing.
+use Rattle.transcribe.proofs.CopiedLaws.{content-parts}
+use Rattle.transcribe.specs.Copied.{sampleContent}
+use Rattle.numbers.proofs.Filling.{behind-first}
+use mathlib.Core.Path.{ap, _∙_}
+use borrow.Author.Needs.{needs}
+use Rattle.transcribe.proofs.put_whole16_word.Statement.{statement}
+use Rattle.transcribe.proofs.put_whole16_word.Tie as tie
+
+whole16-requires : tie.Need-whole16-requires
+whole16-requires c κs = search needs
+
+sub-put-mantissa : tie.Need-sub-put-mantissa
+sub-put-mantissa c = search needs
+
+part-put-mantissa-start : tie.Need-part-put-mantissa-start
+part-put-mantissa-start c = search needs
+
+part-put-mantissa-end : tie.Need-part-put-mantissa-end
+part-put-mantissa-end c = search needs
+
+put-mantissa-requires : tie.Need-put-mantissa-requires
+put-mantissa-requires c κs = search needs
+
+word16-at-requires : tie.Need-word16-at-requires
+word16-at-requires c κs = search needs
+
+sub-put-exponent : tie.Need-sub-put-exponent
+sub-put-exponent c = search needs
+
+part-put-exponent-start : tie.Need-part-put-exponent-start
+part-put-exponent-start c = search needs
+
+part-put-exponent-end : tie.Need-part-put-exponent-end
+part-put-exponent-end c = search needs
+
+put-exponent-requires : tie.Need-put-exponent-requires
+put-exponent-requires c κs = search needs
+
+same-length : tie.Need-same-length
+same-length c = search needs
+
+returns : tie.Need-returns
+returns c =
+    let p = (c .before .before .before .before .before .before .before .before .before) in
+    let s = (c .before .before .before .before .before .before .before .before .before .before .before .before) in (
+      c .before .before .before .before .word16-at .ensures,
+      behind-first 2 4 (s .args .out .now) (s .pre .1) (c .before .before .before .before .before .before .before .put-mantissa .ensures) (c .before .before .put-exponent .ensures) ∙ content-parts (p .whole16 .result)
+          ∙ ap sampleContent (p .whole16 .ensures),
+    )
+
+pub put-whole16-word-spec : {M : Type 1} → statement M
+put-whole16-word-spec =
+    tie.close
+    (tie.spec
+    whole16-requires
+    sub-put-mantissa
+    part-put-mantissa-start
+    part-put-mantissa-end
+    put-mantissa-requires
+    word16-at-requires
+    sub-put-exponent
+    part-put-exponent-start
+    part-put-exponent-end
+    put-exponent-requires
+    same-length
+    returns)
