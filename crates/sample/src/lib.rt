@@ -330,10 +330,7 @@ fn whole_below(o: u32, k: u32, limit: u64) -> Whole
     requires { ⌜ (o % 2 ≡ 1) × (limit ≤ 2 ^ 32) ⌝ }
     ensures { λ r. ⌜ WholeBelow o k limit r ⌝ }
 {
-    if k < DENOMINATOR_POWER {
-        return Whole::Beyond;
-    }
-    let up = k - DENOMINATOR_POWER;
+    let up = std::num::wrapping_sub_u32(k, DENOMINATOR_POWER);
     if 32 <= up {
         return Whole::Beyond;
     }
