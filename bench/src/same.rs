@@ -26,8 +26,9 @@ const PAIR_BYTES: usize = 6;
 const RECORD_HEAD: usize = 2 * FIELD_HEAD + CARD_BYTES + BINARY_FIELDS;
 const RECORD_END: usize = FIELD_HEAD + 4;
 
-const DENOMINATOR_POWER: u32 = 280;
-const HIGHEST_SHIFT: u32 = 531;
+const DENOMINATOR_POWER: i32 = 280;
+const LEAST_EXPONENT: i16 = -280;
+const MOST_EXPONENT: i16 = 251;
 const NOT_CANONICAL: u64 = 13;
 const UNFIT: u64 = 14;
 
@@ -208,41 +209,45 @@ struct Pair {
     m: i32,
 }
 
-/// The canonical pair of ± `magnitude` × 2^(`power` - 280).
+/// The canonical pair of `number` × 2^`exponent`: the power of two is counted out of the number.
+/// Signs and zeros come in no order that a processor could foresee, so neither is branched on.
 #[inline(always)]
-fn canonical(negative: bool, magnitude: u32, power: u32) -> Pair {
-    if magnitude == 0 {
-        return Pair { e: 0, m: 0 };
-    }
-    let twos = magnitude.trailing_zeros();
-    let odd = (magnitude >> twos) as i32;
+fn canonical(number: i32, exponent: i32) -> Pair {
+    let twos = number.trailing_zeros();
+    let e = exponent as i16 + twos as i16;
     Pair {
-        e: (power + twos) as i16 - DENOMINATOR_POWER as i16,
-        m: if negative { -odd } else { odd },
+        e: if number == 0 { 0 } else { e },
+        m: number.wrapping_shr(twos),
     }
 }
 
+/// Sign and magnitude.
 #[inline(always)]
 fn ibm(word: u32) -> Pair {
-    canonical(word >> 31 != 0, word & 0xFF_FFFF, (word >> 24 & 0x7F) * 4)
+    let magnitude = (word & 0xFF_FFFF) as i32;
+    let number = if word >> 31 == 0 {
+        magnitude
+    } else {
+        -magnitude
+    };
+    canonical(number, (word >> 24 & 0x7F) as i32 * 4 - DENOMINATOR_POWER)
 }
 
 #[inline(always)]
-fn whole32(n: i32) -> Pair {
-    canonical(n < 0, n.unsigned_abs(), DENOMINATOR_POWER)
+fn whole32(number: i32) -> Pair {
+    canonical(number, 0)
 }
 
 #[inline(always)]
-fn whole16(n: i16) -> Pair {
-    canonical(n < 0, u32::from(n.unsigned_abs()), DENOMINATOR_POWER)
+fn whole16(number: i16) -> Pair {
+    canonical(i32::from(number), 0)
 }
 
 /// The first byte has been found to be 00.
 #[inline(always)]
 fn gain([_, g, high, low]: [u8; 4]) -> Pair {
-    let d = i16::from_be_bytes([high, low]);
-    let power = DENOMINATOR_POWER - u32::from(g);
-    canonical(d < 0, u32::from(d.unsigned_abs()), power)
+    let number = i16::from_be_bytes([high, low]);
+    canonical(i32::from(number), -i32::from(g))
 }
 
 // ## Writing
@@ -332,10 +337,9 @@ fn check_form(
 ) -> Result<(), Refused> {
     while more(record, traces, at) {
         let pairs = check_head(record, count, interval, at)?;
-        let canonical = |pair| !matches!(Pair::of(pair).parts(), Parts::NotCanonical);
         if let Some(k) = pairs
             .chunks_exact(PAIR_BYTES)
-            .position(|pair| !canonical(pair))
+            .position(|pair| !Pair::of(pair).is_canonical())
         {
             return refused(13, at + 2 * FIELD_HEAD + TRACE_FIELDS + PAIR_BYTES * k);
         }
@@ -379,12 +383,17 @@ fn check_field(record: &[u8], at: usize, tag: u8, size: usize) -> Result<&[u8], 
 }
 
 /// The first pair that is refused, with the number of the cause.
-fn first_refused(
+fn first_refused<const W: usize>(
     pairs: &[u8],
-    word_of: impl Fn(Pair) -> Result<u32, u64>,
+    word_of: impl Fn(Pair) -> Option<[u8; W]>,
 ) -> Result<(), (u64, usize)> {
-    for (k, pair) in pairs.chunks_exact(PAIR_BYTES).enumerate() {
-        word_of(Pair::of(pair)).map_err(|number| (number, k))?;
+    for (k, pair) in pairs.chunks_exact(PAIR_BYTES).map(Pair::of).enumerate() {
+        if !pair.is_canonical() {
+            return Err((NOT_CANONICAL, k));
+        }
+        if word_of(pair).is_none() {
+            return Err((UNFIT, k));
+        }
     }
     Ok(())
 }
@@ -409,40 +418,26 @@ fn put_reel(record: &[u8], code: u32, samples: usize, stride: usize, out: &mut [
 
         let pairs = &held[2 * FIELD_HEAD + TRACE_FIELDS..];
         match code {
-            1 => put_words(pairs, words, |pair| word(pair.ibm_word())),
-            2 => put_words(pairs, words, |pair| word(pair.whole32_word())),
-            3 => put_words(pairs, words, |pair| {
-                let [high, low, ..] = word(pair.whole16_word());
-                [high, low]
-            }),
-            _ => put_words(pairs, words, |pair| word(pair.gain_word())),
+            1 => put_words(pairs, words, Pair::ibm_word),
+            2 => put_words(pairs, words, Pair::whole32_word),
+            3 => put_words(pairs, words, Pair::whole16_word),
+            _ => put_words(pairs, words, Pair::gain_word),
         }
     }
 }
 
-/// The bytes of a word that the first pass has found to be there.
-fn word(bits: Result<u32, u64>) -> [u8; 4] {
-    bits.unwrap_or(0).to_be_bytes()
-}
-
-fn put_words<const W: usize>(pairs: &[u8], words: &mut [u8], word_of: impl Fn(Pair) -> [u8; W]) {
+/// The first pass has found that each pair has a word.
+fn put_words<const W: usize>(
+    pairs: &[u8],
+    words: &mut [u8],
+    word_of: impl Fn(Pair) -> Option<[u8; W]>,
+) {
     for (pair, word) in pairs
         .chunks_exact(PAIR_BYTES)
         .zip(words.chunks_exact_mut(W))
     {
-        word.copy_from_slice(&word_of(Pair::of(pair)));
+        word.copy_from_slice(&word_of(Pair::of(pair)).unwrap_or([0; W]));
     }
-}
-
-/// A pair taken apart: not canonical, zero, or ± `odd` × 2^(`power` - 280).
-enum Parts {
-    NotCanonical,
-    Zero,
-    Odd {
-        negative: bool,
-        odd: u32,
-        power: u32,
-    },
 }
 
 impl Pair {
@@ -455,105 +450,63 @@ impl Pair {
         }
     }
 
+    /// The most negative mantissa is even, so an odd one is within its limits.
     #[inline(always)]
-    fn parts(self) -> Parts {
-        let odd = self.m.unsigned_abs();
-        if odd == 0 {
-            return if self.e == 0 {
-                Parts::Zero
-            } else {
-                Parts::NotCanonical
-            };
-        }
-        let power = u32::from((self.e as u16).wrapping_add(DENOMINATOR_POWER as u16));
-        if odd % 2 == 0 || power > HIGHEST_SHIFT {
-            return Parts::NotCanonical;
-        }
-        Parts::Odd {
-            negative: self.m < 0,
-            odd,
-            power,
-        }
-    }
-
-    #[inline(always)]
-    fn word_by(self, word_of: impl Fn(bool, u32, u32) -> Result<u32, u64>) -> Result<u32, u64> {
-        match self.parts() {
-            Parts::NotCanonical => Err(NOT_CANONICAL),
-            Parts::Zero => Ok(0),
-            Parts::Odd {
-                negative,
-                odd,
-                power,
-            } => word_of(negative, odd, power),
+    fn is_canonical(self) -> bool {
+        if self.m == 0 {
+            self.e == 0
+        } else {
+            self.m % 2 != 0 && (LEAST_EXPONENT..=MOST_EXPONENT).contains(&self.e)
         }
     }
 
     /// The largest characteristic that leaves the fraction whole, then digit by digit down from it.
     #[inline(always)]
-    fn ibm_word(self) -> Result<u32, u64> {
-        self.word_by(|negative, odd, power| {
-            let top = (power / 4).min(127);
-            let wide = u64::from(odd) << (power - 4 * top);
-            if wide >= 1 << 24 {
-                return Err(UNFIT);
-            }
-            let fraction = wide as u32;
-            let digits = ((fraction.leading_zeros() - 8) / 4).min(top);
-            Ok(u32::from(negative) << 31 | (top - digits) << 24 | fraction << (4 * digits))
-        })
+    fn ibm_word(self) -> Option<[u8; 4]> {
+        if self.m == 0 {
+            return Some([0; 4]);
+        }
+        let power = (i32::from(self.e) + DENOMINATOR_POWER) as u32;
+        let top = (power / 4).min(127);
+        let wide = u64::from(self.m.unsigned_abs()) << (power - 4 * top).min(32);
+        if wide >= 1 << 24 {
+            return None;
+        }
+        let fraction = wide as u32;
+        let digits = ((fraction.leading_zeros() - 8) / 4).min(top);
+        let sign = self.m as u32 & 0x8000_0000;
+        Some((sign | (top - digits) << 24 | fraction << (4 * digits)).to_be_bytes())
     }
 
     #[inline(always)]
-    fn whole32_word(self) -> Result<u32, u64> {
-        self.word_by(|negative, odd, power| {
-            let limit = (1 << 31) + u64::from(negative);
-            let whole = whole_below(odd, power, limit).ok_or(UNFIT)?;
-            Ok(if negative {
-                whole.wrapping_neg()
-            } else {
-                whole
-            })
-        })
+    fn whole32_word(self) -> Option<[u8; 4]> {
+        let whole = i32::try_from(self.whole()?).ok()?;
+        Some(whole.to_be_bytes())
     }
 
     #[inline(always)]
-    fn whole16_word(self) -> Result<u32, u64> {
-        self.word_by(|negative, odd, power| {
-            let limit = (1 << 15) + u64::from(negative);
-            let whole = whole_below(odd, power, limit).ok_or(UNFIT)?;
-            let bits = if negative {
-                whole.wrapping_neg()
-            } else {
-                whole
-            };
-            Ok(bits << 16)
-        })
+    fn whole16_word(self) -> Option<[u8; 2]> {
+        let whole = i16::try_from(self.whole()?).ok()?;
+        Some(whole.to_be_bytes())
     }
 
+    /// The least gain that leaves the number whole.
     #[inline(always)]
-    fn gain_word(self) -> Result<u32, u64> {
-        self.word_by(|negative, odd, power| {
-            let gain = DENOMINATOR_POWER.saturating_sub(power);
-            if gain > 255 {
-                return Err(UNFIT);
-            }
-            let limit = (1 << 15) + u64::from(negative);
-            let whole = whole_below(odd, power + gain, limit).ok_or(UNFIT)?;
-            let bits = if negative {
-                whole.wrapping_neg()
-            } else {
-                whole
-            };
-            Ok(gain << 16 | bits & 0xFFFF)
-        })
+    fn gain_word(self) -> Option<[u8; 4]> {
+        let gain = (-self.e).max(0);
+        let number = Pair {
+            e: self.e + gain,
+            m: self.m,
+        };
+        let gain = u8::try_from(gain).ok()?;
+        let [high, low] = i16::try_from(number.whole()?).ok()?.to_be_bytes();
+        Some([0, gain, high, low])
     }
-}
 
-/// `odd` × 2^(`power` - 280), where that is a whole number below a limit of at most 2^32.
-#[inline(always)]
-fn whole_below(odd: u32, power: u32, limit: u64) -> Option<u32> {
-    let shift = power.checked_sub(DENOMINATOR_POWER)?;
-    let whole = u64::from(odd) << shift.min(32);
-    (whole < limit).then_some(whole as u32)
+    /// The value, where it is whole; one beyond 32 bits where it is far beyond.
+    #[inline(always)]
+    fn whole(self) -> Option<i64> {
+        let twos = u32::try_from(self.e).ok()?;
+        Some(i64::from(self.m) << twos.min(32))
+    }
 }
