@@ -493,13 +493,10 @@ impl Pair {
     /// The least gain that leaves the number whole.
     #[inline(always)]
     fn gain_word(self) -> Option<[u8; 4]> {
-        let gain = (-self.e).max(0);
-        let number = Pair {
-            e: self.e + gain,
-            m: self.m,
-        };
-        let gain = u8::try_from(gain).ok()?;
-        let [high, low] = i16::try_from(number.whole()?).ok()?.to_be_bytes();
+        let twos = self.e.max(0);
+        let gain = u8::try_from(twos - self.e).ok()?;
+        let number = i64::from(self.m) << twos.min(32);
+        let [high, low] = i16::try_from(number).ok()?.to_be_bytes();
         Some([0, gain, high, low])
     }
 
