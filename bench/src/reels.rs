@@ -13,7 +13,7 @@ pub const SAMPLES: [&str; 4] = [
 ];
 
 /// Knuth's multiplier and increment, and the permuted output of O'Neill's PCG.
-struct Random(u64);
+pub struct Random(pub u64);
 
 impl Random {
     fn next(&mut self) -> u32 {
@@ -25,8 +25,8 @@ impl Random {
         mixed.rotate_right((state >> 59) as u32)
     }
 
-    fn below(&mut self, limit: u32) -> u32 {
-        (u64::from(self.next()) * u64::from(limit) >> 32) as u32
+    pub fn below(&mut self, limit: u32) -> u32 {
+        ((u64::from(self.next()) * u64::from(limit)) >> 32) as u32
     }
 
     fn word(&mut self, code: u32) -> [u8; 4] {

@@ -2,6 +2,9 @@
 //! second writing into the lent buffer, with the same steps for each sample. It is what the proved
 //! code would be if a Rust programmer had written it, and is measured beside it.
 
+#[cfg(test)]
+mod tests;
+
 use independent::{Refused, Taken};
 
 const CARD_BYTES: usize = 3_200;
