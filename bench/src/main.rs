@@ -290,23 +290,47 @@ impl Drop for File {
     }
 }
 
-/// The library on reels of code 1 that grow.
+/// The library on reels of code 1 that grow, all in turn in each run; the best run counts.
 fn growth(options: &Options) {
-    let mut rows = Vec::new();
     let most = options.megabytes.unwrap_or(usize::MAX);
-    for megabytes in SIZES.into_iter().filter(|&size| size <= most) {
-        let reel = reels::make(1, SAMPLES_IN_GROWTH, megabytes * MEGABYTE);
-        let mut record = vec![1; record_length(&reel, 1)];
-        let mut out = vec![1; reel.len()];
-        let runs = options.runs.max(100 / megabytes);
-        let fastest = |seconds: &mut dyn FnMut() -> f64| {
-            (0..runs).map(|_| seconds()).fold(f64::INFINITY, f64::min)
-        };
-        let read = fastest(&mut || timed(Who::Library, Call::Read, 1, &reel, &mut record));
-        let write = fastest(&mut || timed(Who::Library, Call::Write, 1, &record, &mut out));
-        rows.push((megabytes, reel.len(), read, write));
+    let mut grown: Vec<Grown> = SIZES
+        .into_iter()
+        .filter(|&size| size <= most)
+        .map(|megabytes| {
+            let reel = reels::make(1, SAMPLES_IN_GROWTH, megabytes * MEGABYTE);
+            Grown {
+                megabytes,
+                record: vec![1; record_length(&reel, 1)],
+                reel,
+                seconds: [f64::INFINITY; 2],
+            }
+        })
+        .collect();
+    let mut out = vec![1; grown.iter().map(|one| one.reel.len()).max().unwrap_or(0)];
+    for _ in 0..options.runs {
+        for Grown {
+            megabytes,
+            reel,
+            record,
+            seconds: [read, write],
+        } in &mut grown
+        {
+            // A short call is made more often.
+            for _ in 0..(16 / *megabytes).max(1) {
+                *read = read.min(timed(Who::Library, Call::Read, 1, reel, record));
+                *write = write.min(timed(Who::Library, Call::Write, 1, record, &mut out));
+            }
+        }
     }
-    tables::growth(&rows);
+    tables::growth(&grown);
+}
+
+/// A reel of a size and its record, with the best seconds of reading and of writing.
+struct Grown {
+    megabytes: usize,
+    reel: Vec<u8>,
+    record: Vec<u8>,
+    seconds: [f64; 2],
 }
 
 /// One call, once: for counting instructions. What it works on is made by the independent

@@ -471,7 +471,7 @@ impl Pair {
         }
         let power = (i32::from(self.e) + DENOMINATOR_POWER) as u32;
         let top = (power / 4).min(127);
-        let wide = u64::from(self.m.unsigned_abs()) << (power - 4 * top).min(32);
+        let wide = u64::from(self.m.unsigned_abs()) << (power - 4 * top);
         if wide >= 1 << 24 {
             return None;
         }

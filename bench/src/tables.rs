@@ -1,6 +1,6 @@
 //! What is printed, in Markdown, as docs/BENCHMARKS.md has it.
 
-use crate::{reels, Who, ALL};
+use crate::{reels, Grown, Who, ALL};
 
 #[derive(Clone, Copy, PartialEq)]
 pub enum Call {
@@ -78,17 +78,18 @@ pub fn untouched(rows: &[Row]) {
     }
 }
 
-/// By the size in megabytes: bytes, and seconds of reading and of writing.
-pub fn growth(rows: &[(usize, usize, f64, f64)]) {
+pub fn growth(grown: &[Grown]) {
     println!(
         "\nGrowth, the library on code 1, N = {}, ns for each byte of the reel:\n",
         crate::SAMPLES_IN_GROWTH
     );
     println!("| reel | reading | writing |");
     println!("|---|---|---|");
-    for &(megabytes, bytes, read, write) in rows {
-        let [read, write] = [read, write].map(|seconds| seconds * 1e9 / bytes as f64);
-        println!("| {megabytes} MB | {read:.3} | {write:.3} |");
+    for one in grown {
+        let [read, write] = one
+            .seconds
+            .map(|seconds| seconds * 1e9 / one.reel.len() as f64);
+        println!("| {} MB | {read:.3} | {write:.3} |", one.megabytes);
     }
 }
 
