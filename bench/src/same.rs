@@ -1,6 +1,7 @@
-//! The library's own algorithm in plain release Rust: two passes, the first over all causes, the
-//! second writing into the lent buffer, with the same steps for each sample. It is what the proved
-//! code would be if a Rust programmer had written it, and is measured beside it.
+//! The library's two passes in plain release Rust: the first over all causes, the second writing
+//! into the lent buffer. It is no line by line copy but what a Rust programmer would make of it and
+//! tune: signed numbers in place of sign and magnitude, no branch on a sign, and no test for a
+//! canonical pair in the second pass, for which the first has looked.
 
 #[cfg(test)]
 mod tests;
