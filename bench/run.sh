@@ -1,0 +1,23 @@
+#!/bin/sh
+# Builds the benchmark and prints the tables of docs/BENCHMARKS.md, from any current directory. The
+# static library is made first where it is missing. Nothing else should run meanwhile.
+#
+#   sh bench/run.sh                         the whole
+#   sh bench/run.sh --mb 16 --runs 3        on reels of 16 MB and less, to try it
+set -eu
+cd "$(dirname "$0")/.."
+
+[ -f target/staticlib/libaukpocket.a ] || rt staticlib aukpocket >&2
+cargo build --release --offline --quiet --manifest-path bench/Cargo.toml --target-dir target/bench
+
+# segyio is a Debian package, python3-segyio, of the system's own Python.
+reader=''
+for python in python3 /usr/bin/python3; do
+    if [ -z "$reader" ] && "$python" -c 'import segyio' 2>/dev/null; then reader=$python; fi
+done
+
+model=$(sed -n 's/^model name[^:]*: *//p' /proc/cpuinfo | head -n 1)
+memory=$(awk '/^MemTotal/ { printf "%.0f", $2 / 1e6 }' /proc/meminfo)
+echo "Processor: $model, $(nproc) cores; memory: $memory GB; $(rustc --version | cut -d ' ' -f 1-2)."
+target/bench/release/bench ${reader:+--segyio "$reader"} "$@"
+target/bench/release/bench growth "$@"

@@ -1,0 +1,370 @@
+//! Measures the library's reading and writing of whole reels beside other ways to do the same.
+
+mod library;
+mod reels;
+mod same;
+mod segyio;
+mod tables;
+
+use independent::{Refused, Taken};
+use segyio::Segyio;
+use std::hint::black_box;
+use std::path::PathBuf;
+use std::time::Instant;
+use std::{env, fs, process};
+use tables::{Call, Row};
+
+const USAGE: &str = "usage: bench [--mb SIZE] [--runs COUNT] [--codes 1,2,3,4] [--segyio PYTHON]
+       bench growth [--mb MOST] [--runs COUNT]
+       bench one read|write CODE [--mb SIZE] [--who library|same|independent]";
+
+/// N of the reels that are compared.
+const SAMPLES: u16 = 2_000;
+
+/// N of the reels that grow: a reel of 1,000 MB then has fewer than 100,000 traces.
+const SAMPLES_IN_GROWTH: u16 = 2_500;
+
+const MEGABYTE: usize = 1_000_000;
+
+/// The sizes, in megabytes, of the reels that are compared and of those that grow.
+const SIZE: usize = 256;
+const SIZES: [usize; 6] = [1, 4, 16, 64, 256, 1_000];
+
+type Answer = Result<Taken, Refused>;
+
+/// Who is measured, in the order of the tables.
+#[derive(Clone, Copy, PartialEq)]
+enum Who {
+    Library,
+    Same,
+    Independent,
+    Memcpy,
+    SegyioFile,
+    SegyioConversion,
+}
+
+const ALL: [Who; 6] = [
+    Who::Library,
+    Who::Same,
+    Who::Independent,
+    Who::Memcpy,
+    Who::SegyioFile,
+    Who::SegyioConversion,
+];
+
+struct Options {
+    words: Vec<String>,
+    megabytes: Option<usize>,
+    runs: usize,
+    codes: Vec<u32>,
+    who: Who,
+    python: Option<String>,
+}
+
+fn main() {
+    let Some(options) = options() else {
+        usage();
+    };
+    let words: Vec<&str> = options.words.iter().map(String::as_str).collect();
+    match words[..] {
+        [] => compare(&options),
+        ["growth"] => growth(&options),
+        ["one", call, code] => {
+            let call = match call {
+                "read" => Call::Read,
+                "write" => Call::Write,
+                _ => usage(),
+            };
+            one(&options, call, code_of(code).unwrap_or_else(|| usage()));
+        }
+        _ => usage(),
+    }
+}
+
+fn usage() -> ! {
+    eprintln!("{USAGE}");
+    process::exit(1);
+}
+
+fn options() -> Option<Options> {
+    let mut options = Options {
+        words: Vec::new(),
+        megabytes: None,
+        runs: 7,
+        codes: vec![1, 2, 3, 4],
+        who: Who::Library,
+        python: None,
+    };
+    let mut arguments = env::args().skip(1);
+    while let Some(argument) = arguments.next() {
+        match argument.as_str() {
+            "--mb" => options.megabytes = Some(count_of(&arguments.next()?)?),
+            "--runs" => options.runs = count_of(&arguments.next()?)?,
+            "--codes" => {
+                options.codes = arguments
+                    .next()?
+                    .split(',')
+                    .map(code_of)
+                    .collect::<Option<_>>()?
+            }
+            "--segyio" => options.python = Some(arguments.next()?),
+            "--who" => {
+                options.who = match arguments.next()?.as_str() {
+                    "library" => Who::Library,
+                    "same" => Who::Same,
+                    "independent" => Who::Independent,
+                    _ => return None,
+                }
+            }
+            _ if argument.starts_with('-') => return None,
+            _ => options.words.push(argument),
+        }
+    }
+    Some(options)
+}
+
+fn count_of(text: &str) -> Option<usize> {
+    text.parse().ok().filter(|&count| count > 0)
+}
+
+fn code_of(text: &str) -> Option<u32> {
+    text.parse().ok().filter(|code| (1..=4).contains(code))
+}
+
+/// One call of a Rust contender or of the library.
+fn call(who: Who, call: Call, code: u32, input: &[u8], out: &mut [u8]) -> Answer {
+    match (who, call) {
+        (Who::Library, Call::Read) => library::read_reel(input, out),
+        (Who::Library, Call::Write) => library::write_reel(input, code, out),
+        (Who::Same, Call::Read) => same::read_reel(input, out),
+        (Who::Same, Call::Write) => same::write_reel(input, code, out),
+        (Who::Independent, Call::Read) => independent::read_reel(input, out),
+        (Who::Independent, Call::Write) => independent::write_reel(input, code, out),
+        _ => unreachable!("it has no such call"),
+    }
+}
+
+/// The seconds of a call that is taken.
+fn timed(who: Who, what: Call, code: u32, input: &[u8], out: &mut [u8]) -> f64 {
+    let start = Instant::now();
+    let answer = call(who, what, code, black_box(input), black_box(out));
+    let seconds = start.elapsed().as_secs_f64();
+    assert!(black_box(answer).is_ok());
+    seconds
+}
+
+/// The seconds of copying the reel's bytes.
+fn timed_copy(reel: &[u8], out: &mut [u8]) -> f64 {
+    let start = Instant::now();
+    black_box(&mut out[..reel.len()]).copy_from_slice(black_box(reel));
+    start.elapsed().as_secs_f64()
+}
+
+fn record_length(reel: &[u8], code: u32) -> usize {
+    let samples = usize::from(u16::from_be_bytes([reel[3_220], reel[3_221]]));
+    let width = if code == 3 { 2 } else { 4 };
+    let traces = (reel.len() - 3_600) / (240 + samples * width);
+    3_273 + traces * (186 + 6 * samples)
+}
+
+/// Every contender on every code, all in turn in each run; the best run counts.
+fn compare(options: &Options) {
+    let mut segyio = options.python.as_deref().map(Segyio::start);
+    let version = segyio.as_mut().map(|segyio| segyio.ask("version"));
+    let megabytes = options.megabytes.unwrap_or(SIZE);
+    tables::preface(megabytes, options.runs, version);
+
+    let mut rows = Vec::new();
+    let mut untouched = Vec::new();
+    for &code in &options.codes {
+        let reel = reels::make(code, SAMPLES, megabytes * MEGABYTE);
+        let mut record = vec![1; record_length(&reel, code)];
+        let file = segyio
+            .as_mut()
+            .filter(|_| code <= 3)
+            .map(|segyio| File::new(segyio, code, &reel));
+        let mut asked = file.map(|file| (segyio.as_mut().expect("it was started"), file));
+
+        let mut out = vec![1; record.len()];
+        agree(Call::Read, code, &reel, &mut record, &mut out);
+        rows.push(Row {
+            call: Call::Read,
+            code,
+            bytes: reel.len(),
+            seconds: best(options.runs, |who| match (who, &mut asked) {
+                (Who::Memcpy, _) => Some(timed_copy(&reel, &mut out)),
+                (Who::SegyioFile, Some((segyio, _))) => Some(segyio.seconds("read")),
+                (Who::SegyioConversion, Some((segyio, _))) => Some(segyio.seconds("convert")),
+                (Who::SegyioFile | Who::SegyioConversion, None) => None,
+                _ => Some(timed(who, Call::Read, code, &reel, &mut out)),
+            }),
+        });
+
+        let mut written = vec![1; reel.len()];
+        let mut out = vec![1; reel.len()];
+        agree(Call::Write, code, &record, &mut written, &mut out);
+        rows.push(Row {
+            call: Call::Write,
+            code,
+            bytes: reel.len(),
+            seconds: best(options.runs, |who| match (who, &mut asked) {
+                (Who::Memcpy, _) => Some(timed_copy(&reel, &mut out)),
+                (Who::SegyioFile, Some((segyio, _))) => Some(segyio.seconds("write")),
+                (Who::SegyioConversion, Some((segyio, _))) => Some(segyio.seconds("convert back")),
+                (Who::SegyioFile | Who::SegyioConversion, None) => None,
+                _ => Some(timed(who, Call::Write, code, &record, &mut out)),
+            }),
+        });
+
+        if code == 1 {
+            drop((out, written));
+            for (what, input, length) in [
+                (Call::Read, &reel, record.len()),
+                (Call::Write, &record, reel.len()),
+            ] {
+                untouched.push(Row {
+                    call: what,
+                    code,
+                    bytes: reel.len(),
+                    seconds: best(options.runs, |who| match who {
+                        // A buffer of that size comes with no page of it in memory yet.
+                        Who::Library | Who::Same => {
+                            let mut out = vec![0; length.max(64 * MEGABYTE)];
+                            Some(timed(who, what, code, input, &mut out))
+                        }
+                        _ => None,
+                    }),
+                });
+            }
+        }
+    }
+    tables::comparison(&rows);
+    tables::untouched(&untouched);
+}
+
+/// All have to give what the library gives, which is left in `given`.
+fn agree(what: Call, code: u32, input: &[u8], given: &mut [u8], out: &mut [u8]) {
+    let answer = call(Who::Library, what, code, input, given);
+    assert_eq!(answer.map(|taken| taken.length), Ok(given.len() as u64));
+    for who in [Who::Same, Who::Independent] {
+        out.fill(1);
+        assert_eq!(call(who, what, code, input, out), answer);
+        assert!(
+            *out == *given,
+            "{} gives other bytes",
+            tables::name(who, what)
+        );
+    }
+}
+
+fn best(runs: usize, mut seconds_of: impl FnMut(Who) -> Option<f64>) -> [Option<f64>; ALL.len()] {
+    let mut best = [None; ALL.len()];
+    for _ in 0..runs {
+        for (best, who) in best.iter_mut().zip(ALL) {
+            let seconds = seconds_of(who);
+            *best = match (*best, seconds) {
+                (Some(before), Some(now)) => Some(f64::min(before, now)),
+                _ => seconds,
+            };
+        }
+    }
+    best
+}
+
+/// A reel in a file, which goes with this.
+struct File(PathBuf);
+
+impl File {
+    fn new(segyio: &mut Segyio, code: u32, reel: &[u8]) -> File {
+        let path = env::temp_dir().join(format!("aukpocket-bench-{}.sgy", process::id()));
+        fs::write(&path, reel).expect("the folder for temporary files has room");
+        let file = File(path);
+        segyio.open(code, &file.0);
+        file
+    }
+}
+
+impl Drop for File {
+    fn drop(&mut self) {
+        let _ = fs::remove_file(&self.0);
+    }
+}
+
+/// The library on reels of code 1 that grow, all in turn in each run; the best run counts.
+fn growth(options: &Options) {
+    let most = options.megabytes.unwrap_or(usize::MAX);
+    let mut grown: Vec<Grown> = SIZES
+        .into_iter()
+        .filter(|&size| size <= most)
+        .map(|megabytes| {
+            let reel = reels::make(1, SAMPLES_IN_GROWTH, megabytes * MEGABYTE);
+            Grown {
+                megabytes,
+                record: vec![1; record_length(&reel, 1)],
+                reel,
+                seconds: [f64::INFINITY; 2],
+            }
+        })
+        .collect();
+    let mut out = vec![1; grown.iter().map(|one| one.reel.len()).max().unwrap_or(0)];
+    for _ in 0..options.runs {
+        for Grown {
+            megabytes,
+            reel,
+            record,
+            seconds: [read, write],
+        } in &mut grown
+        {
+            // A short call is made more often.
+            for _ in 0..(16 / *megabytes).max(1) {
+                *read = read.min(timed(Who::Library, Call::Read, 1, reel, record));
+                *write = write.min(timed(Who::Library, Call::Write, 1, record, &mut out));
+            }
+        }
+    }
+    tables::growth(&grown);
+}
+
+/// A reel of a size and its record, with the best seconds of reading and of writing.
+struct Grown {
+    megabytes: usize,
+    reel: Vec<u8>,
+    record: Vec<u8>,
+    seconds: [f64; 2],
+}
+
+/// One call, once: for counting instructions. What it works on is made by the independent
+/// implementation, so that the library is called for nothing else.
+fn one(options: &Options, what: Call, code: u32) {
+    let megabytes = options.megabytes.unwrap_or(SIZE);
+    let reel = reels::make(code, SAMPLES, megabytes * MEGABYTE);
+    let mut record = vec![1; record_length(&reel, code)];
+    let answer = match what {
+        Call::Read => call(
+            options.who,
+            what,
+            code,
+            black_box(&reel),
+            black_box(&mut record),
+        ),
+        Call::Write => {
+            independent::read_reel(&reel, &mut record).expect("a valid reel");
+            let mut out = vec![1; reel.len()];
+            call(
+                options.who,
+                what,
+                code,
+                black_box(&record),
+                black_box(&mut out),
+            )
+        }
+    };
+    let taken = answer.expect("a call that is taken");
+    println!(
+        "{}: {} traces of {} samples, {} bytes of reel",
+        tables::name(options.who, what),
+        taken.traces,
+        taken.samples,
+        reel.len()
+    );
+}

@@ -1,0 +1,87 @@
+//! The reels that are read and written, made on the spot and the same at every run.
+
+const REEL_HEADERS: usize = 3_600;
+const TRACE_HEADER: usize = 240;
+const INTERVAL: u16 = 2_000;
+
+/// What the samples of each code are, for the reader of a table.
+pub const SAMPLES: [&str; 4] = [
+    "normal IBM words, characteristics 58 to 70 (most near 64), both signs, random fractions; 1 in 64 is zero",
+    "32-bit numbers of 8 to 32 bits, both signs; 1 in 64 is zero",
+    "16-bit numbers of 4 to 16 bits, both signs; 1 in 64 is zero",
+    "gain words, gains 0 to 15, 16-bit numbers of both signs; 1 in 64 is zero",
+];
+
+/// Knuth's multiplier and increment, and the permuted output of O'Neill's PCG.
+pub struct Random(pub u64);
+
+impl Random {
+    fn next(&mut self) -> u32 {
+        let state = self.0;
+        self.0 = state
+            .wrapping_mul(6_364_136_223_846_793_005)
+            .wrapping_add(1_442_695_040_888_963_407);
+        let mixed = ((state >> 18 ^ state) >> 27) as u32;
+        mixed.rotate_right((state >> 59) as u32)
+    }
+
+    pub fn below(&mut self, limit: u32) -> u32 {
+        ((u64::from(self.next()) * u64::from(limit)) >> 32) as u32
+    }
+
+    fn word(&mut self, code: u32) -> [u8; 4] {
+        if self.below(64) == 0 {
+            return [0; 4];
+        }
+        match code {
+            1 => {
+                let characteristic = 58 + self.below(5) + self.below(5) + self.below(5);
+                let fraction = 0x10_0000 + self.below(0xF0_0000);
+                let sign = self.next() & 0x8000_0000;
+                (sign | characteristic << 24 | fraction).to_be_bytes()
+            }
+            2 => {
+                let number = self.next() as i32;
+                (number >> self.below(25)).to_be_bytes()
+            }
+            3 => {
+                let number = self.next() as i32 >> (16 + self.below(13));
+                ((number as u32) << 16).to_be_bytes()
+            }
+            _ => {
+                let number = self.next() & 0xFFFF;
+                (self.below(16) << 16 | number).to_be_bytes()
+            }
+        }
+    }
+}
+
+/// A reel of a code, of about so many bytes.
+pub fn make(code: u32, samples: u16, bytes: usize) -> Vec<u8> {
+    let width = if code == 3 { 2 } else { 4 };
+    let stride = TRACE_HEADER + usize::from(samples) * width;
+    let traces = (bytes.saturating_sub(REEL_HEADERS) / stride).max(1);
+    let mut reel = vec![0; REEL_HEADERS + traces * stride];
+    let mut random = Random(1975 + u64::from(code));
+
+    let (headers, behind) = reel.split_at_mut(REEL_HEADERS);
+    headers[..3_200].fill(0x40);
+    headers[3_216..3_218].copy_from_slice(&INTERVAL.to_be_bytes());
+    headers[3_220..3_222].copy_from_slice(&samples.to_be_bytes());
+    headers[3_224..3_226].copy_from_slice(&(code as u16).to_be_bytes());
+    for (trace, number) in behind.chunks_exact_mut(stride).zip(1u32..) {
+        let (header, words) = trace.split_at_mut(TRACE_HEADER);
+        for field in header[8..114].chunks_mut(4) {
+            let bytes = random.next().to_be_bytes();
+            field.copy_from_slice(&bytes[..field.len()]);
+        }
+        header[..4].copy_from_slice(&number.to_be_bytes());
+        header[4..8].copy_from_slice(&number.to_be_bytes());
+        header[114..116].copy_from_slice(&samples.to_be_bytes());
+        header[116..118].copy_from_slice(&INTERVAL.to_be_bytes());
+        for word in words.chunks_exact_mut(width) {
+            word.copy_from_slice(&random.word(code)[..width]);
+        }
+    }
+    reel
+}

@@ -1,0 +1,81 @@
+//! It answers as the independent implementation does, refusals and every byte of the output too.
+
+use crate::reels::{self, Random};
+
+const SAMPLES: u16 = 3;
+const BYTES: usize = 5_000;
+const DAMAGES: usize = 20_000;
+
+/// Changes some bytes, and the length now and then.
+fn damaged(random: &mut Random, bytes: &[u8]) -> Vec<u8> {
+    let mut bytes = bytes.to_vec();
+    for _ in 0..=random.below(3) {
+        // All cards are alike; the binary header has what the rest is judged by.
+        let (first, end) = match random.below(8) {
+            0 => (0, bytes.len()),
+            1 => (3_200, 3_235),
+            _ => (3_195, bytes.len()),
+        };
+        let place = first + random.below((end - first) as u32) as usize;
+        bytes[place] = match random.below(4) {
+            0 => 0,
+            1 => bytes[place] ^ 1 << random.below(8),
+            2 => random.below(6) as u8,
+            _ => random.below(256) as u8,
+        };
+    }
+    match random.below(16) {
+        0 => bytes.truncate(random.below(bytes.len() as u32) as usize),
+        1 => bytes.push(random.below(256) as u8),
+        _ => {}
+    }
+    bytes
+}
+
+#[test]
+fn reading_damaged_reels() {
+    let mut random = Random(1);
+    let mut causes = [0; 17];
+    for code in 1..=4 {
+        let reel = reels::make(code, SAMPLES, BYTES);
+        for _ in 0..DAMAGES {
+            let reel = damaged(&mut random, &reel);
+            let room = 7_000 - random.below(3_000) as usize;
+            let (mut ours, mut theirs) = (vec![0xA5; room], vec![0xA5; room]);
+            let answer = super::read_reel(&reel, &mut ours);
+            assert_eq!(answer, independent::read_reel(&reel, &mut theirs));
+            assert!(ours == theirs);
+            causes[answer.map_or_else(|refused| refused.number, |_| 0) as usize] += 1;
+        }
+    }
+    for number in [0, 1, 2, 3, 4, 5, 7, 8, 9, 10] {
+        assert!(causes[number] > 50, "{causes:?}");
+    }
+}
+
+#[test]
+fn writing_damaged_records() {
+    let mut random = Random(2);
+    let mut causes = [0; 17];
+    for code in 1..=4 {
+        let reel = reels::make(code, SAMPLES, BYTES);
+        let mut record = vec![0; crate::record_length(&reel, code)];
+        independent::read_reel(&reel, &mut record).expect("a valid reel");
+        for _ in 0..DAMAGES {
+            let record = damaged(&mut random, &record);
+            let target = random.below(6);
+            let room = 7_000 - random.below(4_000) as usize;
+            let (mut ours, mut theirs) = (vec![0xA5; room], vec![0xA5; room]);
+            let answer = super::write_reel(&record, target, &mut ours);
+            assert_eq!(
+                answer,
+                independent::write_reel(&record, target, &mut theirs)
+            );
+            assert!(ours == theirs);
+            causes[answer.map_or_else(|refused| refused.number, |_| 0) as usize] += 1;
+        }
+    }
+    for number in [0, 10, 11, 12, 13, 14] {
+        assert!(causes[number] > 50, "{causes:?}");
+    }
+}

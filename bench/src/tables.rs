@@ -1,0 +1,119 @@
+//! What is printed, in Markdown, as docs/BENCHMARKS.md has it.
+
+use crate::{reels, Grown, Who, ALL};
+
+#[derive(Clone, Copy, PartialEq)]
+pub enum Call {
+    Read,
+    Write,
+}
+
+/// The best seconds of each contender, for a call on a reel of so many bytes.
+pub struct Row {
+    pub call: Call,
+    pub code: u32,
+    pub bytes: usize,
+    pub seconds: [Option<f64>; ALL.len()],
+}
+
+pub fn name(who: Who, call: Call) -> &'static str {
+    match (who, call) {
+        (Who::Library, _) => "library",
+        (Who::Same, _) => "same algorithm in Rust",
+        (Who::Independent, _) => "independent Rust",
+        (Who::Memcpy, _) => "memcpy of the reel",
+        (Who::SegyioFile, Call::Read) => "segyio, from a file",
+        (Who::SegyioFile, Call::Write) => "segyio, to a file",
+        (Who::SegyioConversion, _) => "segyio, conversion alone",
+    }
+}
+
+pub fn preface(megabytes: usize, runs: usize, segyio: Option<String>) {
+    println!(
+        "A reel of {megabytes} MB for each code, N = {}; best of {runs} runs, all contenders in turn in each run.",
+        crate::SAMPLES
+    );
+    println!(
+        "Every page of every buffer was touched before, but for the table that says otherwise."
+    );
+    match segyio {
+        Some(version) => println!("segyio is {version}."),
+        None => println!("segyio was not there."),
+    }
+    println!();
+    for (code, samples) in (1..).zip(reels::SAMPLES) {
+        println!("- Code {code}: {samples}.");
+    }
+}
+
+pub fn comparison(rows: &[Row]) {
+    for (call, title) in [(Call::Read, "Reading"), (Call::Write, "Writing")] {
+        println!("\n{title}, MB of reel a second:\n");
+        head(&ALL.map(|who| name(who, call)));
+        for row in rows.iter().filter(|row| row.call == call) {
+            line(row.code, &row.speeds(), |speed| format!("{speed:.0}"));
+        }
+        println!("\n{title}, the library's speed over that of the others:\n");
+        head(&ALL.map(|who| name(who, call))[1..]);
+        for row in rows.iter().filter(|row| row.call == call) {
+            line(row.code, &row.ratios()[1..], |ratio| format!("{ratio:.2}"));
+        }
+    }
+}
+
+pub fn untouched(rows: &[Row]) {
+    for row in rows {
+        if row.call == Call::Read {
+            println!("\nThe first call on an output buffer that was never touched, code 1, MB of reel a second:\n");
+            println!("| call | library | same algorithm in Rust |");
+            println!("|---|---|---|");
+        }
+        let speeds = row.speeds();
+        let [library, same] = [speeds[0], speeds[1]].map(|speed| speed.unwrap_or(f64::NAN));
+        let call = match row.call {
+            Call::Read => "reading",
+            Call::Write => "writing",
+        };
+        println!("| {call} | {library:.0} | {same:.0} |");
+    }
+}
+
+pub fn growth(grown: &[Grown]) {
+    println!(
+        "\nGrowth, the library on code 1, N = {}, ns for each byte of the reel:\n",
+        crate::SAMPLES_IN_GROWTH
+    );
+    println!("| reel | reading | writing |");
+    println!("|---|---|---|");
+    for one in grown {
+        let [read, write] = one
+            .seconds
+            .map(|seconds| seconds * 1e9 / one.reel.len() as f64);
+        println!("| {} MB | {read:.3} | {write:.3} |", one.megabytes);
+    }
+}
+
+impl Row {
+    fn speeds(&self) -> [Option<f64>; ALL.len()] {
+        self.seconds
+            .map(|seconds| Some(self.bytes as f64 / 1e6 / seconds?))
+    }
+
+    fn ratios(&self) -> [Option<f64>; ALL.len()] {
+        let library = self.seconds[0];
+        self.seconds.map(|seconds| Some(seconds? / library?))
+    }
+}
+
+fn head(names: &[&str]) {
+    println!("| code | {} |", names.join(" | "));
+    println!("|---{}|", "|---".repeat(names.len()));
+}
+
+fn line(code: u32, numbers: &[Option<f64>], text: impl Fn(f64) -> String) {
+    let cells: Vec<String> = numbers
+        .iter()
+        .map(|number| number.map_or("-".into(), &text))
+        .collect();
+    println!("| {code} | {} |", cells.join(" | "));
+}

@@ -1,0 +1,330 @@
+"""Reels that the command writes, opened by another reader, segyio.
+
+    python3 tests/segyio_reels.py PATH_OF_COMMAND
+
+The reels that the command is given are made here, but for examples/sample.sgy, and are the same at every run. The command reads each
+into a record and writes that as a reel again, in each of the codes 1 to 3 that holds its samples; segyio doesn't know code 4. What
+segyio finds in the written reel, cards, header fields and samples, is compared with the bytes of the reel that the command was given,
+by document 01's rules. So that no comparison is idle, copies of written reels with one bit changed must be found to differ.
+
+A sample of code 1 is compared where a 32-bit float, which segyio makes of it, holds its value; the others are counted. Prints one line
+and exits 0 if all agree; else prints the differences and exits 1. Without segyio it says so and exits 0.
+"""
+
+import importlib.util
+import math
+import random
+import struct
+import subprocess
+import sys
+import tempfile
+import warnings
+from fractions import Fraction
+from pathlib import Path
+
+SAMPLE = Path(__file__).resolve().parents[1] / "examples" / "sample.sgy"
+
+# The width of each assigned field, by its byte number.
+BINARY_FIELDS = {**dict.fromkeys((3201, 3205, 3209), 4), **dict.fromkeys(range(3213, 3261, 2), 2)}
+TRACE_FIELDS = {
+    **dict.fromkeys((*range(1, 26, 4), *range(37, 66, 4), *range(73, 86, 4)), 4),
+    **dict.fromkeys((29, 31, 33, 35, 69, 71, *range(89, 180, 2)), 2),
+}
+assert (len(BINARY_FIELDS), len(TRACE_FIELDS)) == (27, 71)
+INTERVAL, COUNT, CODE = 3217, 3221, 3225
+TRACE_COUNT, TRACE_INTERVAL = 115, 117
+
+TARGETS = (1, 2, 3)
+ENOUGH = 10_000  # samples to be compared under each of them
+SMALLEST_NORMAL_FLOAT = Fraction(1, 2 ** 126)
+
+
+def number(data, place, width):
+    return int.from_bytes(data[place : place + width], "big", signed=True)
+
+
+def put(header, field, what):
+    """A number in two bytes, by the byte number where they begin in the header."""
+    header[field - 1 : field + 1] = what.to_bytes(2, "big")
+
+
+def width_of(code):
+    return 2 if code == 3 else 4
+
+
+class Reel:
+    """A reel's bytes, taken apart."""
+
+    def __init__(self, data):
+        self.data = data
+        self.code, self.n, self.interval = (number(data, field - 1, 2) for field in (CODE, COUNT, INTERVAL))
+        size = 240 + self.n * width_of(self.code)
+        assert (len(data) - 3600) % size == 0
+        self.traces = [data[place : place + size] for place in range(3600, len(data), size)]
+
+    def cards(self):
+        return bytes(byte or 0x40 for byte in self.data[:3200])
+
+    def binary_header(self, target):
+        """As it is written in a target code: unassigned bytes are 00."""
+        header = bytearray(self.data[3200:3260] + bytes(340))
+        put(header, CODE - 3200, target)
+        return bytes(header)
+
+    def trace_header(self, trace):
+        """As it is written: the reel's own numbers for 0, and unassigned bytes are 00."""
+        header = bytearray(trace[:180] + bytes(60))
+        for field, own in ((TRACE_COUNT, self.n), (TRACE_INTERVAL, self.interval)):
+            if number(header, field - 1, 2) == 0:
+                put(header, field, own)
+        return bytes(header)
+
+    def values(self, trace):
+        width = width_of(self.code)
+        return [value(self.code, trace[place : place + width]) for place in range(240, len(trace), width)]
+
+
+def value(code, word):
+    """The exact value of a word."""
+    if code == 1:
+        magnitude = int.from_bytes(word[1:], "big") * Fraction(16) ** (word[0] % 128 - 70)
+        return -magnitude if word[0] >= 128 else magnitude
+    if code == 4:
+        assert word[0] == 0
+        return Fraction(number(word, 2, 2), 2 ** word[1])
+    return Fraction(number(word, 0, len(word)))
+
+
+# The reels that the command is given.
+
+
+def some_ibm(rnd):
+    return rnd.randbytes(4)
+
+
+def float_ibm(rnd):
+    """A normal word whose value is in a float's normal range."""
+    return bytes([rnd.choice((0, 128)) + rnd.randrange(34, 97), rnd.randrange(16, 256)]) + rnd.randbytes(2)
+
+
+def whole_ibm(rnd):
+    """A 16-bit number, its fraction as it is or moved up by some digits."""
+    n = rnd.randrange(-(2 ** 15), 2 ** 15) >> rnd.randrange(16)
+    fraction, characteristic = abs(n), 70
+    while fraction < 2 ** 20 and rnd.randrange(4):
+        fraction, characteristic = 16 * fraction, characteristic - 1
+    sign = 128 if n < 0 or n == 0 and rnd.randrange(2) else 0
+    return bytes([sign + characteristic]) + fraction.to_bytes(3, "big")
+
+
+def some_32(rnd):
+    return rnd.randbytes(4)
+
+
+def short_32(rnd):
+    """A 24-bit number times a power of 16, which an IBM word has too."""
+    return (rnd.randrange(-(2 ** 23), 2 ** 23) * 16 ** rnd.randrange(3)).to_bytes(4, "big", signed=True)
+
+
+def some_16(rnd):
+    return rnd.randbytes(2)
+
+
+def some_gain(rnd):
+    return bytes([0, rnd.randrange(100)]) + rnd.randbytes(2)
+
+
+def whole_gain(rnd):
+    gain = rnd.randrange(12)
+    whole = rnd.randrange(-(2 ** 15), 2 ** 15) >> gain
+    return bytes([0, gain]) + (whole << gain).to_bytes(2, "big", signed=True)
+
+
+# What the samples are, code, N, T, and the codes from 1 to 3 that hold them.
+MADE = (
+    (some_ibm, 1, 201, 11, (1,)),
+    (float_ibm, 1, 1333, 9, (1,)),
+    (whole_ibm, 1, 475, 13, (1, 2, 3)),
+    (some_32, 2, 2501, 3, (2,)),
+    (short_32, 2, 999, 5, (1, 2)),
+    (some_16, 3, 1, 37, (1, 2, 3)),
+    (some_16, 3, 8000, 1, (1, 2, 3)),
+    (some_gain, 4, 777, 7, (1,)),
+    (whole_gain, 4, 333, 6, (1, 2, 3)),
+)
+SMALL = (whole_gain, 4, 5, 2, (1, 2, 3))
+
+
+def make_reel(rnd, word, code, n, t, _):
+    """A reel of which every byte is random but those that have to say what it is."""
+    interval = rnd.randrange(1, 32768)
+    header = bytearray(rnd.randbytes(400))
+    for field, what in ((INTERVAL, interval), (COUNT, n), (CODE, code)):
+        put(header, field - 3200, what)
+    reel = rnd.randbytes(3200) + header
+    for _ in range(t):
+        header = bytearray(rnd.randbytes(240))
+        for field, what in ((TRACE_COUNT, n), (TRACE_INTERVAL, interval)):
+            put(header, field, rnd.choice((0, what)))
+        reel += header + b"".join(word(rnd) for _ in range(n))
+    return reel
+
+
+# What segyio finds.
+
+
+class Ways:
+    """Segyio's own ways, found by a reel that is laid out here: what it makes of card bytes, and how many bytes it takes for a field."""
+
+    def __init__(self, folder):
+        header = bytearray(b"\x01" * 60 + bytes(340))
+        put(header, COUNT - 3200, 1)
+        put(header, CODE - 3200, 1)
+        path = folder / "ways.sgy"
+        # A card byte 00, which no written reel has, would end the text.
+        path.write_bytes(bytes(range(1, 256)) + b"\x40" * 2945 + header + b"\x01" * 240 + bytes(4))
+        with opened(path) as found:
+            self.cards = bytes(1) + bytes(found.text[0])[:255]
+            self.trace_widths = {int(field): 4 if found.header[0][field] > 0x0101 else 2 for field in found.header[0].keys()}
+            self.binary_widths = {int(field): 4 if found.bin[field] > 0x0101 else 2 for field in found.bin.keys()}
+        assert len(set(self.cards)) == 256
+        plain = "ABCDEFGHIJKLMNOPQRSTUVWXYZ 0123456789.,:/()-"
+        assert plain.encode("cp037").translate(self.cards) == plain.encode("ascii")
+        # Segyio 1.8.3 takes two of the four bytes of field 61.
+        assert {field for field, width in BINARY_FIELDS.items() if self.binary_widths.get(field) != width} == set()
+        assert {field for field, width in TRACE_FIELDS.items() if self.trace_widths.get(field) != width} <= {61}
+
+
+def opened(path):
+    return segyio.open(path, "r", strict=False, ignore_geometry=True)
+
+
+def is_float(exact):
+    """Does a 32-bit float have the value, be it 0 or in the normal range?"""
+    if exact == 0:
+        return True
+    try:
+        rounded = struct.unpack(">f", struct.pack(">f", float(exact)))[0]
+    except OverflowError:
+        return False
+    return abs(exact) >= SMALLEST_NORMAL_FLOAT and Fraction(rounded) == exact
+
+
+class Comparison:
+    """A written reel against the one that it came from."""
+
+    def __init__(self, reel, target, path, ways):
+        self.differences = []
+        self.fields = self.samples = self.beyond = 0
+        try:
+            with opened(path) as found:
+                self.compare(reel, target, found, ways)
+        except (OSError, RuntimeError, ValueError) as trouble:
+            self.differences.append(f"segyio can't open it: {trouble}")
+
+    def same(self, what, expected, got):
+        if got != expected:
+            self.differences.append(f"{what}: expected {expected}, segyio gives {got}")
+
+    def same_bytes(self, what, expected, got):
+        self.same(f"{what}, length", len(expected), len(got))
+        pairs = enumerate(zip(expected, got), 1)
+        self.differences += [f"{what}, byte {i}: expected {a:02X}, segyio gives {b:02X}" for i, (a, b) in pairs if a != b]
+
+    def compare(self, reel, target, found, ways):
+        shape = (found.tracecount, len(found.samples), int(found.format))
+        self.same("traces, samples and code", (len(reel.traces), reel.n, target), shape)
+        if self.differences:
+            return
+        self.same_bytes("cards", reel.cards().translate(ways.cards), found.text[0])
+        self.header("binary header", 3200, reel.binary_header(target), found.bin, ways.binary_widths)
+        samples = found.trace.raw[:].tolist()
+        for i, trace in enumerate(reel.traces):
+            self.header(f"trace {i + 1}", 0, reel.trace_header(trace), found.header[i], ways.trace_widths)
+            for k, (exact, got) in enumerate(zip(reel.values(trace), samples[i], strict=True), 1):
+                if target == 1 and not is_float(exact):
+                    self.beyond += 1
+                    continue
+                self.samples += 1
+                if not math.isfinite(got) or Fraction(got) != exact:
+                    self.differences.append(f"trace {i + 1}, sample {k}: expected {exact}, segyio gives {got}")
+
+    def header(self, what, before, expected, found, widths):
+        """Every byte, and every field that segyio knows by its number."""
+        self.same_bytes(what, expected, found.buf)
+        for field, width in widths.items():
+            self.same(f"{what}, field {field}", number(expected, field - before - 1, width), found[field])
+            self.fields += field in BINARY_FIELDS or field in TRACE_FIELDS
+
+
+def run(command, *words):
+    done = subprocess.run([command, *map(str, words)], stdout=subprocess.PIPE, stderr=subprocess.STDOUT, timeout=60)
+    if done.returncode != 0:
+        sys.exit(f"segyio_reels: {' '.join(map(str, words))}: {done.stdout.decode('utf-8', 'replace')}")
+
+
+def written(command, folder, name, data, targets):
+    """What the command makes of a reel under each target."""
+    given, record = folder / f"{name}.sgy", folder / f"{name}.record"
+    given.write_bytes(data)
+    run(command, "read", given, record)
+    for target in targets:
+        path = folder / f"{name}.{target}.sgy"
+        run(command, "write", record, target, path)
+        yield target, path
+
+
+def damaged(data):
+    """Copies with one bit changed: of some card bytes, of every byte of the binary header's fields, and of every byte behind."""
+    for place in (*range(0, 3200, 50), *range(3200, 3260), *range(3600, len(data))):
+        yield place, data[:place] + bytes([data[place] ^ 1 << place % 8]) + data[place + 1 :]
+
+
+def main():
+    if len(sys.argv) != 2:
+        sys.exit("usage: python3 tests/segyio_reels.py PATH_OF_COMMAND")
+    if importlib.util.find_spec("segyio") is None:
+        print("segyio_reels: skipped: segyio is not installed")
+        return
+    global segyio
+    import segyio
+
+    warnings.simplefilter("ignore")  # of a damaged format code
+    command = Path(sys.argv[1]).resolve()
+    reels = [("sample", SAMPLE.read_bytes(), (1,))]
+    reels += [(f"{made[0].__name__}_{made[2]}", make_reel(random.Random(1975 + i), *made), made[4]) for i, made in enumerate(MADE)]
+    differences, samples, opened_reels, fields, beyond, changed = [], dict.fromkeys(TARGETS, 0), 0, 0, 0, 0
+    with tempfile.TemporaryDirectory() as room:
+        folder = Path(room)
+        ways = Ways(folder)
+        for name, data, targets in reels:
+            for target, path in written(command, folder, name, data, targets):
+                found = Comparison(Reel(data), target, path, ways)
+                differences += [f"{name}, written in code {target}: {said}" for said in found.differences]
+                opened_reels += 1
+                samples[target] += found.samples
+                fields += found.fields
+                beyond += found.beyond
+
+        data, copy = make_reel(random.Random(1983), *SMALL), folder / "copy.sgy"
+        for target, path in written(command, folder, "small", data, SMALL[4]):
+            for place, wrong in damaged(path.read_bytes()):
+                copy.write_bytes(wrong)
+                changed += 1
+                if not Comparison(Reel(data), target, copy, ways).differences:
+                    differences.append(f"a reel in code {target} with the byte at place {place} changed isn't found to differ")
+
+    differences += [f"only {samples[target]} samples compared in code {target}" for target in TARGETS if samples[target] < ENOUGH]
+    for said in differences[:20]:
+        print(f"segyio_reels: {said}")
+    if differences:
+        sys.exit(f"segyio_reels: {len(differences)} differences")
+    compared = ", ".join(f"{samples[target]} in code {target}" for target in TARGETS)
+    print(
+        f"segyio_reels: {opened_reels} written reels agree with segyio {segyio.__version__}: {fields} header fields, "
+        f"samples {compared}; {beyond} not compared, no float holds them; {changed} changed copies differ"
+    )
+
+
+if __name__ == "__main__":
+    main()
