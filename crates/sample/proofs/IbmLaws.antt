@@ -12,7 +12,6 @@ use Rattle.numbers.specs.Walk.{pick}
 use Rattle.numbers.proofs.SignLaws.{below-or}
 use Rattle.sample.specs.Value.{signMagnitude}
 use Rattle.sample.specs.Writing.{first, isNormal, ibmFits, ibmBits, ibmAt, ibmWord}
-use Rattle.sample.specs.Parts.{LeastCharacteristic}
 use Rattle.sample.specs.declared.Written.the-variants.{Word, Refused}
 use Rattle.sample.proofs.Twos.{odd-shl}
 use Rattle.sample.proofs.Magnitudes.{neg-signed, abs-signed}
@@ -73,84 +72,51 @@ module _ (s : Bool) (o k : ℕ) (e : o % 2 ≡ 1) where
       four : (i : ℕ) → i < c → 4 ≤ c * 4 - i * 4
       four i p = omega arith
 
-  -- the magnitude by its fraction at a characteristic
-  by-fraction : (c : ℕ) → c * 4 ≤ k → o * 2 ^ k ≡ o * 2 ^ (k - c * 4) * 2 ^ (c * 4)
-  by-fraction c h =
-      let sum : k ≡ (k - c * 4) + c * 4 = omega arith in
-      ap (λ (x : ℕ). o * 2 ^ x) sum ∙ ap (λ (x : ℕ). o * x) (pow-add 2 (k - c * 4) (c * 4)) ∙ sym (mul-assoc o (2 ^ (k - c * 4)) (2 ^ (c * 4)))
-
-  -- the least characteristic leaves the fraction whole: the normal word
-  pub ibm-least : (c f : ℕ) → LeastCharacteristic (o * 2 ^ k) c → c < 128 → c * 4 ≤ k → f ≡ o * 2 ^ (k - c * 4) → (f < 2 ^ 24) × (ibmWord (signMagnitude s (o * 2 ^ k)) ≡ Word (ibmBits s c f))
-  ibm-least c f h b l q = (small, ibm-word c f b l q small (⊎-elim inl (λ (t : 2 ^ (c * 4 + 20) ≤ o * 2 ^ k). inr (large t)) (h .1)))
+  -- no characteristic serves
+  pub ibm-unfit : (t : ℕ) → t ≡ min (k / 4) 127 → 2 ^ 24 ≤ o * 2 ^ (k - t * 4) → ibmWord (signMagnitude s (o * 2 ^ k)) ≡ Refused 14
+  ibm-unfit t q b = ap (ibmAt (signMagnitude s (o * 2 ^ k))) (first-none (ibmFits (signMagnitude s (o * 2 ^ k))) 128 0 none)
     where
-      whole : o * 2 ^ k ≡ f * 2 ^ (c * 4)
-      whole = by-fraction c l ∙ ap (λ (x : ℕ). x * 2 ^ (c * 4)) (sym q)
-
-      small : f < 2 ^ 24
-      small = ⊎-elim (λ (p : f < 2 ^ 24). p) (λ (p : 2 ^ 24 ≤ f). absurd (no p)) (below-or f (2 ^ 24))
-        where
-          no : 2 ^ 24 ≤ f → ⊥
-          no p = omega (arith, whole, h .0, pow-add 2 (c * 4) 24, mul-le-mul-right (2 ^ (c * 4)) p)
-
-      large : 2 ^ (c * 4 + 20) ≤ o * 2 ^ k → 2 ^ 20 ≤ f
-      large t = ⊎-elim (λ (p : f < 2 ^ 20). absurd (no p)) (λ (p : 2 ^ 20 ≤ f). p) (below-or f (2 ^ 20))
-        where
-          same : 20 + c * 4 ≡ c * 4 + 20
-          same = omega arith
-
-          no : f < 2 ^ 20 → ⊥
-          no p = omega (arith, whole, t, ap (λ (x : ℕ). 2 ^ x) same, shl-lt 20 (c * 4) p)
-
-  -- the least characteristic is too large, or leaves no whole fraction: no characteristic serves
-  pub ibm-unfit : (c : ℕ) → LeastCharacteristic (o * 2 ^ k) c → (127 < c) ⊎ (k < c * 4) → ibmWord (signMagnitude s (o * 2 ^ k)) ≡ Refused 14
-  ibm-unfit c h u = ap (ibmAt (signMagnitude s (o * 2 ^ k))) (first-none (ibmFits (signMagnitude s (o * 2 ^ k))) 128 0 none)
-    where
-      less : (i : ℕ) → i < 128 → i * 4 ≤ k → i < c
-      less i p l = ⊎-elim (λ (x : 127 < c). omega arith) (λ (x : k < c * 4). omega arith) u
-
-      high : (i : ℕ) → i < c → 2 ^ (c * 4 + 20) ≤ o * 2 ^ k
-      high i p = ⊎-elim (λ (x : c ≡ 0). absurd (no x)) (λ (x : 2 ^ (c * 4 + 20) ≤ o * 2 ^ k). x) (h .1)
-        where
-          no : c ≡ 0 → ⊥
-          no x = omega arith
-
-      beyond : (i : ℕ) → i < c → i * 4 ≤ k → 2 ^ 24 ≤ o * 2 ^ (k - i * 4)
-      beyond i p l = ⊎-elim (λ (x : o * 2 ^ (k - i * 4) < 2 ^ 24). absurd (no x)) (λ (x : 2 ^ 24 ≤ o * 2 ^ (k - i * 4)). x) (below-or (o * 2 ^ (k - i * 4)) (2 ^ 24))
-        where
-          more : 24 + i * 4 ≤ c * 4 + 20
-          more = omega arith
-
-          no : o * 2 ^ (k - i * 4) < 2 ^ 24 → ⊥
-          no x = omega (arith, by-fraction i l, high i p, pow-mono more, shl-lt 24 (i * 4) x)
-
       none : (i : ℕ) → 0 ≤ i → i < 0 + 128 → ibmFits (signMagnitude s (o * 2 ^ k)) i ≡ false
       none i z p =
-          ⊎-elim (λ (y : k < i * 4). too-high i y)
-          (λ (y : i * 4 ≤ k). too-big i y (beyond i (less i (omega arith) y) y)) (below-or k (i * 4))
+          ⊎-elim (λ (y : t < i). too-high i (omega arith))
+          (λ (y : i ≤ t). not-below i t y (omega arith) (le-trans b (grow (o * 2 ^ (k - t * 4)) (t * 4 - i * 4)))) (below-or t i)
 
--- the least characteristic, by the place j of the highest bit of o
-pub least-zero : (o j k : ℕ) → o < 2 ^ suc j → j + k < 20 → LeastCharacteristic (o * 2 ^ k) 0
-least-zero o j k hi b = (lt-of-lt-of-le (shl-lt (suc j) k hi) (pow-mono few), inl refl)
+-- the digits by which a fraction of 24 bits is moved: z leading zeros of 32 bits
+pub normal : (f j z : ℕ) → z + suc j ≡ 32 → 2 ^ j ≤ f → f < 2 ^ suc j → f < 2 ^ 24
+    → (8 ≤ z) × ((z - 8) / 4 < 6) × (2 ^ 20 ≤ f * 2 ^ ((z - 8) / 4 * 4)) × (f * 2 ^ ((z - 8) / 4 * 4) < 2 ^ 24)
+normal f j z q lo hi b =
+    let few : j < 24 = ⊎-elim (λ (p : j < 24). p) (λ (p : 24 ≤ j). absurd (none p)) (below-or j 24) in
+    let d = (z - 8) / 4 * 4 in (
+      omega arith,
+      omega arith,
+      le-trans (pow-mono (low few)) (le-trans (le-of-eq (pow-add 2 j d)) (mul-le-mul-right (2 ^ d) lo)),
+      lt-of-lt-of-le (shl-lt (suc j) d hi) (pow-mono (high few)),
+    )
   where
-    few : suc j + k ≤ 24
-    few = omega arith
+    none : 24 ≤ j → ⊥
+    none p = omega (arith, pow-mono p)
 
-pub least-some : (o j k c : ℕ) → 2 ^ j ≤ o → o < 2 ^ suc j → 20 ≤ j + k → c ≡ (j + k - 20) / 4 → LeastCharacteristic (o * 2 ^ k) c
-least-some o j k c lo hi b q =
-    (lt-of-lt-of-le (shl-lt (suc j) k hi) (pow-mono few), inr (le-trans (pow-mono some) (le-trans (le-of-eq (pow-add 2 j k)) (mul-le-mul-right (2 ^ k) lo))))
+    low : j < 24 → 20 ≤ j + (z - 8) / 4 * 4
+    low p = omega arith
+
+    high : j < 24 → suc j + (z - 8) / 4 * 4 ≤ 24
+    high p = omega arith
+
+-- the word that comes of the largest characteristic, t, and of moving its fraction g by d digits: z would bring its first digit up
+pub moved-fits : (g z d : ℕ) → d ≤ z → g * 2 ^ (z * 4) < 2 ^ 24 → g * 2 ^ (d * 4) < 2 ^ 24
+moved-fits g z d h b = lt-of-le-of-lt (mul-le-mul-left g (pow-mono (omega arith))) b
+
+pub ibm-moved : (s : Bool) (o k t g z d : ℕ) → o % 2 ≡ 1 → t ≡ min (k / 4) 127 → g ≡ o * 2 ^ (k - t * 4) → 2 ^ 20 ≤ g * 2 ^ (z * 4) → g * 2 ^ (z * 4) < 2 ^ 24 → d ≡ min z t
+    → ibmWord (signMagnitude s (o * 2 ^ k)) ≡ Word (ibmBits s (t - d) (g * 2 ^ (d * 4)))
+ibm-moved s o k t g z d e p q lo hi m =
+    ibm-word s o k e (t - d) (g * 2 ^ (d * 4)) (omega arith) (omega arith) same (moved-fits g z d (omega arith) hi)
+    (⊎-elim (λ (h : z < t). inr (rw (the-lesser h) lo)) (λ (h : t ≤ z). inl (omega arith)) (below-or z t))
   where
-    few : suc j + k ≤ c * 4 + 24
-    few = omega arith
+    sum : k - (t - d) * 4 ≡ (k - t * 4) + d * 4
+    sum = omega arith
 
-    some : c * 4 + 20 ≤ j + k
-    some = omega arith
+    same : g * 2 ^ (d * 4) ≡ o * 2 ^ (k - (t - d) * 4)
+    same = rw (sum, pow-add 2 (k - t * 4) (d * 4), q) (mul-assoc o (2 ^ (k - t * 4)) (2 ^ (d * 4)))
 
--- an odd number that is shifted up to less than 24 bits is shifted by less
-pub short-shift : (o t : ℕ) → o % 2 ≡ 1 → o * 2 ^ t < 2 ^ 24 → t < 24
-short-shift o t e h = ⊎-elim (λ (p : t < 24). p) (λ (p : 24 ≤ t). absurd (no p)) (below-or t 24)
-  where
-    one : 1 ≤ o
-    one = omega arith
-
-    no : 24 ≤ t → ⊥
-    no p = omega (arith, pow-mono p, mul-le-mul-right (2 ^ t) one)
+    the-lesser : z < t → d ≡ z
+    the-lesser h = omega arith

@@ -1,4 +1,4 @@
--- What the functions inside this crate hand to each other: a pair taken apart, a whole number below a limit, and a characteristic.
+-- What the functions inside this crate hand to each other: a pair taken apart, and a whole number below a limit.
 use Prim.Native.Nat.{ℕ, _+_, _-_, _*_, _%_, _^_, _≤_, _<_}
 use mathlib.Core.Path.{_≡_}
 use mathlib.Core.Logic.{_⊎_}
@@ -28,7 +28,3 @@ PartsOf p (Odd s o k) = (isCanonical p ≡ true) × Apart p s o k
 abbrev pub WholeBelow : ℕ → ℕ → ℕ → Whole → Type 0
 WholeBelow o k n (Below q) = (denominatorPower ≤ k) × (q ≡ o * 2 ^ (k - denominatorPower)) × (q < n)
 WholeBelow o k n Beyond = (k < denominatorPower) ⊎ ((denominatorPower ≤ k) × (n ≤ o * 2 ^ (k - denominatorPower)))
-
--- c is the least characteristic at which the fraction of a magnitude is below 2 ^ 24.
-abbrev pub LeastCharacteristic : ℕ → ℕ → Type 0
-LeastCharacteristic v c = (v < 2 ^ (c * 4 + 24)) × ((c ≡ 0) ⊎ (2 ^ (c * 4 + 20) ≤ v))

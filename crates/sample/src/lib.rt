@@ -11,7 +11,7 @@ ghost use Rattle.sample.specs.Pair.{highestExponent, isCanonical};
 ghost use Rattle.sample.specs.Reading.{pairTaken, readWord};
 ghost use Rattle.sample.specs.Writing.{ibmWord, wholeWord, gainWord, writePair, wordBits};
 ghost use Rattle.sample.specs.Calls.{pairBytes, pairOfBits, pairIn, saidBy, wordRead, pairWritten, readOutcome, writeOutcome};
-ghost use Rattle.sample.specs.Parts.{PartsOf, WholeBelow, LeastCharacteristic};
+ghost use Rattle.sample.specs.Parts.{PartsOf, WholeBelow};
 use numbers::Place;
 
 // A sample as exponent and mantissa: the value m × 2^e.
@@ -242,6 +242,14 @@ fn sign_bit(neg: bool) -> u32
     if neg { 0x8000_0000 } else { 0 }
 }
 
+// By how many hexadecimal digits a fraction of 24 bits is moved up so that its first digit isn't 0.
+fn digits(f: u32) -> u32
+    requires { ⌜ (0 < f) × (f < 2 ^ 24) ⌝ }
+    ensures { λ r. ⌜ (r < 6) × (2 ^ 20 ≤ f * 2 ^ (r * 4)) × (f * 2 ^ (r * 4) < 2 ^ 24) ⌝ }
+{
+    (u32::leading_zeros(f) - 8) / 4
+}
+
 // Shifts up that lose nothing.
 fn shifted_wide(a: u32, s: u32) -> u64
     requires { ⌜ s ≤ 32 ⌝ }
@@ -257,32 +265,20 @@ fn shifted_up(a: u32, s: u32) -> u32
     a << s
 }
 
-// The least characteristic at which the fraction of o × 2^k is below 2^24: there its first hexadecimal digit isn't 0, unless the
-// characteristic is 0.
-fn characteristic_of(o: u32, k: u32) -> u32
-    requires { ⌜ (0 < o) × (k ≤ denominatorPower + highestExponent) ⌝ }
-    ensures { λ r. ⌜ LeastCharacteristic (o * 2 ^ k) r × (r ≤ 2 ^ 8) ⌝ }
-{
-    let highest = 31 - u32::leading_zeros(o) + k;
-    if highest < 20 {
-        return 0;
-    }
-    (highest - 20) / 4
-}
-
-// The normal word of V = ± o × 2^k, for an odd o: where the least characteristic doesn't leave the fraction whole, no larger one does.
+// The normal word of V = ± o × 2^k, for an odd o. First the largest C that leaves F whole, where F
+// is least; then F goes up and C down, digit by digit, until F's first digit isn't 0 or C is 0.
 fn ibm_of(neg: bool, o: u32, k: u32) -> Written
     requires { ⌜ (o % 2 ≡ 1) × (k ≤ denominatorPower + highestExponent) ⌝ }
     ensures { λ r. ⌜ r ≡ ibmWord (signMagnitude neg (o * 2 ^ k)) ⌝ }
 {
-    let c = characteristic_of(o, k);
-    if 127 < c {
+    let top = lesser(k / 4, 127);
+    let wide = shifted_wide(o, k - top * 4);
+    if 0x100_0000 <= wide {
         return Written::Refused { number: UNFIT };
     }
-    if k < c * 4 {
-        return Written::Refused { number: UNFIT };
-    }
-    let bits = sign_bit(neg) + c * 0x100_0000 + shifted_up(o, k - c * 4);
+    let f = wide as u32;
+    let d = lesser(digits(f), top);
+    let bits = sign_bit(neg) + (top - d) * 0x100_0000 + shifted_up(f, d * 4);
     Written::Word { bits }
 }
 

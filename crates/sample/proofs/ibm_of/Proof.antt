@@ -1,40 +1,53 @@
 -- `sample::ibm_of` meets its contract. Assumes nothing.
-use Rattle.sample.proofs.IbmLaws.{ibm-least, ibm-unfit, short-shift}
-use Rattle.sample.specs.Value.{signMagnitude}
-use Rattle.sample.specs.Writing.{ibmBits, ibmWord}
-use Rattle.sample.specs.declared.Written.the-variants.{Word}
-use Prim.Native.Nat.{_-_, _*_, _^_, _<_}
-use mathlib.Core.Logic.{inl, inr}
-use mathlib.Core.Path.{_≡_, refl, sym}
+use Rattle.sample.proofs.IbmLaws.{ibm-unfit, ibm-moved, moved-fits}
+use Rattle.sample.proofs.Twos.{odd-shl}
+use Prim.Native.Nat.{_-_, _*_, _^_, _≤_, _<_}
+use mathlib.Core.Path.{_≡_, sym}
 use native.Mathlib.Omega.{arith}
 use borrow.Author.Needs.{needs}
 use Rattle.sample.proofs.ibm_of.Statement.{statement}
 use Rattle.sample.proofs.ibm_of.Tie as tie
 
--- the fraction at the least characteristic, and its word
-fraction-there : (c : tie.Else2)
-    → let a = c .before .before .before .args in
-    let f = a .o * 2 ^ (a .k - c .before .before .characteristic-of .result * 4) in
-    (f < 2 ^ 24) × (ibmWord (signMagnitude (a .neg) (a .o * 2 ^ a .k)) ≡ Word (ibmBits (a .neg) (c .before .before .characteristic-of .result) f))
-fraction-there c =
-    let b = c .before .before in
-    let a = b .before .args in
-    ibm-least (a .neg) (a .o) (a .k) (b .before .pre .0) (b .characteristic-of .result) (a .o * 2 ^ (a .k - b .characteristic-of .result * 4)) (b .characteristic-of .ensures .0) (omega (arith, c .before .if1 .left)) (c .if2 .left) refl
+-- the fraction is moved by no more digits than it has zeros
+lesser-le : (c : tie.After-sign-bit) → c .before .lesser2 .result ≤ c .before .before .digits .result
+lesser-le c = omega (arith, c .before .lesser2 .ensures)
 
-characteristic-of-requires : tie.Need-characteristic-of-requires
-characteristic-of-requires c κs = search needs
+small : (c : tie.After-sign-bit) → c .before .before .before .before .shifted-wide .result * 2 ^ (c .before .lesser2 .result * 4) < 2 ^ 24
+small c = moved-fits _ (c .before .before .digits .result) _ (lesser-le c) (c .before .before .digits .ensures .2)
+
+lesser-requires : tie.Need-lesser-requires
+lesser-requires c κs = search needs
+
+mul-shifted-wide : tie.Need-mul-shifted-wide
+mul-shifted-wide c = search needs
+
+sub-shifted-wide : tie.Need-sub-shifted-wide
+sub-shifted-wide c = search needs
+
+shifted-wide-requires : tie.Need-shifted-wide-requires
+shifted-wide-requires c κs = search needs
 
 returns : tie.Need-returns
-returns c = let a = c .before .before .args in sym (ibm-unfit (a .neg) (a .o) (a .k) (c .before .before .pre .0) _ (c .before .characteristic-of .ensures .0) (inl (c .if1 .taken)))
+returns c =
+    let a = c .before .before .before .args in
+    sym (ibm-unfit (a .neg) (a .o) (a .k) (c .before .before .before .pre .0) (c .before .before .lesser .result) (c .before .before .lesser .ensures) (rw (c .before .shifted-wide .ensures) at (c .if1 .taken)))
 
-mul-if2 : tie.Need-mul-if2
-mul-if2 c = search needs
+cast-f : tie.Need-cast-f
+cast-f c = search needs
 
-returns-2 : tie.Need-returns-2
-returns-2 c = let a = c .before .before .before .args in sym (ibm-unfit (a .neg) (a .o) (a .k) (c .before .before .before .pre .0) _ (c .before .before .characteristic-of .ensures .0) (inr (c .if2 .taken)))
+digits-requires : tie.Need-digits-requires
+digits-requires c κs =
+    let a = c .before .before .before .args in
+    omega (arith, odd-shl (a .o) (a .k - c .before .before .lesser .result * 4) (c .before .before .before .pre .0), c .before .shifted-wide .ensures)
+
+lesser-requires-2 : tie.Need-lesser-requires-2
+lesser-requires-2 c κs = search needs
 
 sign-bit-requires : tie.Need-sign-bit-requires
 sign-bit-requires c κs = search needs
+
+sub-bits : tie.Need-sub-bits
+sub-bits c = search needs
 
 mul-bits : tie.Need-mul-bits
 mul-bits c = search needs
@@ -45,34 +58,38 @@ add-bits c = search needs
 mul-shifted-up : tie.Need-mul-shifted-up
 mul-shifted-up c = search needs
 
-sub-shifted-up : tie.Need-sub-shifted-up
-sub-shifted-up c = search needs
-
 shifted-up-requires : tie.Need-shifted-up-requires
-shifted-up-requires c κs =
-    let f = fraction-there (c .before) .0 in
-    let t = short-shift (c .before .before .before .before .args .o) _ (c .before .before .before .before .pre .0) f in
-    (omega (arith, t), omega (arith, f))
+shifted-up-requires c κs = (omega (arith, lesser-le c), omega (arith, small c))
 
 add-bits-2 : tie.Need-add-bits-2
-add-bits-2 c = omega (arith, c .shifted-up .ensures, fraction-there (c .before .before) .0, c .before .sign-bit .ensures .1, c .before .before .before .if1 .left)
+add-bits-2 c = omega (arith, c .shifted-up .ensures, small (c .before), c .before .before .before .before .before .before .lesser .ensures)
 
-returns-3 : tie.Need-returns-3
-returns-3 c = rw (c .shifted-up .ensures, c .before .sign-bit .ensures .0) (sym (fraction-there (c .before .before) .1))
+returns-2 : tie.Need-returns-2
+returns-2 c =
+    let b = c .before .before .before .before .before .before in
+    let a = b .before .args in
+    let z = c .before .before .before .digits in
+    rw (c .shifted-up .ensures, c .before .sign-bit .ensures .0)
+    (sym (ibm-moved (a .neg) (a .o) (a .k) (b .lesser .result) (c .before .before .before .before .before .shifted-wide .result) (z .result) (c .before .before .lesser2 .result)
+    (b .before .pre .0) (b .lesser .ensures) (c .before .before .before .before .before .shifted-wide .ensures) (z .ensures .1) (z .ensures .2) (c .before .before .lesser2 .ensures)))
 
 pub ibm-of-spec : {M : Type 1} → statement M
 ibm-of-spec =
     tie.close
     (tie.spec
-    characteristic-of-requires
+    lesser-requires
+    mul-shifted-wide
+    sub-shifted-wide
+    shifted-wide-requires
     returns
-    mul-if2
-    returns-2
+    cast-f
+    digits-requires
+    lesser-requires-2
     sign-bit-requires
+    sub-bits
     mul-bits
     add-bits
     mul-shifted-up
-    sub-shifted-up
     shifted-up-requires
     add-bits-2
-    returns-3)
+    returns-2)
