@@ -6,7 +6,6 @@ use lib.ListN.{length, drop, length-set, length-map, drop-of-length-le}
 use Prim.Native.Nat.{ℕ, _+_, _-_, _≤_}
 use mathlib.Core.List.{_∷_, map}
 use mathlib.Core.Path.{_≡_, sym, ap, _∙_}
-use borrow.Author.Needs.{needs}
 use native.Mathlib.Omega.{arith}
 use Rattle.transcribe.proofs.put_cards.Statement.{statement}
 use Rattle.transcribe.proofs.put_cards.Tie as tie
@@ -23,19 +22,19 @@ loop-holds c =
     (omega arith, c .before .before .pre, start _ _ (c .before .before .pre ∙ sym (length-map (a .src .now) blank)))
 
 shared-slice-read-blank-of : tie.Need-shared-slice-read-blank-of Inv-loop μ-loop
-shared-slice-read-blank-of c = search needs
+shared-slice-read-blank-of c = c .before .loop-test .taken
 
 blank-of-requires : tie.Need-blank-of-requires Inv-loop μ-loop
-blank-of-requires c κs = search needs
+blank-of-requires c κs = tt
 
 slice-write-out : tie.Need-slice-write-out Inv-loop μ-loop
-slice-write-out c = search needs
+slice-write-out c = omega (arith, c .before .before .loop-test .taken, c .before .before .before .loop .inv .1)
 
 add-i : tie.Need-add-i Inv-loop μ-loop
-add-i c = search needs
+add-i c = omega (arith, c .before .before .loop-test .taken, c .before .before .before .before .before .before .good .0)
 
 loop-less : tie.Need-loop-less Inv-loop μ-loop
-loop-less c = search needs
+loop-less c = omega (arith, c .before .before .loop-test .taken)
 
 loop-again : tie.Need-loop-again Inv-loop μ-loop
 loop-again c =
@@ -47,7 +46,7 @@ loop-again c =
     )
 
 same-length : tie.Need-same-length Inv-loop μ-loop
-same-length c = search needs
+same-length c = c .before .loop .inv .1 ∙ sym (c .before .before .before .before .pre)
 
 returns : tie.Need-returns Inv-loop μ-loop
 returns c = finish (c .before .loop .inv .2) (ap (map blank) (drop-of-length-le (c .before .before .before .before .args .src .now) (c .loop-test .left)))

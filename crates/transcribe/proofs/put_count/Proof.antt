@@ -4,36 +4,35 @@ use Rattle.numbers.proofs.Filling.{start, lend, close}
 use Rattle.numbers.specs.BigEndian.{bytesOf}
 use mathlib.Core.Path.{refl}
 use native.Mathlib.Omega.{arith}
-use borrow.Author.Needs.{needs}
 use Rattle.transcribe.proofs.put_count.Statement.{statement}
 use Rattle.transcribe.proofs.put_count.Tie as tie
 
 sub-put-tag : tie.Need-sub-put-tag
-sub-put-tag c = search needs
+sub-put-tag c = omega arith
 
 part-put-tag-start : tie.Need-part-put-tag-start
-part-put-tag-start c = search needs
+part-put-tag-start c = omega arith
 
 part-put-tag-end : tie.Need-part-put-tag-end
-part-put-tag-end c = search needs
+part-put-tag-end c = omega (arith, c .before .pre)
 
 put-tag-requires : tie.Need-put-tag-requires
-put-tag-requires c κs = search needs
+put-tag-requires c κs = c .put-tag-arg .given .2
 
 sub-put32 : tie.Need-sub-put32
-sub-put32 c = search needs
+sub-put32 c = omega arith
 
 part-put32-start : tie.Need-part-put32-start
-part-put32-start c = search needs
+part-put32-start c = omega arith
 
 part-put32-end : tie.Need-part-put32-end
-part-put32-end c = search needs
+part-put32-end c = omega (arith, c .before .before .before .before .before .pre, c .before .out .given .1)
 
 put32-requires : tie.Need-put32-requires
-put32-requires c κs = search needs
+put32-requires c κs = c .put32-arg .given .2
 
 same-length : tie.Need-same-length
-same-length c = search needs
+same-length c = omega (arith, c .before .out2 .given .1, c .before .before .before .before .before .out .given .1)
 
 returns : tie.Need-returns
 returns c =

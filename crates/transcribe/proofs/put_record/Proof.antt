@@ -10,63 +10,64 @@ use Prim.Native.Nat.{_+_, _*_}
 use mathlib.Core.List.{_++_, map}
 use mathlib.Core.Path.{_≡_, refl, sym, ap, _∙_}
 use native.Mathlib.Omega.{arith}
-use borrow.Author.Needs.{needs}
 use Rattle.transcribe.proofs.put_record.Statement.{statement}
 use Rattle.transcribe.proofs.put_record.Tie as tie
 
 mul-m : tie.Need-mul-m
-mul-m c = search needs
+mul-m c = omega (arith, c .before .before .pre .2)
 
 add-m : tie.Need-add-m
-add-m c = search needs
+add-m c = omega (arith, c .before .before .pre .2)
 
 mul-e : tie.Need-mul-e
-mul-e c = search needs
+mul-e c = omega (arith, c .before .before .pre .6, c .before .before .good .1 .1 .1 .1 .1 .1 .1 .0)
 
 add-e : tie.Need-add-e
-add-e c = search needs
+add-e c = omega (arith, c .before .before .pre .6, c .before .before .good .1 .1 .1 .1 .1 .1 .1 .0)
 
 sub-put-head : tie.Need-sub-put-head
-sub-put-head c = search needs
+sub-put-head c = omega arith
 
 part-put-head-start : tie.Need-part-put-head-start
-part-put-head-start c = search needs
+part-put-head-start c = omega arith
 
 part-put-head-end : tie.Need-part-put-head-end
-part-put-head-end c = search needs
+part-put-head-end c = omega (arith, c .before .before .pre .6)
 
 put-head-requires : tie.Need-put-head-requires
-put-head-requires c κs = search needs
+put-head-requires c κs = (omega (arith, c .before .before .before .pre .5), c .put-head-arg .given .2)
 
 sub-put-traces : tie.Need-sub-put-traces
-sub-put-traces c = search needs
+sub-put-traces c = omega arith
 
 part-put-traces-start : tie.Need-part-put-traces-start
-part-put-traces-start c = search needs
+part-put-traces-start c = omega arith
 
 part-put-traces-end : tie.Need-part-put-traces-end
-part-put-traces-end c = search needs
+part-put-traces-end c = omega (arith, c .before .before .before .before .before .before .pre .6, c .before .out .given .1)
 
 put-traces-requires : tie.Need-put-traces-requires
-put-traces-requires c κs = let s = c .before .before .before .before .before .before .before in (s .pre .0, s .pre .1, s .pre .2, s .pre .3, refl, s .pre .5, search needs)
+put-traces-requires c κs =
+    let s = c .before .before .before .before .before .before .before in
+    (s .pre .0, s .pre .1, s .pre .2, s .pre .3, refl, s .pre .5, omega (arith, c .put-traces-arg .given .2))
 
 cast-put-count : tie.Need-cast-put-count
-cast-put-count c = search needs
+cast-put-count c = omega (arith, c .before .before .before .before .before .before .before .before .before .before .pre .4)
 
 add-put-count : tie.Need-add-put-count
-add-put-count c = search needs
+add-put-count c = omega (arith, c .before .before .before .before .before .before .before .before .before .before .pre .6, c .before .before .before .before .before .before .before .before .before .before .good .1 .1 .1 .1 .1 .1 .1 .0)
 
 sub-put-count : tie.Need-sub-put-count
-sub-put-count c = search needs
+sub-put-count c = omega arith
 
 part-put-count-start : tie.Need-part-put-count-start
-part-put-count-start c = search needs
+part-put-count-start c = omega arith
 
 part-put-count-end : tie.Need-part-put-count-end
-part-put-count-end c = search needs
+part-put-count-end c = omega (arith, c .before .before .before .before .before .before .before .before .before .before .pre .6, c .before .before .before .before .before .out .given .1, c .before .out2 .given .1)
 
 put-count-requires : tie.Need-put-count-requires
-put-count-requires c κs = search needs
+put-count-requires c κs = omega (arith, c .put-count-arg .given .2)
 
 returns : tie.Need-returns
 unfolding recordCopied
@@ -85,8 +86,7 @@ returns c =
 same-length : tie.Need-same-length
 same-length c =
     let b = c .before .before .before .before .before .before .before .before .before .before .before .before .before .before in
-    let a = b .args in
-    ap length (returns c) ∙ size-record (a .reel .now) (a .code) (a .n) (a .i) (a .w) (a .t) ∙ sym (b .pre .6)
+    ap length (returns c) ∙ (size-record (b .args .reel .now) (b .args .code) (b .args .n) (b .args .i) (b .args .w) (b .args .t) ∙ sym (b .pre .6))
 
 pub put-record-spec : {M : Type 1} → statement M
 put-record-spec =

@@ -4,7 +4,6 @@ use Rattle.transcribe.specs.Copied.{samplesCopied}
 use Rattle.reel.specs.Layout.{sampleBytes}
 use Prim.Native.Nat.{ℕ}
 use mathlib.Core.Path.{_≡_, sym, ap, _∙_}
-use borrow.Author.Needs.{needs}
 use Rattle.transcribe.proofs.put_samples.Statement.{statement}
 use Rattle.transcribe.proofs.put_samples.Tie as tie
 
@@ -38,7 +37,7 @@ put-gain-requires c κs =
     (rw v at (s .pre .2), s .pre .3)
 
 same-length : tie.Need-same-length
-same-length c = search needs
+same-length c = c .before .before .put-ibm .kept .1 .1 .1 .0
 
 returns : tie.Need-returns
 returns c =
@@ -46,7 +45,7 @@ returns c =
     c .before .before .put-ibm .ensures ∙ ap (λ (k : ℕ). samplesCopied (a .reel .now) k (a .n) (a .start)) (sym (c .before .before .before .before .match .keys1))
 
 same-length-2 : tie.Need-same-length-2
-same-length-2 c = search needs
+same-length-2 c = c .before .before .put-whole32 .kept .1 .1 .1 .0
 
 returns-2 : tie.Need-returns-2
 returns-2 c =
@@ -54,7 +53,7 @@ returns-2 c =
     c .before .before .put-whole32 .ensures ∙ ap (λ (k : ℕ). samplesCopied (a .reel .now) k (a .n) (a .start)) (sym (c .before .before .before .before .match .keys2))
 
 same-length-3 : tie.Need-same-length-3
-same-length-3 c = search needs
+same-length-3 c = c .before .before .put-whole16 .kept .1 .1 .1 .0
 
 returns-3 : tie.Need-returns-3
 returns-3 c =
@@ -62,7 +61,7 @@ returns-3 c =
     c .before .before .put-whole16 .ensures ∙ ap (λ (k : ℕ). samplesCopied (a .reel .now) k (a .n) (a .start)) (sym (c .before .before .before .before .match .keys3))
 
 same-length-4 : tie.Need-same-length-4
-same-length-4 c = search needs
+same-length-4 c = c .before .before .put-gain .kept .1 .1 .1 .0
 
 returns-4 : tie.Need-returns-4
 returns-4 c =

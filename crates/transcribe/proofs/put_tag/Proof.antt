@@ -6,24 +6,23 @@ use mathlib.Core.List.{[]}
 use mathlib.Core.Path.{refl, sym, ap, _∙_}
 use lib.ListN.{length-set}
 use native.Mathlib.Omega.{arith}
-use borrow.Author.Needs.{needs}
 use Rattle.transcribe.proofs.put_tag.Statement.{statement}
 use Rattle.transcribe.proofs.put_tag.Tie as tie
 
 slice-write-out : tie.Need-slice-write-out
-slice-write-out c = search needs
+slice-write-out c = omega (arith, c .before .pre)
 
 sub-put16 : tie.Need-sub-put16
-sub-put16 c = search needs
+sub-put16 c = omega arith
 
 part-put16-start : tie.Need-part-put16-start
-part-put16-start c = search needs
+part-put16-start c = omega arith
 
 part-put16-end : tie.Need-part-put16-end
 part-put16-end c = simp length-set (omega arith)
 
 put16-requires : tie.Need-put16-requires
-put16-requires c κs = search needs
+put16-requires c κs = c .put16-arg .given .2
 
 returns : tie.Need-returns
 returns c =

@@ -3,78 +3,75 @@ use Rattle.transcribe.proofs.CopiedLaws.{size-header, size-samples, siz
 use Rattle.transcribe.specs.Copied.{tagBytes, headerCopied, samplesCopied, traceCopied}
 use Rattle.reel.specs.Layout.{traceHeader}
 use Rattle.numbers.proofs.Filling.{start, lend, close}
+use lib.ListN.{length}
 use Prim.Native.Nat.{_+_, _*_}
 use mathlib.Core.List.{_++_}
-use mathlib.Core.Path.{_≡_, refl, sym, _∙_}
+use mathlib.Core.Path.{_≡_, refl, sym, ap, _∙_}
 use native.Mathlib.Omega.{arith}
-use borrow.Author.Needs.{needs}
 use Rattle.transcribe.proofs.put_trace.Statement.{statement}
 use Rattle.transcribe.proofs.put_trace.Tie as tie
 
 mul-size : tie.Need-mul-size
-mul-size c = search needs
+mul-size c = omega (arith, c .before .before .pre .2)
 
 cast-e : tie.Need-cast-e
-cast-e c = search needs
+cast-e c = omega (arith, c .before .before .pre .2)
 
 add-e : tie.Need-add-e
-add-e c = search needs
+add-e c = omega (arith, c .before .before .pre .2)
 
 sub-put-tag : tie.Need-sub-put-tag
-sub-put-tag c = search needs
+sub-put-tag c = omega arith
 
 part-put-tag-start : tie.Need-part-put-tag-start
-part-put-tag-start c = search needs
+part-put-tag-start c = omega arith
 
 part-put-tag-end : tie.Need-part-put-tag-end
-part-put-tag-end c = search needs
+part-put-tag-end c = omega (arith, c .before .before .pre .4)
 
 put-tag-requires : tie.Need-put-tag-requires
-put-tag-requires c κs = search needs
+put-tag-requires c κs = c .put-tag-arg .given .2
 
 sub-put-header : tie.Need-sub-put-header
-sub-put-header c = search needs
+sub-put-header c = omega arith
 
 part-put-header-start : tie.Need-part-put-header-start
-part-put-header-start c = search needs
+part-put-header-start c = omega arith
 
 part-put-header-end : tie.Need-part-put-header-end
-part-put-header-end c = search needs
+part-put-header-end c = omega (arith, c .before .before .before .before .before .before .pre .4, c .before .out .given .1)
 
 put-header-requires : tie.Need-put-header-requires
-put-header-requires c κs = search needs
+put-header-requires c κs = (omega (arith, c .before .before .before .before .before .before .before .pre .3), c .put-header-arg .given .2)
 
 sub-put-tag-2 : tie.Need-sub-put-tag-2
-sub-put-tag-2 c = search needs
+sub-put-tag-2 c = omega arith
 
 part-put-tag-start-2 : tie.Need-part-put-tag-start-2
-part-put-tag-start-2 c = search needs
+part-put-tag-start-2 c = omega arith
 
 part-put-tag-end-2 : tie.Need-part-put-tag-end-2
-part-put-tag-end-2 c = search needs
+part-put-tag-end-2 c = omega (arith, c .before .before .before .before .before .before .before .before .before .before .pre .4, c .before .before .before .before .before .out .given .1, c .before .out2 .given .1)
 
 put-tag-requires-2 : tie.Need-put-tag-requires-2
-put-tag-requires-2 c κs = search needs
+put-tag-requires-2 c κs = c .put-tag-arg2 .given .2
 
 add-put-samples : tie.Need-add-put-samples
-add-put-samples c = search needs
+add-put-samples c = omega (arith, c .before .before .before .before .before .before .before .before .before .before .before .before .before .before .pre .3, c .before .before .before .before .before .before .before .before .before .before .before .before .before .before .good .0)
 
 sub-put-samples : tie.Need-sub-put-samples
-sub-put-samples c = search needs
+sub-put-samples c = omega arith
 
 part-put-samples-start : tie.Need-part-put-samples-start
-part-put-samples-start c = search needs
+part-put-samples-start c = omega arith
 
 part-put-samples-end : tie.Need-part-put-samples-end
-part-put-samples-end c = search needs
+part-put-samples-end c = omega (arith, c .before .before .before .before .before .before .before .before .before .before .before .before .before .before .pre .4, c .before .before .before .before .before .before .before .before .before .out .given .1, c .before .before .before .before .before .out2 .given .1, c .before .out3 .given .1)
 
 put-samples-requires : tie.Need-put-samples-requires
 put-samples-requires c κs =
     let s = c .before .before .before .before .before .before .before .before .before .before .before .before .before .before .before in
-    (s .pre .0, s .pre .1, omega (arith, s .pre .3), omega arith)
-
-same-length : tie.Need-same-length
-same-length c = search needs
+    (s .pre .0, s .pre .1, omega (arith, s .pre .3), omega (arith, c .put-samples-arg .given .2))
 
 returns : tie.Need-returns
 unfolding traceCopied
@@ -89,6 +86,11 @@ returns c =
     let w₂ = lend y (tagBytes 4 (6 * a .n) ++ z) 183 w₁ (omega arith) (size-header s (a .n) (a .i) (a .at)) (c .before .before .before .before .before .before .before .before .before .before .put-header .ensures) in
     let w₃ = lend (tagBytes 4 (6 * a .n)) z 186 w₂ (omega arith) refl (c .before .before .before .before .before .before .put-tag2 .ensures) in
     close z (186 + 6 * a .n) w₃ (omega arith) (size-samples s (a .code) (a .n) (a .at + traceHeader) ∙ omega arith) (c .before .before .put-samples .ensures)
+
+same-length : tie.Need-same-length
+same-length c =
+    let b = c .before .before .before .before .before .before .before .before .before .before .before .before .before .before .before .before .before .before in
+    ap length (returns c) ∙ (size-trace (b .args .reel .now) (b .args .code) (b .args .n) (b .args .i) (b .args .at) ∙ sym (b .pre .4))
 
 pub put-trace-spec : {M : Type 1} → statement M
 put-trace-spec =

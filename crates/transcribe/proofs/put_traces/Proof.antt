@@ -9,7 +9,6 @@ use lib.ListN.{length}
 use Prim.Native.Nat.{ℕ, _+_, _-_, _*_, _≤_}
 use mathlib.Core.List.{map}
 use mathlib.Core.Path.{_≡_, sym, ap, _∙_}
-use borrow.Author.Needs.{needs}
 use native.Mathlib.Omega.{arith}
 use Rattle.transcribe.proofs.put_traces.Statement.{statement}
 use Rattle.transcribe.proofs.put_traces.Tie as tie
@@ -32,10 +31,10 @@ add-e : tie.Need-add-e Inv-loop μ-loop
 add-e c = omega (arith, times-more (c .before .loop .left) (c .before .before .before .before .args .m) (c .loop-test .taken), c .before .loop .inv .1, c .before .loop .inv .2)
 
 sub-put-trace : tie.Need-sub-put-trace Inv-loop μ-loop
-sub-put-trace c = search needs
+sub-put-trace c = omega arith
 
 part-put-trace-start : tie.Need-part-put-trace-start Inv-loop μ-loop
-part-put-trace-start c = search needs
+part-put-trace-start c = omega arith
 
 part-put-trace-end : tie.Need-part-put-trace-end Inv-loop μ-loop
 part-put-trace-end c = omega (arith, times-more (c .before .loop .left) (c .before .before .before .before .args .m) (c .loop-test .taken), c .before .loop .inv .1, c .before .loop .inv .2)
@@ -55,10 +54,10 @@ add-at : tie.Need-add-at Inv-loop μ-loop
 add-at c = omega (arith, times-more (c .before .before .before .before .before .loop .left) (c .before .before .before .before .before .before .before .before .args .w) (c .before .before .before .before .loop-test .taken), c .before .before .before .before .before .loop .inv .0)
 
 sub-left : tie.Need-sub-left Inv-loop μ-loop
-sub-left c = search needs
+sub-left c = omega (arith, c .before .before .before .before .loop-test .taken)
 
 loop-less : tie.Need-loop-less Inv-loop μ-loop
-loop-less c = search needs
+loop-less c = omega (arith, c .before .before .before .before .loop-test .taken)
 
 loop-again : tie.Need-loop-again Inv-loop μ-loop
 loop-again c =
@@ -72,7 +71,7 @@ loop-again c =
     (omega (arith, times-more (l .left) (a .w) (t .loop-test .taken)), f .size ∙ sym (l .inv .3 .size) ∙ l .inv .1, omega (arith, times-more (l .left) (a .m) (t .loop-test .taken)), f)
 
 same-length : tie.Need-same-length Inv-loop μ-loop
-same-length c = search needs
+same-length c = c .before .loop .inv .1 ∙ sym (c .before .before .before .before .pre .6)
 
 returns : tie.Need-returns Inv-loop μ-loop
 returns c =
