@@ -47,28 +47,28 @@ loop-holds c =
     )
 
 add-e : tie.Need-add-e Inv-loop μ-loop
-add-e c = search needs
+add-e c = omega (arith, c .before .loop .inv .1, c .before .loop .inv .2)
 
 sub-put-gain-word : tie.Need-sub-put-gain-word Inv-loop μ-loop
-sub-put-gain-word c = search needs
+sub-put-gain-word c = omega arith
 
 part-put-gain-word-start : tie.Need-part-put-gain-word-start Inv-loop μ-loop
-part-put-gain-word-start c = search needs
+part-put-gain-word-start c = omega arith
 
 part-put-gain-word-end : tie.Need-part-put-gain-word-end Inv-loop μ-loop
 part-put-gain-word-end c = omega (arith, c .before .loop .inv .1, c .before .loop .inv .2)
 
 put-gain-word-requires : tie.Need-put-gain-word-requires Inv-loop μ-loop
-put-gain-word-requires c κs = (omega (arith, times-more (c .before .before .loop .left) 4 (c .before .loop-test .taken), c .before .before .loop .inv .0), search needs, c .before .before .loop .inv .3)
+put-gain-word-requires c κs = (omega (arith, times-more (c .before .before .loop .left) 4 (c .before .loop-test .taken), c .before .before .loop .inv .0), c .put-gain-word-arg .given .2 ∙ omega arith, c .before .before .loop .inv .3)
 
 add-at : tie.Need-add-at Inv-loop μ-loop
 add-at c = omega (arith, c .before .before .before .before .before .loop .inv .0)
 
 sub-left : tie.Need-sub-left Inv-loop μ-loop
-sub-left c = search needs
+sub-left c = omega (arith, c .before .before .before .before .loop-test .taken)
 
 loop-less : tie.Need-loop-less Inv-loop μ-loop
-loop-less c = search needs
+loop-less c = omega (arith, c .before .before .before .before .loop-test .taken)
 
 loop-again : tie.Need-loop-again Inv-loop μ-loop
 loop-again c =
@@ -90,31 +90,31 @@ shared-slice-read-gain-or-zero-2 : tie.Need-shared-slice-read-gain-or-zero-2 Inv
 shared-slice-read-gain-or-zero-2 c = omega (arith, c .before .before .before .loop .inv .0)
 
 gain-or-zero-requires : tie.Need-gain-or-zero-requires Inv-loop μ-loop
-gain-or-zero-requires c κs = search needs
+gain-or-zero-requires c κs = tt
 
 add-put-sample : tie.Need-add-put-sample Inv-loop μ-loop
-add-put-sample c = search needs
+add-put-sample c = omega (arith, c .before .before .before .before .loop .inv .1, c .before .before .before .before .loop .inv .2)
 
 sub-put-sample : tie.Need-sub-put-sample Inv-loop μ-loop
-sub-put-sample c = search needs
+sub-put-sample c = omega arith
 
 part-put-sample-start : tie.Need-part-put-sample-start Inv-loop μ-loop
-part-put-sample-start c = search needs
+part-put-sample-start c = omega arith
 
 part-put-sample-end : tie.Need-part-put-sample-end Inv-loop μ-loop
 part-put-sample-end c = omega (arith, c .before .before .before .before .loop .inv .1, c .before .before .before .before .loop .inv .2)
 
 put-sample-requires : tie.Need-put-sample-requires Inv-loop μ-loop
-put-sample-requires c κs = search needs
-
-same-length : tie.Need-same-length Inv-loop μ-loop
-same-length c = search needs
+put-sample-requires c κs = c .put-sample-arg .given .2 ∙ omega arith
 
 returns-2 : tie.Need-returns-2 Inv-loop μ-loop
 returns-2 c =
     let s = c .before .before .before .before .before .before .before .before .before .before .before .before .before .args .reel .now in
     let l = c .before .before .before .before .before .before .before .before .loop in
     last-put s 4 (l .left) (l .at) (l .o) (c .before .before .before .before .before .before .before .loop-test .left) (l .inv .4) (c .before .before .put-sample .ensures ∙ ap sampleContent (c .before .before .before .before .gain-or-zero .ensures) ∙ gain-copied s (l .at) (l .d) (l .inv .3))
+
+same-length : tie.Need-same-length Inv-loop μ-loop
+same-length c = ap length (returns-2 c) ∙ size-samples (c .before .before .before .before .before .before .before .before .before .before .before .before .before .args .reel .now) 4 (c .before .before .before .before .before .before .before .before .before .before .before .before .before .args .n) (c .before .before .before .before .before .before .before .before .before .before .before .before .before .args .start) ∙ sym (c .before .before .before .before .before .before .before .before .before .before .before .before .before .pre .1)
 
 pub put-gain-spec : {M : Type 1} → statement M
 put-gain-spec =

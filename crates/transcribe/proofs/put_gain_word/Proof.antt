@@ -1,56 +1,56 @@
 -- `transcribe::put_gain_word` meets its contract. Assumes nothing.
-use Rattle.transcribe.proofs.CopiedLaws.{content-parts, gain-copied}
+use Rattle.numbers.specs.Walk.{bytesAt}
+use Rattle.sample.specs.Reading.{readWord}
+use lib.ListN.{length}
+use native.Mathlib.Omega.{arith}
+use Rattle.transcribe.proofs.CopiedLaws.{content-parts, gain-copied, size-content}
 use Rattle.transcribe.specs.Copied.{sampleContent}
 use Rattle.numbers.proofs.Filling.{behind-first}
-use mathlib.Core.Path.{ap, _∙_}
-use borrow.Author.Needs.{needs}
+use mathlib.Core.Path.{ap, _∙_, sym}
 use Rattle.transcribe.proofs.put_gain_word.Statement.{statement}
 use Rattle.transcribe.proofs.put_gain_word.Tie as tie
 
 shared-slice-read-gain-or-zero : tie.Need-shared-slice-read-gain-or-zero
-shared-slice-read-gain-or-zero c = search needs
+shared-slice-read-gain-or-zero c = omega (arith, c .before .before .before .pre .0)
 
 add-gain-or-zero : tie.Need-add-gain-or-zero
-add-gain-or-zero c = search needs
+add-gain-or-zero c = omega (arith, c .before .before .before .pre .0, c .before .before .before .good .0)
 
 shared-slice-read-gain-or-zero-2 : tie.Need-shared-slice-read-gain-or-zero-2
-shared-slice-read-gain-or-zero-2 c = search needs
+shared-slice-read-gain-or-zero-2 c = omega (arith, c .before .before .before .before .pre .0)
 
 gain-or-zero-requires : tie.Need-gain-or-zero-requires
-gain-or-zero-requires c κs = search needs
+gain-or-zero-requires c κs = tt
 
 sub-put-mantissa : tie.Need-sub-put-mantissa
-sub-put-mantissa c = search needs
+sub-put-mantissa c = omega arith
 
 part-put-mantissa-start : tie.Need-part-put-mantissa-start
-part-put-mantissa-start c = search needs
+part-put-mantissa-start c = omega arith
 
 part-put-mantissa-end : tie.Need-part-put-mantissa-end
-part-put-mantissa-end c = search needs
+part-put-mantissa-end c = omega (arith, c .before .before .before .before .before .pre .1)
 
 put-mantissa-requires : tie.Need-put-mantissa-requires
-put-mantissa-requires c κs = search needs
+put-mantissa-requires c κs = c .put-mantissa-arg .given .2
 
 add-word16-at : tie.Need-add-word16-at
-add-word16-at c = search needs
+add-word16-at c = omega (arith, c .before .before .before .before .before .before .before .before .before .pre .0, c .before .before .before .before .before .before .before .before .before .good .0)
 
 word16-at-requires : tie.Need-word16-at-requires
-word16-at-requires c κs = search needs
+word16-at-requires c κs = omega (arith, c .before .before .before .before .before .before .before .before .before .pre .0)
 
 sub-put-exponent : tie.Need-sub-put-exponent
-sub-put-exponent c = search needs
+sub-put-exponent c = omega arith
 
 part-put-exponent-start : tie.Need-part-put-exponent-start
-part-put-exponent-start c = search needs
+part-put-exponent-start c = omega arith
 
 part-put-exponent-end : tie.Need-part-put-exponent-end
-part-put-exponent-end c = search needs
+part-put-exponent-end c = omega (arith, c .before .before .before .before .before .before .before .before .before .before .pre .1, c .before .before .out .given .1)
 
 put-exponent-requires : tie.Need-put-exponent-requires
-put-exponent-requires c κs = search needs
-
-same-length : tie.Need-same-length
-same-length c = search needs
+put-exponent-requires c κs = c .put-exponent-arg .given .2
 
 returns : tie.Need-returns
 returns c =
@@ -60,6 +60,9 @@ returns c =
       behind-first 2 4 (s .args .out .now) (s .pre .1) (c .before .before .before .before .before .before .before .put-mantissa .ensures) (c .before .before .put-exponent .ensures) ∙ content-parts (p .gain-or-zero .result)
           ∙ ap sampleContent (p .gain-or-zero .ensures) ∙ gain-copied (s .args .reel .now) (s .args .at) (s .args .d) (s .pre .2),
     )
+
+same-length : tie.Need-same-length
+same-length c = let s = (c .before .before .before .before .before .before .before .before .before .before .before .before .before .before) in ap length (returns c .1) ∙ size-content (readWord 4 (bytesAt (s .args .reel .now) (s .args .at) 4)) ∙ sym (s .pre .1)
 
 pub put-gain-word-spec : {M : Type 1} → statement M
 put-gain-word-spec =

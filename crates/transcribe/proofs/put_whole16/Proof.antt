@@ -52,28 +52,28 @@ loop-holds c =
     )
 
 add-e : tie.Need-add-e Inv-loop μ-loop
-add-e c = search needs
+add-e c = omega (arith, c .before .loop .inv .1, c .before .loop .inv .2)
 
 add-at : tie.Need-add-at Inv-loop μ-loop
 add-at c = omega (arith, c .before .loop .inv .0)
 
 sub-put-whole16-word : tie.Need-sub-put-whole16-word Inv-loop μ-loop
-sub-put-whole16-word c = search needs
+sub-put-whole16-word c = omega arith
 
 part-put-whole16-word-start : tie.Need-part-put-whole16-word-start Inv-loop μ-loop
-part-put-whole16-word-start c = search needs
+part-put-whole16-word-start c = omega arith
 
 part-put-whole16-word-end : tie.Need-part-put-whole16-word-end Inv-loop μ-loop
 part-put-whole16-word-end c = omega (arith, c .before .loop .inv .1, c .before .loop .inv .2)
 
 put-whole16-word-requires : tie.Need-put-whole16-word-requires Inv-loop μ-loop
-put-whole16-word-requires c κs = (omega (arith, times-more (c .before .before .loop .left) 2 (c .before .loop-test .taken), c .before .before .loop .inv .0), search needs)
+put-whole16-word-requires c κs = (omega (arith, times-more (c .before .before .loop .left) 2 (c .before .loop-test .taken), c .before .before .loop .inv .0), c .put-whole16-word-arg .given .2 ∙ omega arith)
 
 sub-left : tie.Need-sub-left Inv-loop μ-loop
-sub-left c = search needs
+sub-left c = omega (arith, c .before .before .before .before .loop-test .taken)
 
 loop-less : tie.Need-loop-less Inv-loop μ-loop
-loop-less c = search needs
+loop-less c = omega (arith, c .before .before .before .before .loop-test .taken)
 
 loop-again : tie.Need-loop-again Inv-loop μ-loop
 loop-again c =
@@ -85,31 +85,31 @@ loop-again c =
     (omega (arith, times-more (l .left) 2 some, l .inv .0), f .size ∙ sym (l .inv .4 .size) ∙ l .inv .1, omega (arith, times-more (l .left) 6 some, l .inv .2), g .0, f)
 
 whole16-requires : tie.Need-whole16-requires Inv-loop μ-loop
-whole16-requires c κs = search needs
+whole16-requires c κs = tt
 
 add-put-sample : tie.Need-add-put-sample Inv-loop μ-loop
-add-put-sample c = search needs
+add-put-sample c = omega (arith, c .before .before .loop .inv .1, c .before .before .loop .inv .2)
 
 sub-put-sample : tie.Need-sub-put-sample Inv-loop μ-loop
-sub-put-sample c = search needs
+sub-put-sample c = omega arith
 
 part-put-sample-start : tie.Need-part-put-sample-start Inv-loop μ-loop
-part-put-sample-start c = search needs
+part-put-sample-start c = omega arith
 
 part-put-sample-end : tie.Need-part-put-sample-end Inv-loop μ-loop
 part-put-sample-end c = omega (arith, c .before .before .loop .inv .1, c .before .before .loop .inv .2)
 
 put-sample-requires : tie.Need-put-sample-requires Inv-loop μ-loop
-put-sample-requires c κs = search needs
-
-same-length : tie.Need-same-length Inv-loop μ-loop
-same-length c = search needs
+put-sample-requires c κs = c .put-sample-arg .given .2 ∙ omega arith
 
 returns-2 : tie.Need-returns-2 Inv-loop μ-loop
 returns-2 c =
     let s = c .before .before .before .before .before .before .before .before .before .before .before .args .reel .now in
     let l = c .before .before .before .before .before .before .loop in
     last-put s 3 (l .left) (l .at) (l .o) (c .before .before .before .before .before .loop-test .left) (l .inv .4) (c .before .before .put-sample .ensures ∙ ap sampleContent (c .before .before .before .before .whole16 .ensures) ∙ content s (l .at) (l .w) (l .inv .3))
+
+same-length : tie.Need-same-length Inv-loop μ-loop
+same-length c = ap length (returns-2 c) ∙ size-samples (c .before .before .before .before .before .before .before .before .before .before .before .args .reel .now) 3 (c .before .before .before .before .before .before .before .before .before .before .before .args .n) (c .before .before .before .before .before .before .before .before .before .before .before .args .start) ∙ sym (c .before .before .before .before .before .before .before .before .before .before .before .pre .1)
 
 pub put-whole16-spec : {M : Type 1} → statement M
 put-whole16-spec =

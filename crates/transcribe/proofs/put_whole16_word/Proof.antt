@@ -1,44 +1,45 @@
 -- `transcribe::put_whole16_word` meets its contract. Assumes nothing.
-use Rattle.transcribe.proofs.CopiedLaws.{content-parts}
+use Rattle.numbers.specs.TwosComplement.{signedOf}
+use Rattle.sample.specs.Value.{wholeValue}
+use Rattle.sample.specs.Reading.{pairTaken}
+use lib.ListN.{length}
+use native.Mathlib.Omega.{arith}
+use Rattle.transcribe.proofs.CopiedLaws.{content-parts, size-content}
 use Rattle.transcribe.specs.Copied.{sampleContent}
 use Rattle.numbers.proofs.Filling.{behind-first}
-use mathlib.Core.Path.{ap, _∙_}
-use borrow.Author.Needs.{needs}
+use mathlib.Core.Path.{ap, _∙_, sym}
 use Rattle.transcribe.proofs.put_whole16_word.Statement.{statement}
 use Rattle.transcribe.proofs.put_whole16_word.Tie as tie
 
 whole16-requires : tie.Need-whole16-requires
-whole16-requires c κs = search needs
+whole16-requires c κs = tt
 
 sub-put-mantissa : tie.Need-sub-put-mantissa
-sub-put-mantissa c = search needs
+sub-put-mantissa c = omega arith
 
 part-put-mantissa-start : tie.Need-part-put-mantissa-start
-part-put-mantissa-start c = search needs
+part-put-mantissa-start c = omega arith
 
 part-put-mantissa-end : tie.Need-part-put-mantissa-end
-part-put-mantissa-end c = search needs
+part-put-mantissa-end c = omega (arith, c .before .before .before .pre .1)
 
 put-mantissa-requires : tie.Need-put-mantissa-requires
-put-mantissa-requires c κs = search needs
+put-mantissa-requires c κs = c .put-mantissa-arg .given .2
 
 word16-at-requires : tie.Need-word16-at-requires
-word16-at-requires c κs = search needs
+word16-at-requires c κs = c .before .before .before .before .before .before .before .pre .0
 
 sub-put-exponent : tie.Need-sub-put-exponent
-sub-put-exponent c = search needs
+sub-put-exponent c = omega arith
 
 part-put-exponent-start : tie.Need-part-put-exponent-start
-part-put-exponent-start c = search needs
+part-put-exponent-start c = omega arith
 
 part-put-exponent-end : tie.Need-part-put-exponent-end
-part-put-exponent-end c = search needs
+part-put-exponent-end c = omega (arith, c .before .before .before .before .before .before .before .before .pre .1, c .before .before .out .given .1)
 
 put-exponent-requires : tie.Need-put-exponent-requires
-put-exponent-requires c κs = search needs
-
-same-length : tie.Need-same-length
-same-length c = search needs
+put-exponent-requires c κs = c .put-exponent-arg .given .2
 
 returns : tie.Need-returns
 returns c =
@@ -48,6 +49,9 @@ returns c =
       behind-first 2 4 (s .args .out .now) (s .pre .1) (c .before .before .before .before .before .before .before .put-mantissa .ensures) (c .before .before .put-exponent .ensures) ∙ content-parts (p .whole16 .result)
           ∙ ap sampleContent (p .whole16 .ensures),
     )
+
+same-length : tie.Need-same-length
+same-length c = ap length (returns c .1) ∙ size-content (pairTaken (wholeValue (signedOf 16 (c .before .before .before .before .before .before .before .before .before .before .before .before .args .word)))) ∙ sym (c .before .before .before .before .before .before .before .before .before .before .before .before .pre .1)
 
 pub put-whole16-word-spec : {M : Type 1} → statement M
 put-whole16-word-spec =
