@@ -2,9 +2,11 @@
 
 mod library;
 mod reels;
-mod same;
 mod segyio;
 mod tables;
+#[cfg(test)]
+mod tests;
+mod tuned;
 
 use independent::{Refused, Taken};
 use segyio::Segyio;
@@ -16,7 +18,7 @@ use tables::{Call, Row};
 
 const USAGE: &str = "usage: bench [--mb SIZE] [--runs COUNT] [--codes 1,2,3,4] [--segyio PYTHON]
        bench growth [--mb MOST] [--runs COUNT]
-       bench one read|write CODE [--mb SIZE] [--who library|same|independent]";
+       bench one read|write CODE [--mb SIZE] [--who library|tuned|independent]";
 
 /// N of the reels that are compared.
 const SAMPLES: u16 = 2_000;
@@ -36,7 +38,7 @@ type Answer = Result<Taken, Refused>;
 #[derive(Clone, Copy, PartialEq)]
 enum Who {
     Library,
-    Same,
+    Tuned,
     Independent,
     Memcpy,
     SegyioFile,
@@ -45,7 +47,7 @@ enum Who {
 
 const ALL: [Who; 6] = [
     Who::Library,
-    Who::Same,
+    Who::Tuned,
     Who::Independent,
     Who::Memcpy,
     Who::SegyioFile,
@@ -111,7 +113,7 @@ fn options() -> Option<Options> {
             "--who" => {
                 options.who = match arguments.next()?.as_str() {
                     "library" => Who::Library,
-                    "same" => Who::Same,
+                    "tuned" => Who::Tuned,
                     "independent" => Who::Independent,
                     _ => return None,
                 }
@@ -136,8 +138,8 @@ fn call(who: Who, call: Call, code: u32, input: &[u8], out: &mut [u8]) -> Answer
     match (who, call) {
         (Who::Library, Call::Read) => library::read_reel(input, out),
         (Who::Library, Call::Write) => library::write_reel(input, code, out),
-        (Who::Same, Call::Read) => same::read_reel(input, out),
-        (Who::Same, Call::Write) => same::write_reel(input, code, out),
+        (Who::Tuned, Call::Read) => tuned::read_reel(input, out),
+        (Who::Tuned, Call::Write) => tuned::write_reel(input, code, out),
         (Who::Independent, Call::Read) => independent::read_reel(input, out),
         (Who::Independent, Call::Write) => independent::write_reel(input, code, out),
         _ => unreachable!("it has no such call"),
@@ -228,7 +230,7 @@ fn compare(options: &Options) {
                     bytes: reel.len(),
                     seconds: best(options.runs, |who| match who {
                         // A buffer of that size comes with no page of it in memory yet.
-                        Who::Library | Who::Same => {
+                        Who::Library | Who::Tuned => {
                             let mut out = vec![0; length.max(64 * MEGABYTE)];
                             Some(timed(who, what, code, input, &mut out))
                         }
@@ -246,7 +248,7 @@ fn compare(options: &Options) {
 fn agree(what: Call, code: u32, input: &[u8], given: &mut [u8], out: &mut [u8]) {
     let answer = call(Who::Library, what, code, input, given);
     assert_eq!(answer.map(|taken| taken.length), Ok(given.len() as u64));
-    for who in [Who::Same, Who::Independent] {
+    for who in [Who::Tuned, Who::Independent] {
         out.fill(1);
         assert_eq!(call(who, what, code, input, out), answer);
         assert!(

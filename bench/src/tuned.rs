@@ -3,9 +3,6 @@
 //! tune: signed numbers in place of sign and magnitude, no branch on a sign, and no test for a
 //! canonical pair in the second pass, for which the first has looked.
 
-#[cfg(test)]
-mod tests;
-
 use independent::{Refused, Taken};
 
 const CARD_BYTES: usize = 3_200;
