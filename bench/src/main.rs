@@ -1,6 +1,7 @@
 //! Measures the library's reading and writing of whole reels beside other ways to do the same.
 
 mod library;
+mod passes;
 mod reels;
 mod segyio;
 mod tables;
