@@ -3,6 +3,7 @@
 mod library;
 mod passes;
 mod reels;
+mod same;
 mod segyio;
 mod tables;
 #[cfg(test)]
@@ -19,7 +20,7 @@ use tables::{Call, Row};
 
 const USAGE: &str = "usage: bench [--mb SIZE] [--runs COUNT] [--codes 1,2,3,4] [--segyio PYTHON]
        bench growth [--mb MOST] [--runs COUNT]
-       bench one read|write CODE [--mb SIZE] [--who library|tuned|independent]";
+       bench one read|write CODE [--mb SIZE] [--who library|same|tuned|independent]";
 
 /// N of the reels that are compared.
 const SAMPLES: u16 = 2_000;
@@ -39,6 +40,7 @@ type Answer = Result<Taken, Refused>;
 #[derive(Clone, Copy, PartialEq)]
 enum Who {
     Library,
+    Same,
     Tuned,
     Independent,
     Memcpy,
@@ -46,8 +48,9 @@ enum Who {
     SegyioConversion,
 }
 
-const ALL: [Who; 6] = [
+const ALL: [Who; 7] = [
     Who::Library,
+    Who::Same,
     Who::Tuned,
     Who::Independent,
     Who::Memcpy,
@@ -114,6 +117,7 @@ fn options() -> Option<Options> {
             "--who" => {
                 options.who = match arguments.next()?.as_str() {
                     "library" => Who::Library,
+                    "same" => Who::Same,
                     "tuned" => Who::Tuned,
                     "independent" => Who::Independent,
                     _ => return None,
@@ -139,6 +143,8 @@ fn call(who: Who, call: Call, code: u32, input: &[u8], out: &mut [u8]) -> Answer
     match (who, call) {
         (Who::Library, Call::Read) => library::read_reel(input, out),
         (Who::Library, Call::Write) => library::write_reel(input, code, out),
+        (Who::Same, Call::Read) => same::read_reel(input, out),
+        (Who::Same, Call::Write) => same::write_reel(input, code, out),
         (Who::Tuned, Call::Read) => tuned::read_reel(input, out),
         (Who::Tuned, Call::Write) => tuned::write_reel(input, code, out),
         (Who::Independent, Call::Read) => independent::read_reel(input, out),
@@ -231,7 +237,7 @@ fn compare(options: &Options) {
                     bytes: reel.len(),
                     seconds: best(options.runs, |who| match who {
                         // A buffer of that size comes with no page of it in memory yet.
-                        Who::Library | Who::Tuned => {
+                        Who::Library | Who::Same | Who::Tuned => {
                             let mut out = vec![0; length.max(64 * MEGABYTE)];
                             Some(timed(who, what, code, input, &mut out))
                         }
@@ -249,7 +255,7 @@ fn compare(options: &Options) {
 fn agree(what: Call, code: u32, input: &[u8], given: &mut [u8], out: &mut [u8]) {
     let answer = call(Who::Library, what, code, input, given);
     assert_eq!(answer.map(|taken| taken.length), Ok(given.len() as u64));
-    for who in [Who::Tuned, Who::Independent] {
+    for who in [Who::Same, Who::Tuned, Who::Independent] {
         out.fill(1);
         assert_eq!(call(who, what, code, input, out), answer);
         assert!(

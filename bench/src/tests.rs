@@ -5,7 +5,7 @@ use crate::reels::{self, Random};
 use crate::tables::{name, Call};
 use crate::{call, Who};
 
-const WRITTEN_AFTER_IT: [Who; 1] = [Who::Tuned];
+const WRITTEN_AFTER_IT: [Who; 2] = [Who::Same, Who::Tuned];
 
 const SAMPLES: u16 = 3;
 const BYTES: usize = 5_000;
@@ -83,6 +83,37 @@ fn writing_damaged_records() {
         }
     }
     for number in [0, 10, 11, 12, 13, 14] {
+        assert!(causes[number] > 50, "{causes:?}");
+    }
+}
+
+/// Every exponent of a canonical pair and some beyond, with mantissas about the limits of a fraction
+/// and of the whole numbers.
+#[test]
+fn writing_pairs_about_the_limits() {
+    let reel = reels::make(1, 1, 0);
+    let mut record = vec![0; crate::record_length(&reel, 1)];
+    independent::read_reel(&reel, &mut record).expect("a valid reel");
+    let pair = record.len() - 13;
+    let mut mantissas = vec![0, 2, i32::MIN];
+    for bits in [1, 15, 16, 20, 21, 24, 25, 31] {
+        let least_beyond = 1i64 << bits;
+        for odd in [least_beyond - 1, least_beyond + 1] {
+            mantissas.extend(i32::try_from(odd));
+            mantissas.extend(i32::try_from(-odd));
+        }
+    }
+    let mut causes = [0; 17];
+    for e in -282i16..=253 {
+        record[pair..pair + 2].copy_from_slice(&e.to_be_bytes());
+        for m in &mantissas {
+            record[pair + 2..pair + 6].copy_from_slice(&m.to_be_bytes());
+            for code in 1..=4 {
+                causes[agreed(Call::Write, code, &record, reel.len())] += 1;
+            }
+        }
+    }
+    for number in [0, 13, 14] {
         assert!(causes[number] > 50, "{causes:?}");
     }
 }

@@ -1,0 +1,317 @@
+//! The library's own algorithm in plain Rust: its two passes, with its steps and its tests for each
+//! sample, one for one. It is what the proved code would be if a Rust programmer had written it, and
+//! nothing in it was chosen by measuring.
+
+use crate::passes::{self, Samples, NOT_CANONICAL, PAIR_BYTES, UNFIT};
+use independent::{Refused, Taken};
+
+const DENOMINATOR_POWER: u32 = 280;
+const HIGHEST_SHIFT: u32 = 531;
+const BAD_GAIN: u64 = 9;
+
+struct Same;
+
+#[inline(never)]
+pub fn read_reel(reel: &[u8], out: &mut [u8]) -> Result<Taken, Refused> {
+    passes::read_reel::<Same>(reel, out)
+}
+
+#[inline(never)]
+pub fn write_reel(record: &[u8], code: u32, out: &mut [u8]) -> Result<Taken, Refused> {
+    passes::write_reel::<Same>(record, code, out)
+}
+
+impl Samples for Same {
+    #[inline(always)]
+    fn refused_gain(words: &[u8]) -> Option<usize> {
+        words
+            .chunks_exact(4)
+            .position(|word| gain(word.try_into().unwrap()).is_err())
+    }
+
+    #[inline(always)]
+    fn put_pairs(code: u32, words: &[u8], pairs: &mut [u8]) {
+        match code {
+            1 => put_pairs(words, pairs, |word| ibm(u32::from_be_bytes(word))),
+            2 => put_pairs(words, pairs, |word| whole32(i32::from_be_bytes(word))),
+            3 => put_pairs(words, pairs, |word| whole16(i16::from_be_bytes(word))),
+            _ => put_pairs(words, pairs, |word| gain(word).unwrap_or(ZERO)),
+        }
+    }
+
+    #[inline(always)]
+    fn check_pairs(code: u32, pairs: &[u8]) -> Result<(), (u64, usize)> {
+        match code {
+            1 => check_pairs(pairs, ibm_of),
+            2 => check_pairs(pairs, whole32_of),
+            3 => check_pairs(pairs, whole16_of),
+            _ => check_pairs(pairs, gain_of),
+        }
+    }
+
+    fn uncanonical_pair(pairs: &[u8]) -> Option<usize> {
+        pairs
+            .chunks_exact(PAIR_BYTES)
+            .position(|pair| !Pair::of(pair).is_canonical())
+    }
+
+    #[inline(always)]
+    fn put_words(code: u32, pairs: &[u8], words: &mut [u8]) {
+        match code {
+            1 => put_words::<4>(pairs, words, ibm_of),
+            2 => put_words::<4>(pairs, words, whole32_of),
+            3 => put_words::<2>(pairs, words, whole16_of),
+            _ => put_words::<4>(pairs, words, gain_of),
+        }
+    }
+}
+
+// ## Reading
+
+fn put_pairs<const W: usize>(words: &[u8], pairs: &mut [u8], pair_of: impl Fn([u8; W]) -> Pair) {
+    for (word, pair) in words
+        .chunks_exact(W)
+        .zip(pairs.chunks_exact_mut(PAIR_BYTES))
+    {
+        let Pair { e, m } = pair_of(word.try_into().unwrap());
+        pair[..2].copy_from_slice(&e.to_be_bytes());
+        pair[2..].copy_from_slice(&m.to_be_bytes());
+    }
+}
+
+#[derive(Clone, Copy)]
+struct Pair {
+    e: i16,
+    m: i32,
+}
+
+const ZERO: Pair = Pair { e: 0, m: 0 };
+
+/// The canonical pair of ± `magnitude` × 2^(`power` - 280): the power of two in the magnitude is
+/// counted out of it.
+#[inline(always)]
+fn canonical(negative: bool, magnitude: u32, power: u32) -> Pair {
+    if magnitude == 0 {
+        return ZERO;
+    }
+    let twos = magnitude.trailing_zeros();
+    let odd = (magnitude >> twos) as i32;
+    Pair {
+        e: (power + twos) as i16 - DENOMINATOR_POWER as i16,
+        m: if negative { -odd } else { odd },
+    }
+}
+
+#[inline(always)]
+fn ibm(word: u32) -> Pair {
+    canonical(word >> 31 != 0, word & 0xFF_FFFF, (word >> 24 & 0x7F) * 4)
+}
+
+#[inline(always)]
+fn whole32(number: i32) -> Pair {
+    canonical(number < 0, number.unsigned_abs(), DENOMINATOR_POWER)
+}
+
+#[inline(always)]
+fn whole16(number: i16) -> Pair {
+    let magnitude = u32::from(number.unsigned_abs());
+    canonical(number < 0, magnitude, DENOMINATOR_POWER)
+}
+
+#[inline(always)]
+fn gain([first, g, high, low]: [u8; 4]) -> Result<Pair, u64> {
+    if first != 0 {
+        return Err(BAD_GAIN);
+    }
+    let number = i16::from_be_bytes([high, low]);
+    let magnitude = u32::from(number.unsigned_abs());
+    let power = DENOMINATOR_POWER - u32::from(g);
+    Ok(canonical(number < 0, magnitude, power))
+}
+
+// ## Writing
+
+/// What the word of ± `odd` × 2^(`power` - 280) is under a code, or the number of the cause.
+trait WordOf: Fn(bool, u32, u32) -> Result<u32, u64> {}
+
+impl<F: Fn(bool, u32, u32) -> Result<u32, u64>> WordOf for F {}
+
+fn check_pairs(pairs: &[u8], word_of: impl WordOf) -> Result<(), (u64, usize)> {
+    for (k, pair) in pairs.chunks_exact(PAIR_BYTES).enumerate() {
+        if let Err(number) = Pair::of(pair).word(&word_of) {
+            return Err((number, k));
+        }
+    }
+    Ok(())
+}
+
+fn put_words<const W: usize>(pairs: &[u8], words: &mut [u8], word_of: impl WordOf) {
+    for (pair, word) in pairs
+        .chunks_exact(PAIR_BYTES)
+        .zip(words.chunks_exact_mut(W))
+    {
+        let bits = Pair::of(pair).bits(&word_of);
+        word.copy_from_slice(&bits.to_be_bytes()[..W]);
+    }
+}
+
+/// A pair taken apart: not canonical, zero, or ± `odd` × 2^(`power` - 280).
+enum Parts {
+    NotCanonical,
+    Zero,
+    Odd {
+        negative: bool,
+        odd: u32,
+        power: u32,
+    },
+}
+
+impl Pair {
+    #[inline(always)]
+    fn of(bytes: &[u8]) -> Pair {
+        let (e, m) = bytes.split_at(2);
+        Pair {
+            e: i16::from_be_bytes(e.try_into().unwrap()),
+            m: i32::from_be_bytes(m.try_into().unwrap()),
+        }
+    }
+
+    #[inline(always)]
+    fn parts(self) -> Parts {
+        let odd = self.m.unsigned_abs();
+        if odd == 0 {
+            if self.e == 0 {
+                return Parts::Zero;
+            }
+            return Parts::NotCanonical;
+        }
+        let power = u32::from((self.e as u16).wrapping_add(DENOMINATOR_POWER as u16));
+        if odd % 2 == 0 {
+            return Parts::NotCanonical;
+        }
+        if power > HIGHEST_SHIFT {
+            return Parts::NotCanonical;
+        }
+        Parts::Odd {
+            negative: self.m < 0,
+            odd,
+            power,
+        }
+    }
+
+    fn is_canonical(self) -> bool {
+        !matches!(self.parts(), Parts::NotCanonical)
+    }
+
+    #[inline(always)]
+    fn word(self, word_of: impl WordOf) -> Result<u32, u64> {
+        match self.parts() {
+            Parts::NotCanonical => Err(NOT_CANONICAL),
+            Parts::Zero => Ok(0),
+            Parts::Odd {
+                negative,
+                odd,
+                power,
+            } => word_of(negative, odd, power),
+        }
+    }
+
+    /// The bits of the pair's word, 0 where it has none.
+    #[inline(always)]
+    fn bits(self, word_of: impl WordOf) -> u32 {
+        match self.parts() {
+            Parts::NotCanonical => 0,
+            Parts::Zero => 0,
+            Parts::Odd {
+                negative,
+                odd,
+                power,
+            } => word_of(negative, odd, power).unwrap_or(0),
+        }
+    }
+}
+
+/// The least characteristic at which the fraction is below 2^24.
+#[inline(always)]
+fn characteristic_of(odd: u32, power: u32) -> u32 {
+    let highest = 31 - odd.leading_zeros() + power;
+    if highest < 20 {
+        return 0;
+    }
+    (highest - 20) / 4
+}
+
+/// Where the least characteristic doesn't leave the fraction whole, no larger one does.
+#[inline(always)]
+fn ibm_of(negative: bool, odd: u32, power: u32) -> Result<u32, u64> {
+    let characteristic = characteristic_of(odd, power);
+    if characteristic > 127 {
+        return Err(UNFIT);
+    }
+    if power < characteristic * 4 {
+        return Err(UNFIT);
+    }
+    let sign = if negative { 0x8000_0000 } else { 0 };
+    Ok(sign + (characteristic << 24) + (odd << (power - characteristic * 4)))
+}
+
+#[inline(always)]
+fn whole32_of(negative: bool, odd: u32, power: u32) -> Result<u32, u64> {
+    let limit = if negative { 0x8000_0001 } else { 0x8000_0000 };
+    let whole = whole_below(odd, power, limit).ok_or(UNFIT)?;
+    Ok(if negative {
+        whole.wrapping_neg()
+    } else {
+        whole
+    })
+}
+
+/// In the word's first two bytes.
+#[inline(always)]
+fn whole16_of(negative: bool, odd: u32, power: u32) -> Result<u32, u64> {
+    let whole = whole_below(odd, power, limit16(negative)).ok_or(UNFIT)?;
+    Ok(complement16(negative, whole) << 16)
+}
+
+/// With the least gain that leaves the number whole.
+#[inline(always)]
+fn gain_of(negative: bool, odd: u32, power: u32) -> Result<u32, u64> {
+    let gain = DENOMINATOR_POWER - power.min(DENOMINATOR_POWER);
+    if gain > 255 {
+        return Err(UNFIT);
+    }
+    let whole = whole_below(odd, power + gain, limit16(negative)).ok_or(UNFIT)?;
+    Ok((gain << 16) + complement16(negative, whole))
+}
+
+#[inline(always)]
+fn limit16(negative: bool) -> u64 {
+    if negative {
+        0x8001
+    } else {
+        0x8000
+    }
+}
+
+#[inline(always)]
+fn complement16(negative: bool, whole: u32) -> u32 {
+    if negative {
+        0x1_0000 - whole
+    } else {
+        whole
+    }
+}
+
+/// `odd` × 2^(`power` - 280), where that is a whole number below a limit of at most 2^32.
+#[inline(always)]
+fn whole_below(odd: u32, power: u32, limit: u64) -> Option<u32> {
+    let up = power.wrapping_sub(DENOMINATOR_POWER);
+    if up >= 32 {
+        return None;
+    }
+    let whole = u64::from(odd) << up;
+    if whole >= limit {
+        return None;
+    }
+    Some(whole as u32)
+}
