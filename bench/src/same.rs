@@ -186,7 +186,7 @@ impl Pair {
             return Parts::NotCanonical;
         }
         let power = u32::from((self.e as u16).wrapping_add(DENOMINATOR_POWER as u16));
-        if odd % 2 == 0 {
+        if odd & 1 == 0 {
             return Parts::NotCanonical;
         }
         if power > HIGHEST_SHIFT {
