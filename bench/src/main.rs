@@ -1,10 +1,14 @@
 //! Measures the library's reading and writing of whole reels beside other ways to do the same.
 
 mod library;
+mod passes;
 mod reels;
 mod same;
 mod segyio;
 mod tables;
+#[cfg(test)]
+mod tests;
+mod tuned;
 
 use independent::{Refused, Taken};
 use segyio::Segyio;
@@ -16,7 +20,7 @@ use tables::{Call, Row};
 
 const USAGE: &str = "usage: bench [--mb SIZE] [--runs COUNT] [--codes 1,2,3,4] [--segyio PYTHON]
        bench growth [--mb MOST] [--runs COUNT]
-       bench one read|write CODE [--mb SIZE] [--who library|same|independent]";
+       bench one read|write CODE [--mb SIZE] [--who library|same|tuned|independent]";
 
 /// N of the reels that are compared.
 const SAMPLES: u16 = 2_000;
@@ -37,15 +41,17 @@ type Answer = Result<Taken, Refused>;
 enum Who {
     Library,
     Same,
+    Tuned,
     Independent,
     Memcpy,
     SegyioFile,
     SegyioConversion,
 }
 
-const ALL: [Who; 6] = [
+const ALL: [Who; 7] = [
     Who::Library,
     Who::Same,
+    Who::Tuned,
     Who::Independent,
     Who::Memcpy,
     Who::SegyioFile,
@@ -112,6 +118,7 @@ fn options() -> Option<Options> {
                 options.who = match arguments.next()?.as_str() {
                     "library" => Who::Library,
                     "same" => Who::Same,
+                    "tuned" => Who::Tuned,
                     "independent" => Who::Independent,
                     _ => return None,
                 }
@@ -138,6 +145,8 @@ fn call(who: Who, call: Call, code: u32, input: &[u8], out: &mut [u8]) -> Answer
         (Who::Library, Call::Write) => library::write_reel(input, code, out),
         (Who::Same, Call::Read) => same::read_reel(input, out),
         (Who::Same, Call::Write) => same::write_reel(input, code, out),
+        (Who::Tuned, Call::Read) => tuned::read_reel(input, out),
+        (Who::Tuned, Call::Write) => tuned::write_reel(input, code, out),
         (Who::Independent, Call::Read) => independent::read_reel(input, out),
         (Who::Independent, Call::Write) => independent::write_reel(input, code, out),
         _ => unreachable!("it has no such call"),
@@ -228,7 +237,7 @@ fn compare(options: &Options) {
                     bytes: reel.len(),
                     seconds: best(options.runs, |who| match who {
                         // A buffer of that size comes with no page of it in memory yet.
-                        Who::Library | Who::Same => {
+                        Who::Library | Who::Same | Who::Tuned => {
                             let mut out = vec![0; length.max(64 * MEGABYTE)];
                             Some(timed(who, what, code, input, &mut out))
                         }
@@ -246,7 +255,7 @@ fn compare(options: &Options) {
 fn agree(what: Call, code: u32, input: &[u8], given: &mut [u8], out: &mut [u8]) {
     let answer = call(Who::Library, what, code, input, given);
     assert_eq!(answer.map(|taken| taken.length), Ok(given.len() as u64));
-    for who in [Who::Same, Who::Independent] {
+    for who in [Who::Same, Who::Tuned, Who::Independent] {
         out.fill(1);
         assert_eq!(call(who, what, code, input, out), answer);
         assert!(

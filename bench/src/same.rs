@@ -1,200 +1,72 @@
-//! The library's two passes in plain release Rust: the first over all causes, the second writing
-//! into the lent buffer. It is no line by line copy but what a Rust programmer would make of it and
-//! tune: signed numbers in place of sign and magnitude, no branch on a sign, and no test for a
-//! canonical pair in the second pass, for which the first has looked.
+//! The library's own algorithm in plain Rust: its two passes, with its steps and its tests for each
+//! sample, one for one. It is what the proved code would be if a Rust programmer had written it, and
+//! nothing in it was chosen by measuring.
 
-#[cfg(test)]
-mod tests;
-
+use crate::passes::{self, Samples, NOT_CANONICAL, PAIR_BYTES, UNFIT};
 use independent::{Refused, Taken};
 
-const CARD_BYTES: usize = 3_200;
-const REEL_HEADERS: usize = 3_600;
-const TRACE_HEADER: usize = 240;
-const BINARY_FIELDS: usize = 60;
-const TRACE_FIELDS: usize = 180;
+const DENOMINATOR_POWER: u32 = 280;
+const HIGHEST_SHIFT: u32 = 531;
+const BAD_GAIN: u64 = 9;
 
-// Offsets of fields 3217, 3221 and 3225 in the binary header, of 115 and 117 in a trace's.
-const INTERVAL: usize = 16;
-const COUNT: usize = 20;
-const CODE: usize = 24;
-const TRACE_COUNT: usize = 114;
-const TRACE_INTERVAL: usize = 116;
-
-const MOST_SAMPLES: u16 = 8_000;
-const MOST_INTERVAL: u16 = 32_767;
-const MOST_TRACES: usize = 100_000;
-
-const FIELD_HEAD: usize = 3;
-const PAIR_BYTES: usize = 6;
-const RECORD_HEAD: usize = 2 * FIELD_HEAD + CARD_BYTES + BINARY_FIELDS;
-const RECORD_END: usize = FIELD_HEAD + 4;
-
-const DENOMINATOR_POWER: i32 = 280;
-const LEAST_EXPONENT: i16 = -280;
-const MOST_EXPONENT: i16 = 251;
-const NOT_CANONICAL: u64 = 13;
-const UNFIT: u64 = 14;
-
-fn refused<T>(number: u64, beside: usize) -> Result<T, Refused> {
-    Err(Refused {
-        number,
-        beside: beside as u64,
-    })
-}
-
-fn be16(bytes: &[u8], at: usize) -> u16 {
-    u16::from_be_bytes([bytes[at], bytes[at + 1]])
-}
-
-fn sample_bytes(code: u32) -> usize {
-    if code == 3 {
-        2
-    } else {
-        4
-    }
-}
-
-/// The bytes of a trace in a record.
-fn held_stride(samples: usize) -> usize {
-    2 * FIELD_HEAD + TRACE_FIELDS + samples * PAIR_BYTES
-}
-
-// ## Reading
+struct Same;
 
 #[inline(never)]
 pub fn read_reel(reel: &[u8], out: &mut [u8]) -> Result<Taken, Refused> {
-    let numbers = check_reel(reel)?;
-    let ReelNumbers {
-        samples, traces, ..
-    } = numbers;
-    let length = RECORD_HEAD + traces * held_stride(samples) + RECORD_END;
-    if out.len() < length {
-        return refused(10, length);
-    }
-    put_record(reel, &numbers, &mut out[..length]);
-    Ok(Taken {
-        traces: traces as u64,
-        samples: samples as u64,
-        length: length as u64,
-    })
+    passes::read_reel::<Same>(reel, out)
 }
 
-struct ReelNumbers {
-    code: u32,
-    samples: usize,
-    interval: u16,
-    stride: usize,
-    traces: usize,
+#[inline(never)]
+pub fn write_reel(record: &[u8], code: u32, out: &mut [u8]) -> Result<Taken, Refused> {
+    passes::write_reel::<Same>(record, code, out)
 }
 
-fn check_reel(reel: &[u8]) -> Result<ReelNumbers, Refused> {
-    if reel.len() < REEL_HEADERS {
-        return refused(1, reel.len());
-    }
-    let (headers, behind) = reel.split_at(REEL_HEADERS);
-    let binary = &headers[CARD_BYTES..];
-    let code = be16(binary, CODE);
-    if !(1..=4).contains(&code) {
-        return refused(2, CARD_BYTES + CODE);
-    }
-    let count = be16(binary, COUNT);
-    if !(1..=MOST_SAMPLES).contains(&count) {
-        return refused(3, CARD_BYTES + COUNT);
-    }
-    let interval = be16(binary, INTERVAL);
-    if !(1..=MOST_INTERVAL).contains(&interval) {
-        return refused(4, CARD_BYTES + INTERVAL);
+impl Samples for Same {
+    #[inline(always)]
+    fn refused_gain(words: &[u8]) -> Option<usize> {
+        words
+            .chunks_exact(4)
+            .position(|word| gain(word.try_into().unwrap()).is_err())
     }
 
-    let code = u32::from(code);
-    let samples = usize::from(count);
-    let stride = TRACE_HEADER + samples * sample_bytes(code);
-    let traces = behind.len() / stride;
-    if behind.len() % stride != 0 {
-        return refused(5, REEL_HEADERS + traces * stride);
-    }
-    if traces > MOST_TRACES {
-        return refused(6, REEL_HEADERS + MOST_TRACES * stride);
-    }
-    for (trace, place) in behind
-        .chunks_exact(stride)
-        .zip((REEL_HEADERS..).step_by(stride))
-    {
-        let (header, words) = trace.split_at(TRACE_HEADER);
-        let own = be16(header, TRACE_COUNT);
-        if own != 0 && own != count {
-            return refused(7, place + TRACE_COUNT);
-        }
-        let own = be16(header, TRACE_INTERVAL);
-        if own != 0 && own != interval {
-            return refused(8, place + TRACE_INTERVAL);
-        }
-        if code == 4 {
-            if let Some(k) = words.chunks_exact(4).position(|word| word[0] != 0) {
-                return refused(9, place + TRACE_HEADER + 4 * k);
-            }
-        }
-    }
-    Ok(ReelNumbers {
-        code,
-        samples,
-        interval,
-        stride,
-        traces,
-    })
-}
-
-fn put_record(reel: &[u8], numbers: &ReelNumbers, out: &mut [u8]) {
-    let (headers, behind) = reel.split_at(REEL_HEADERS);
-    let (cards, binary) = headers.split_at(CARD_BYTES);
-    let (front, rest) = out.split_at_mut(RECORD_HEAD);
-    let (held, end) = rest.split_at_mut(rest.len() - RECORD_END);
-
-    let (card_field, binary_field) = front.split_at_mut(FIELD_HEAD + CARD_BYTES);
-    for (to, &byte) in put_head(card_field, 1).iter_mut().zip(cards) {
-        *to = if byte == 0 { 0x40 } else { byte };
-    }
-    let fields = put_head(binary_field, 2);
-    fields.copy_from_slice(&binary[..BINARY_FIELDS]);
-    fields[CODE..CODE + 2].fill(0);
-
-    for (trace, held) in behind
-        .chunks_exact(numbers.stride)
-        .zip(held.chunks_exact_mut(held_stride(numbers.samples)))
-    {
-        let (header, words) = trace.split_at(TRACE_HEADER);
-        let (header_field, samples_field) = held.split_at_mut(FIELD_HEAD + TRACE_FIELDS);
-        let fields = put_head(header_field, 3);
-        fields.copy_from_slice(&header[..TRACE_FIELDS]);
-        fill_in(fields, TRACE_COUNT, numbers.samples as u16);
-        fill_in(fields, TRACE_INTERVAL, numbers.interval);
-
-        let pairs = put_head(samples_field, 4);
-        match numbers.code {
+    #[inline(always)]
+    fn put_pairs(code: u32, words: &[u8], pairs: &mut [u8]) {
+        match code {
             1 => put_pairs(words, pairs, |word| ibm(u32::from_be_bytes(word))),
             2 => put_pairs(words, pairs, |word| whole32(i32::from_be_bytes(word))),
             3 => put_pairs(words, pairs, |word| whole16(i16::from_be_bytes(word))),
-            _ => put_pairs(words, pairs, gain),
+            _ => put_pairs(words, pairs, |word| gain(word).unwrap_or(ZERO)),
         }
     }
-    put_head(end, 5).copy_from_slice(&(numbers.traces as u32).to_be_bytes());
-}
 
-/// Puts the tag and the length of a field that fills the slice, and gives its content.
-fn put_head(field: &mut [u8], tag: u8) -> &mut [u8] {
-    let (head, content) = field.split_at_mut(FIELD_HEAD);
-    let [high, low] = (content.len() as u16).to_be_bytes();
-    head.copy_from_slice(&[tag, high, low]);
-    content
-}
+    #[inline(always)]
+    fn check_pairs(code: u32, pairs: &[u8]) -> Result<(), (u64, usize)> {
+        match code {
+            1 => check_pairs(pairs, ibm_of),
+            2 => check_pairs(pairs, whole32_of),
+            3 => check_pairs(pairs, whole16_of),
+            _ => check_pairs(pairs, gain_of),
+        }
+    }
 
-/// The reel's own number for a 0.
-fn fill_in(fields: &mut [u8], at: usize, own: u16) {
-    if be16(fields, at) == 0 {
-        fields[at..at + 2].copy_from_slice(&own.to_be_bytes());
+    fn uncanonical_pair(pairs: &[u8]) -> Option<usize> {
+        pairs
+            .chunks_exact(PAIR_BYTES)
+            .position(|pair| !Pair::of(pair).is_canonical())
+    }
+
+    #[inline(always)]
+    fn put_words(code: u32, pairs: &[u8], words: &mut [u8]) {
+        match code {
+            1 => put_words::<4>(pairs, words, ibm_of),
+            2 => put_words::<4>(pairs, words, whole32_of),
+            3 => put_words::<2>(pairs, words, whole16_of),
+            _ => put_words::<4>(pairs, words, gain_of),
+        }
     }
 }
+
+// ## Reading
 
 fn put_pairs<const W: usize>(words: &[u8], pairs: &mut [u8], pair_of: impl Fn([u8; W]) -> Pair) {
     for (word, pair) in words
@@ -213,235 +85,85 @@ struct Pair {
     m: i32,
 }
 
-/// The canonical pair of `number` × 2^`exponent`: the power of two is counted out of the number.
-/// Signs and zeros come in no order that a processor could foresee, so neither is branched on.
+const ZERO: Pair = Pair { e: 0, m: 0 };
+
+/// The canonical pair of ± `magnitude` × 2^(`power` - 280): the power of two in the magnitude is
+/// counted out of it.
 #[inline(always)]
-fn canonical(number: i32, exponent: i32) -> Pair {
-    let twos = number.trailing_zeros();
-    let e = exponent as i16 + twos as i16;
+fn canonical(negative: bool, magnitude: u32, power: u32) -> Pair {
+    if magnitude == 0 {
+        return ZERO;
+    }
+    let twos = magnitude.trailing_zeros();
+    let odd = (magnitude >> twos) as i32;
     Pair {
-        e: if number == 0 { 0 } else { e },
-        m: number.wrapping_shr(twos),
+        e: (power + twos) as i16 - DENOMINATOR_POWER as i16,
+        m: if negative { -odd } else { odd },
     }
 }
 
-/// Sign and magnitude.
 #[inline(always)]
 fn ibm(word: u32) -> Pair {
-    let magnitude = (word & 0xFF_FFFF) as i32;
-    let number = if word >> 31 == 0 {
-        magnitude
-    } else {
-        -magnitude
-    };
-    canonical(number, (word >> 24 & 0x7F) as i32 * 4 - DENOMINATOR_POWER)
+    canonical(word >> 31 != 0, word & 0xFF_FFFF, (word >> 24 & 0x7F) * 4)
 }
 
 #[inline(always)]
 fn whole32(number: i32) -> Pair {
-    canonical(number, 0)
+    canonical(number < 0, number.unsigned_abs(), DENOMINATOR_POWER)
 }
 
 #[inline(always)]
 fn whole16(number: i16) -> Pair {
-    canonical(i32::from(number), 0)
+    let magnitude = u32::from(number.unsigned_abs());
+    canonical(number < 0, magnitude, DENOMINATOR_POWER)
 }
 
-/// The first byte has been found to be 00.
 #[inline(always)]
-fn gain([_, g, high, low]: [u8; 4]) -> Pair {
+fn gain([first, g, high, low]: [u8; 4]) -> Result<Pair, u64> {
+    if first != 0 {
+        return Err(BAD_GAIN);
+    }
     let number = i16::from_be_bytes([high, low]);
-    canonical(i32::from(number), -i32::from(g))
+    let magnitude = u32::from(number.unsigned_abs());
+    let power = DENOMINATOR_POWER - u32::from(g);
+    Ok(canonical(number < 0, magnitude, power))
 }
 
 // ## Writing
 
-#[inline(never)]
-pub fn write_reel(record: &[u8], code: u32, out: &mut [u8]) -> Result<Taken, Refused> {
-    let RecordNumbers { samples, traces } = check_record(record, code)?;
-    let stride = TRACE_HEADER + samples * sample_bytes(code);
-    let length = REEL_HEADERS + traces * stride;
-    if out.len() < length {
-        return refused(10, length);
-    }
-    put_reel(record, code, samples, stride, &mut out[..length]);
-    Ok(Taken {
-        traces: traces as u64,
-        samples: samples as u64,
-        length: length as u64,
-    })
-}
+/// What the word of ± `odd` × 2^(`power` - 280) is under a code, or the number of the cause.
+trait WordOf: Fn(bool, u32, u32) -> Result<u32, u64> {}
 
-struct RecordNumbers {
-    samples: usize,
-    traces: usize,
-}
+impl<F: Fn(bool, u32, u32) -> Result<u32, u64>> WordOf for F {}
 
-fn check_record(record: &[u8], code: u32) -> Result<RecordNumbers, Refused> {
-    if !(1..=4).contains(&code) {
-        return refused(11, 0);
-    }
-    let cards = check_field(record, 0, 1, CARD_BYTES)?;
-    if let Some(k) = cards.iter().position(|&byte| byte == 0) {
-        return refused(13, FIELD_HEAD + k);
-    }
-    let binary_place = FIELD_HEAD + CARD_BYTES;
-    let binary = check_field(record, binary_place, 2, BINARY_FIELDS)?;
-    let interval = be16(binary, INTERVAL);
-    if !(1..=MOST_INTERVAL).contains(&interval) {
-        return refused(13, binary_place + FIELD_HEAD + INTERVAL);
-    }
-    let count = be16(binary, COUNT);
-    if !(1..=MOST_SAMPLES).contains(&count) {
-        return refused(13, binary_place + FIELD_HEAD + COUNT);
-    }
-    if be16(binary, CODE) != 0 {
-        return refused(13, binary_place + FIELD_HEAD + CODE);
-    }
-
-    let mut at = RECORD_HEAD;
-    let mut traces = 0;
-    while more(record, traces, at) {
-        let pairs = check_head(record, count, interval, at)?;
-        let found = match code {
-            1 => first_refused(pairs, Pair::ibm_word),
-            2 => first_refused(pairs, Pair::whole32_word),
-            3 => first_refused(pairs, Pair::whole16_word),
-            _ => first_refused(pairs, Pair::gain_word),
-        };
-        if let Err((number, k)) = found {
-            // Any 12 or 13 behind a sample that doesn't fit comes before it.
-            check_form(record, count, interval, traces, at)?;
-            let place = at + 2 * FIELD_HEAD + TRACE_FIELDS + PAIR_BYTES * k;
-            return refused(number, place);
-        }
-        at += held_stride(usize::from(count));
-        traces += 1;
-    }
-    check_end(record, traces, at)?;
-    Ok(RecordNumbers {
-        samples: usize::from(count),
-        traces,
-    })
-}
-
-/// Is a trace to be looked for at a place, behind so many traces?
-fn more(record: &[u8], traces: usize, at: usize) -> bool {
-    traces < MOST_TRACES && record.get(at) == Some(&3)
-}
-
-/// 12 and 13 from a place on.
-#[cold]
-fn check_form(
-    record: &[u8],
-    count: u16,
-    interval: u16,
-    mut traces: usize,
-    mut at: usize,
-) -> Result<(), Refused> {
-    while more(record, traces, at) {
-        let pairs = check_head(record, count, interval, at)?;
-        if let Some(k) = pairs
-            .chunks_exact(PAIR_BYTES)
-            .position(|pair| !Pair::of(pair).is_canonical())
-        {
-            return refused(13, at + 2 * FIELD_HEAD + TRACE_FIELDS + PAIR_BYTES * k);
-        }
-        at += held_stride(usize::from(count));
-        traces += 1;
-    }
-    check_end(record, traces, at)
-}
-
-/// 12 and 13 of a trace but for its pairs, which it gives.
-fn check_head(record: &[u8], count: u16, interval: u16, at: usize) -> Result<&[u8], Refused> {
-    let header = check_field(record, at, 3, TRACE_FIELDS)?;
-    if be16(header, TRACE_COUNT) != count {
-        return refused(13, at + FIELD_HEAD + TRACE_COUNT);
-    }
-    if be16(header, TRACE_INTERVAL) != interval {
-        return refused(13, at + FIELD_HEAD + TRACE_INTERVAL);
-    }
-    let samples_place = at + FIELD_HEAD + TRACE_FIELDS;
-    check_field(record, samples_place, 4, PAIR_BYTES * usize::from(count))
-}
-
-fn check_end(record: &[u8], traces: usize, at: usize) -> Result<(), Refused> {
-    let count = check_field(record, at, 5, 4)?;
-    if u32::from_be_bytes(count.try_into().unwrap()) as usize != traces {
-        return refused(12, at);
-    }
-    if record.len() > at + RECORD_END {
-        return refused(12, at + RECORD_END);
-    }
-    Ok(())
-}
-
-/// The content of the field that stands at a place.
-fn check_field(record: &[u8], at: usize, tag: u8, size: usize) -> Result<&[u8], Refused> {
-    let field = &record[at..];
-    if field.len() < FIELD_HEAD + size || field[0] != tag || usize::from(be16(field, 1)) != size {
-        return refused(12, at);
-    }
-    Ok(&field[FIELD_HEAD..FIELD_HEAD + size])
-}
-
-/// The first pair that is refused, with the number of the cause.
-fn first_refused<const W: usize>(
-    pairs: &[u8],
-    word_of: impl Fn(Pair) -> Option<[u8; W]>,
-) -> Result<(), (u64, usize)> {
-    for (k, pair) in pairs.chunks_exact(PAIR_BYTES).map(Pair::of).enumerate() {
-        if !pair.is_canonical() {
-            return Err((NOT_CANONICAL, k));
-        }
-        if word_of(pair).is_none() {
-            return Err((UNFIT, k));
+fn check_pairs(pairs: &[u8], word_of: impl WordOf) -> Result<(), (u64, usize)> {
+    for (k, pair) in pairs.chunks_exact(PAIR_BYTES).enumerate() {
+        if let Err(number) = Pair::of(pair).word(&word_of) {
+            return Err((number, k));
         }
     }
     Ok(())
 }
 
-fn put_reel(record: &[u8], code: u32, samples: usize, stride: usize, out: &mut [u8]) {
-    let (headers, traces) = out.split_at_mut(REEL_HEADERS);
-    let (cards, binary) = headers.split_at_mut(CARD_BYTES);
-    cards.copy_from_slice(&record[FIELD_HEAD..][..CARD_BYTES]);
-    let (fields, unassigned) = binary.split_at_mut(BINARY_FIELDS);
-    fields.copy_from_slice(&record[RECORD_HEAD - BINARY_FIELDS..RECORD_HEAD]);
-    fields[CODE..CODE + 2].copy_from_slice(&(code as u16).to_be_bytes());
-    unassigned.fill(0);
-
-    for (held, trace) in record[RECORD_HEAD..]
-        .chunks_exact(held_stride(samples))
-        .zip(traces.chunks_exact_mut(stride))
-    {
-        let (header, words) = trace.split_at_mut(TRACE_HEADER);
-        let (fields, unassigned) = header.split_at_mut(TRACE_FIELDS);
-        fields.copy_from_slice(&held[FIELD_HEAD..][..TRACE_FIELDS]);
-        unassigned.fill(0);
-
-        let pairs = &held[2 * FIELD_HEAD + TRACE_FIELDS..];
-        match code {
-            1 => put_words(pairs, words, Pair::ibm_word),
-            2 => put_words(pairs, words, Pair::whole32_word),
-            3 => put_words(pairs, words, Pair::whole16_word),
-            _ => put_words(pairs, words, Pair::gain_word),
-        }
-    }
-}
-
-/// The first pass has found that each pair has a word.
-fn put_words<const W: usize>(
-    pairs: &[u8],
-    words: &mut [u8],
-    word_of: impl Fn(Pair) -> Option<[u8; W]>,
-) {
+fn put_words<const W: usize>(pairs: &[u8], words: &mut [u8], word_of: impl WordOf) {
     for (pair, word) in pairs
         .chunks_exact(PAIR_BYTES)
         .zip(words.chunks_exact_mut(W))
     {
-        word.copy_from_slice(&word_of(Pair::of(pair)).unwrap_or([0; W]));
+        let bits = Pair::of(pair).bits(&word_of);
+        word.copy_from_slice(&bits.to_be_bytes()[..W]);
     }
+}
+
+/// A pair taken apart: not canonical, zero, or ± `odd` × 2^(`power` - 280).
+enum Parts {
+    NotCanonical,
+    Zero,
+    Odd {
+        negative: bool,
+        odd: u32,
+        power: u32,
+    },
 }
 
 impl Pair {
@@ -454,60 +176,142 @@ impl Pair {
         }
     }
 
-    /// The most negative mantissa is even, so an odd one is within its limits.
     #[inline(always)]
+    fn parts(self) -> Parts {
+        let odd = self.m.unsigned_abs();
+        if odd == 0 {
+            if self.e == 0 {
+                return Parts::Zero;
+            }
+            return Parts::NotCanonical;
+        }
+        let power = u32::from((self.e as u16).wrapping_add(DENOMINATOR_POWER as u16));
+        if odd & 1 == 0 {
+            return Parts::NotCanonical;
+        }
+        if power > HIGHEST_SHIFT {
+            return Parts::NotCanonical;
+        }
+        Parts::Odd {
+            negative: self.m < 0,
+            odd,
+            power,
+        }
+    }
+
     fn is_canonical(self) -> bool {
-        if self.m == 0 {
-            self.e == 0
-        } else {
-            self.m % 2 != 0 && (LEAST_EXPONENT..=MOST_EXPONENT).contains(&self.e)
+        !matches!(self.parts(), Parts::NotCanonical)
+    }
+
+    #[inline(always)]
+    fn word(self, word_of: impl WordOf) -> Result<u32, u64> {
+        match self.parts() {
+            Parts::NotCanonical => Err(NOT_CANONICAL),
+            Parts::Zero => Ok(0),
+            Parts::Odd {
+                negative,
+                odd,
+                power,
+            } => word_of(negative, odd, power),
         }
     }
 
-    /// The largest characteristic that leaves the fraction whole, then digit by digit down from it.
+    /// The bits of the pair's word, 0 where it has none.
     #[inline(always)]
-    fn ibm_word(self) -> Option<[u8; 4]> {
-        if self.m == 0 {
-            return Some([0; 4]);
+    fn bits(self, word_of: impl WordOf) -> u32 {
+        match self.parts() {
+            Parts::NotCanonical => 0,
+            Parts::Zero => 0,
+            Parts::Odd {
+                negative,
+                odd,
+                power,
+            } => word_of(negative, odd, power).unwrap_or(0),
         }
-        let power = (i32::from(self.e) + DENOMINATOR_POWER) as u32;
-        let top = (power / 4).min(127);
-        let wide = u64::from(self.m.unsigned_abs()) << (power - 4 * top);
-        if wide >= 1 << 24 {
-            return None;
-        }
-        let fraction = wide as u32;
-        let digits = ((fraction.leading_zeros() - 8) / 4).min(top);
-        let sign = self.m as u32 & 0x8000_0000;
-        Some((sign | (top - digits) << 24 | fraction << (4 * digits)).to_be_bytes())
     }
+}
 
-    #[inline(always)]
-    fn whole32_word(self) -> Option<[u8; 4]> {
-        let whole = i32::try_from(self.whole()?).ok()?;
-        Some(whole.to_be_bytes())
+/// The least characteristic at which the fraction is below 2^24.
+#[inline(always)]
+fn characteristic_of(odd: u32, power: u32) -> u32 {
+    let highest = 31 - odd.leading_zeros() + power;
+    if highest < 20 {
+        return 0;
     }
+    (highest - 20) / 4
+}
 
-    #[inline(always)]
-    fn whole16_word(self) -> Option<[u8; 2]> {
-        let whole = i16::try_from(self.whole()?).ok()?;
-        Some(whole.to_be_bytes())
+/// Where the least characteristic doesn't leave the fraction whole, no larger one does.
+#[inline(always)]
+fn ibm_of(negative: bool, odd: u32, power: u32) -> Result<u32, u64> {
+    let characteristic = characteristic_of(odd, power);
+    if characteristic > 127 {
+        return Err(UNFIT);
     }
+    if power < characteristic * 4 {
+        return Err(UNFIT);
+    }
+    let sign = if negative { 0x8000_0000 } else { 0 };
+    Ok(sign + (characteristic << 24) + (odd << (power - characteristic * 4)))
+}
 
-    /// The least gain that leaves the number whole.
-    #[inline(always)]
-    fn gain_word(self) -> Option<[u8; 4]> {
-        let twos = self.e.max(0);
-        let gain = u8::try_from(twos - self.e).ok()?;
-        let number = i64::from(self.m) << twos.min(32);
-        let [high, low] = i16::try_from(number).ok()?.to_be_bytes();
-        Some([0, gain, high, low])
-    }
+#[inline(always)]
+fn whole32_of(negative: bool, odd: u32, power: u32) -> Result<u32, u64> {
+    let limit = if negative { 0x8000_0001 } else { 0x8000_0000 };
+    let whole = whole_below(odd, power, limit).ok_or(UNFIT)?;
+    Ok(if negative {
+        whole.wrapping_neg()
+    } else {
+        whole
+    })
+}
 
-    /// The value, where it is whole; one beyond 32 bits where it is far beyond.
-    #[inline(always)]
-    fn whole(self) -> Option<i64> {
-        let twos = u32::try_from(self.e).ok()?;
-        Some(i64::from(self.m) << twos.min(32))
+/// In the word's first two bytes.
+#[inline(always)]
+fn whole16_of(negative: bool, odd: u32, power: u32) -> Result<u32, u64> {
+    let whole = whole_below(odd, power, limit16(negative)).ok_or(UNFIT)?;
+    Ok(complement16(negative, whole) << 16)
+}
+
+/// With the least gain that leaves the number whole.
+#[inline(always)]
+fn gain_of(negative: bool, odd: u32, power: u32) -> Result<u32, u64> {
+    let gain = DENOMINATOR_POWER - power.min(DENOMINATOR_POWER);
+    if gain > 255 {
+        return Err(UNFIT);
     }
+    let whole = whole_below(odd, power + gain, limit16(negative)).ok_or(UNFIT)?;
+    Ok((gain << 16) + complement16(negative, whole))
+}
+
+#[inline(always)]
+fn limit16(negative: bool) -> u64 {
+    if negative {
+        0x8001
+    } else {
+        0x8000
+    }
+}
+
+#[inline(always)]
+fn complement16(negative: bool, whole: u32) -> u32 {
+    if negative {
+        0x1_0000 - whole
+    } else {
+        whole
+    }
+}
+
+/// `odd` × 2^(`power` - 280), where that is a whole number below a limit of at most 2^32.
+#[inline(always)]
+fn whole_below(odd: u32, power: u32, limit: u64) -> Option<u32> {
+    let up = power.wrapping_sub(DENOMINATOR_POWER);
+    if up >= 32 {
+        return None;
+    }
+    let whole = u64::from(odd) << up;
+    if whole >= limit {
+        return None;
+    }
+    Some(whole as u32)
 }

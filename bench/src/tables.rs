@@ -20,6 +20,7 @@ pub fn name(who: Who, call: Call) -> &'static str {
     match (who, call) {
         (Who::Library, _) => "library",
         (Who::Same, _) => "same algorithm in Rust",
+        (Who::Tuned, _) => "tuned Rust",
         (Who::Independent, _) => "independent Rust",
         (Who::Memcpy, _) => "memcpy of the reel",
         (Who::SegyioFile, Call::Read) => "segyio, from a file",
@@ -65,16 +66,17 @@ pub fn untouched(rows: &[Row]) {
     for row in rows {
         if row.call == Call::Read {
             println!("\nThe first call on an output buffer that was never touched, code 1, MB of reel a second:\n");
-            println!("| call | library | same algorithm in Rust |");
-            println!("|---|---|---|");
+            println!("| call | library | same algorithm in Rust | tuned Rust |");
+            println!("|---|---|---|---|");
         }
         let speeds = row.speeds();
-        let [library, same] = [speeds[0], speeds[1]].map(|speed| speed.unwrap_or(f64::NAN));
+        let [library, same, tuned] =
+            [speeds[0], speeds[1], speeds[2]].map(|speed| speed.unwrap_or(f64::NAN));
         let call = match row.call {
             Call::Read => "reading",
             Call::Write => "writing",
         };
-        println!("| {call} | {library:.0} | {same:.0} |");
+        println!("| {call} | {library:.0} | {same:.0} | {tuned:.0} |");
     }
 }
 

@@ -1,0 +1,346 @@
+//! The library's two passes in plain Rust, the first over all causes, the second writing into the
+//! lent buffer, around what is done for each sample.
+
+use independent::{Refused, Taken};
+
+const CARD_BYTES: usize = 3_200;
+const REEL_HEADERS: usize = 3_600;
+const TRACE_HEADER: usize = 240;
+const BINARY_FIELDS: usize = 60;
+const TRACE_FIELDS: usize = 180;
+
+// Offsets of fields 3217, 3221 and 3225 in the binary header, of 115 and 117 in a trace's.
+const INTERVAL: usize = 16;
+const COUNT: usize = 20;
+const CODE: usize = 24;
+const TRACE_COUNT: usize = 114;
+const TRACE_INTERVAL: usize = 116;
+
+const MOST_SAMPLES: u16 = 8_000;
+const MOST_INTERVAL: u16 = 32_767;
+const MOST_TRACES: usize = 100_000;
+
+const FIELD_HEAD: usize = 3;
+pub const PAIR_BYTES: usize = 6;
+const RECORD_HEAD: usize = 2 * FIELD_HEAD + CARD_BYTES + BINARY_FIELDS;
+const RECORD_END: usize = FIELD_HEAD + 4;
+
+/// The numbers of the causes that apply to a pair.
+pub const NOT_CANONICAL: u64 = 13;
+pub const UNFIT: u64 = 14;
+
+/// What is done for each sample, by the words and the pairs of a trace and a code of 1 to 4.
+pub trait Samples {
+    /// The first gain word that is refused.
+    fn refused_gain(words: &[u8]) -> Option<usize>;
+
+    fn put_pairs(code: u32, words: &[u8], pairs: &mut [u8]);
+
+    /// The first pair that is refused, by the number of the cause and the count of those before it.
+    fn check_pairs(code: u32, pairs: &[u8]) -> Result<(), (u64, usize)>;
+
+    /// The first pair that isn't canonical.
+    fn uncanonical_pair(pairs: &[u8]) -> Option<usize>;
+
+    /// The first pass has found that each pair has a word.
+    fn put_words(code: u32, pairs: &[u8], words: &mut [u8]);
+}
+
+fn refused<T>(number: u64, beside: usize) -> Result<T, Refused> {
+    Err(Refused {
+        number,
+        beside: beside as u64,
+    })
+}
+
+fn be16(bytes: &[u8], at: usize) -> u16 {
+    u16::from_be_bytes([bytes[at], bytes[at + 1]])
+}
+
+fn sample_bytes(code: u32) -> usize {
+    if code == 3 {
+        2
+    } else {
+        4
+    }
+}
+
+/// The bytes of a trace in a record.
+fn held_stride(samples: usize) -> usize {
+    2 * FIELD_HEAD + TRACE_FIELDS + samples * PAIR_BYTES
+}
+
+// ## Reading
+
+#[inline(always)]
+pub fn read_reel<S: Samples>(reel: &[u8], out: &mut [u8]) -> Result<Taken, Refused> {
+    let numbers = check_reel::<S>(reel)?;
+    let ReelNumbers {
+        samples, traces, ..
+    } = numbers;
+    let length = RECORD_HEAD + traces * held_stride(samples) + RECORD_END;
+    if out.len() < length {
+        return refused(10, length);
+    }
+    put_record::<S>(reel, &numbers, &mut out[..length]);
+    Ok(Taken {
+        traces: traces as u64,
+        samples: samples as u64,
+        length: length as u64,
+    })
+}
+
+struct ReelNumbers {
+    code: u32,
+    samples: usize,
+    interval: u16,
+    stride: usize,
+    traces: usize,
+}
+
+fn check_reel<S: Samples>(reel: &[u8]) -> Result<ReelNumbers, Refused> {
+    if reel.len() < REEL_HEADERS {
+        return refused(1, reel.len());
+    }
+    let (headers, behind) = reel.split_at(REEL_HEADERS);
+    let binary = &headers[CARD_BYTES..];
+    let code = be16(binary, CODE);
+    if !(1..=4).contains(&code) {
+        return refused(2, CARD_BYTES + CODE);
+    }
+    let count = be16(binary, COUNT);
+    if !(1..=MOST_SAMPLES).contains(&count) {
+        return refused(3, CARD_BYTES + COUNT);
+    }
+    let interval = be16(binary, INTERVAL);
+    if !(1..=MOST_INTERVAL).contains(&interval) {
+        return refused(4, CARD_BYTES + INTERVAL);
+    }
+
+    let code = u32::from(code);
+    let samples = usize::from(count);
+    let stride = TRACE_HEADER + samples * sample_bytes(code);
+    let traces = behind.len() / stride;
+    if behind.len() % stride != 0 {
+        return refused(5, REEL_HEADERS + traces * stride);
+    }
+    if traces > MOST_TRACES {
+        return refused(6, REEL_HEADERS + MOST_TRACES * stride);
+    }
+    for (trace, place) in behind
+        .chunks_exact(stride)
+        .zip((REEL_HEADERS..).step_by(stride))
+    {
+        let (header, words) = trace.split_at(TRACE_HEADER);
+        let own = be16(header, TRACE_COUNT);
+        if own != 0 && own != count {
+            return refused(7, place + TRACE_COUNT);
+        }
+        let own = be16(header, TRACE_INTERVAL);
+        if own != 0 && own != interval {
+            return refused(8, place + TRACE_INTERVAL);
+        }
+        if code == 4 {
+            if let Some(k) = S::refused_gain(words) {
+                return refused(9, place + TRACE_HEADER + 4 * k);
+            }
+        }
+    }
+    Ok(ReelNumbers {
+        code,
+        samples,
+        interval,
+        stride,
+        traces,
+    })
+}
+
+fn put_record<S: Samples>(reel: &[u8], numbers: &ReelNumbers, out: &mut [u8]) {
+    let (headers, behind) = reel.split_at(REEL_HEADERS);
+    let (cards, binary) = headers.split_at(CARD_BYTES);
+    let (front, rest) = out.split_at_mut(RECORD_HEAD);
+    let (held, end) = rest.split_at_mut(rest.len() - RECORD_END);
+
+    let (card_field, binary_field) = front.split_at_mut(FIELD_HEAD + CARD_BYTES);
+    for (to, &byte) in put_head(card_field, 1).iter_mut().zip(cards) {
+        *to = if byte == 0 { 0x40 } else { byte };
+    }
+    let fields = put_head(binary_field, 2);
+    fields.copy_from_slice(&binary[..BINARY_FIELDS]);
+    fields[CODE..CODE + 2].fill(0);
+
+    for (trace, held) in behind
+        .chunks_exact(numbers.stride)
+        .zip(held.chunks_exact_mut(held_stride(numbers.samples)))
+    {
+        let (header, words) = trace.split_at(TRACE_HEADER);
+        let (header_field, samples_field) = held.split_at_mut(FIELD_HEAD + TRACE_FIELDS);
+        let fields = put_head(header_field, 3);
+        fields.copy_from_slice(&header[..TRACE_FIELDS]);
+        fill_in(fields, TRACE_COUNT, numbers.samples as u16);
+        fill_in(fields, TRACE_INTERVAL, numbers.interval);
+
+        S::put_pairs(numbers.code, words, put_head(samples_field, 4));
+    }
+    put_head(end, 5).copy_from_slice(&(numbers.traces as u32).to_be_bytes());
+}
+
+/// Puts the tag and the length of a field that fills the slice, and gives its content.
+fn put_head(field: &mut [u8], tag: u8) -> &mut [u8] {
+    let (head, content) = field.split_at_mut(FIELD_HEAD);
+    let [high, low] = (content.len() as u16).to_be_bytes();
+    head.copy_from_slice(&[tag, high, low]);
+    content
+}
+
+/// The reel's own number for a 0.
+fn fill_in(fields: &mut [u8], at: usize, own: u16) {
+    if be16(fields, at) == 0 {
+        fields[at..at + 2].copy_from_slice(&own.to_be_bytes());
+    }
+}
+
+// ## Writing
+
+#[inline(always)]
+pub fn write_reel<S: Samples>(record: &[u8], code: u32, out: &mut [u8]) -> Result<Taken, Refused> {
+    let RecordNumbers { samples, traces } = check_record::<S>(record, code)?;
+    let stride = TRACE_HEADER + samples * sample_bytes(code);
+    let length = REEL_HEADERS + traces * stride;
+    if out.len() < length {
+        return refused(10, length);
+    }
+    put_reel::<S>(record, code, samples, stride, &mut out[..length]);
+    Ok(Taken {
+        traces: traces as u64,
+        samples: samples as u64,
+        length: length as u64,
+    })
+}
+
+struct RecordNumbers {
+    samples: usize,
+    traces: usize,
+}
+
+fn check_record<S: Samples>(record: &[u8], code: u32) -> Result<RecordNumbers, Refused> {
+    if !(1..=4).contains(&code) {
+        return refused(11, 0);
+    }
+    let cards = check_field(record, 0, 1, CARD_BYTES)?;
+    if let Some(k) = cards.iter().position(|&byte| byte == 0) {
+        return refused(13, FIELD_HEAD + k);
+    }
+    let binary_place = FIELD_HEAD + CARD_BYTES;
+    let binary = check_field(record, binary_place, 2, BINARY_FIELDS)?;
+    let interval = be16(binary, INTERVAL);
+    if !(1..=MOST_INTERVAL).contains(&interval) {
+        return refused(13, binary_place + FIELD_HEAD + INTERVAL);
+    }
+    let count = be16(binary, COUNT);
+    if !(1..=MOST_SAMPLES).contains(&count) {
+        return refused(13, binary_place + FIELD_HEAD + COUNT);
+    }
+    if be16(binary, CODE) != 0 {
+        return refused(13, binary_place + FIELD_HEAD + CODE);
+    }
+
+    let mut at = RECORD_HEAD;
+    let mut traces = 0;
+    while more(record, traces, at) {
+        let pairs = check_head(record, count, interval, at)?;
+        if let Err((number, k)) = S::check_pairs(code, pairs) {
+            // Any 12 or 13 behind a sample that doesn't fit comes before it.
+            check_form::<S>(record, count, interval, traces, at)?;
+            let place = at + 2 * FIELD_HEAD + TRACE_FIELDS + PAIR_BYTES * k;
+            return refused(number, place);
+        }
+        at += held_stride(usize::from(count));
+        traces += 1;
+    }
+    check_end(record, traces, at)?;
+    Ok(RecordNumbers {
+        samples: usize::from(count),
+        traces,
+    })
+}
+
+/// Is a trace to be looked for at a place, behind so many traces?
+fn more(record: &[u8], traces: usize, at: usize) -> bool {
+    traces < MOST_TRACES && record.get(at) == Some(&3)
+}
+
+/// 12 and 13 from a place on.
+#[cold]
+fn check_form<S: Samples>(
+    record: &[u8],
+    count: u16,
+    interval: u16,
+    mut traces: usize,
+    mut at: usize,
+) -> Result<(), Refused> {
+    while more(record, traces, at) {
+        let pairs = check_head(record, count, interval, at)?;
+        if let Some(k) = S::uncanonical_pair(pairs) {
+            return refused(13, at + 2 * FIELD_HEAD + TRACE_FIELDS + PAIR_BYTES * k);
+        }
+        at += held_stride(usize::from(count));
+        traces += 1;
+    }
+    check_end(record, traces, at)
+}
+
+/// 12 and 13 of a trace but for its pairs, which it gives.
+fn check_head(record: &[u8], count: u16, interval: u16, at: usize) -> Result<&[u8], Refused> {
+    let header = check_field(record, at, 3, TRACE_FIELDS)?;
+    if be16(header, TRACE_COUNT) != count {
+        return refused(13, at + FIELD_HEAD + TRACE_COUNT);
+    }
+    if be16(header, TRACE_INTERVAL) != interval {
+        return refused(13, at + FIELD_HEAD + TRACE_INTERVAL);
+    }
+    let samples_place = at + FIELD_HEAD + TRACE_FIELDS;
+    check_field(record, samples_place, 4, PAIR_BYTES * usize::from(count))
+}
+
+fn check_end(record: &[u8], traces: usize, at: usize) -> Result<(), Refused> {
+    let count = check_field(record, at, 5, 4)?;
+    if u32::from_be_bytes(count.try_into().unwrap()) as usize != traces {
+        return refused(12, at);
+    }
+    if record.len() > at + RECORD_END {
+        return refused(12, at + RECORD_END);
+    }
+    Ok(())
+}
+
+/// The content of the field that stands at a place.
+fn check_field(record: &[u8], at: usize, tag: u8, size: usize) -> Result<&[u8], Refused> {
+    let field = &record[at..];
+    if field.len() < FIELD_HEAD + size || field[0] != tag || usize::from(be16(field, 1)) != size {
+        return refused(12, at);
+    }
+    Ok(&field[FIELD_HEAD..FIELD_HEAD + size])
+}
+
+fn put_reel<S: Samples>(record: &[u8], code: u32, samples: usize, stride: usize, out: &mut [u8]) {
+    let (headers, traces) = out.split_at_mut(REEL_HEADERS);
+    let (cards, binary) = headers.split_at_mut(CARD_BYTES);
+    cards.copy_from_slice(&record[FIELD_HEAD..][..CARD_BYTES]);
+    let (fields, unassigned) = binary.split_at_mut(BINARY_FIELDS);
+    fields.copy_from_slice(&record[RECORD_HEAD - BINARY_FIELDS..RECORD_HEAD]);
+    fields[CODE..CODE + 2].copy_from_slice(&(code as u16).to_be_bytes());
+    unassigned.fill(0);
+
+    for (held, trace) in record[RECORD_HEAD..]
+        .chunks_exact(held_stride(samples))
+        .zip(traces.chunks_exact_mut(stride))
+    {
+        let (header, words) = trace.split_at_mut(TRACE_HEADER);
+        let (fields, unassigned) = header.split_at_mut(TRACE_FIELDS);
+        fields.copy_from_slice(&held[FIELD_HEAD..][..TRACE_FIELDS]);
+        unassigned.fill(0);
+
+        S::put_words(code, &held[2 * FIELD_HEAD + TRACE_FIELDS..], words);
+    }
+}
