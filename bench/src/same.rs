@@ -231,28 +231,19 @@ impl Pair {
     }
 }
 
-/// The least characteristic at which the fraction is below 2^24.
-#[inline(always)]
-fn characteristic_of(odd: u32, power: u32) -> u32 {
-    let highest = 31 - odd.leading_zeros() + power;
-    if highest < 20 {
-        return 0;
-    }
-    (highest - 20) / 4
-}
-
-/// Where the least characteristic doesn't leave the fraction whole, no larger one does.
+/// First the largest characteristic that leaves the fraction whole, then digit by digit down from it
+/// until the fraction's first digit isn't 0 or the characteristic is.
 #[inline(always)]
 fn ibm_of(negative: bool, odd: u32, power: u32) -> Result<u32, u64> {
-    let characteristic = characteristic_of(odd, power);
-    if characteristic > 127 {
+    let top = (power / 4).min(127);
+    let wide = u64::from(odd) << (power - top * 4);
+    if wide >= 0x100_0000 {
         return Err(UNFIT);
     }
-    if power < characteristic * 4 {
-        return Err(UNFIT);
-    }
+    let fraction = wide as u32;
+    let digits = ((fraction.leading_zeros() - 8) / 4).min(top);
     let sign = if negative { 0x8000_0000 } else { 0 };
-    Ok(sign + (characteristic << 24) + (odd << (power - characteristic * 4)))
+    Ok(sign + ((top - digits) << 24) + (fraction << (digits * 4)))
 }
 
 #[inline(always)]
