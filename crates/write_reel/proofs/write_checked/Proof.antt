@@ -27,7 +27,7 @@ size : (c : tie.After-width-of) → let a = c .before .before .before .args in 3
 size c = let a = c .before .before .before .args in ap (λ (v : ℕ). 3600 + a .t * (240 + a .n * v)) (c .width-of .ensures .0)
 
 width-of-requires : tie.Need-width-of-requires
-width-of-requires c κs = search needs
+width-of-requires c κs = tt
 
 mul-w : tie.Need-mul-w
 mul-w c = omega (arith, wide c)
@@ -48,7 +48,7 @@ returns c =
     short-end (a .«record» .now) (a .code) (a .reel .now) (a .n) (a .t) (3600 + a .t * (240 + a .n * c .before .width-of .result)) (owns s) (size (c .before)) (c .if1 .taken)
 
 slice-relend-prefix-put-reel : tie.Need-slice-relend-prefix-put-reel
-slice-relend-prefix-put-reel c = search needs
+slice-relend-prefix-put-reel c = c .if1 .left
 
 slice-aggregate-put-reel : tie.Need-slice-aggregate-put-reel
 slice-aggregate-put-reel c =

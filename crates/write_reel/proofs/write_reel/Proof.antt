@@ -6,7 +6,7 @@ use Rattle.write_reel.proofs.write_reel.Statement.{statement}
 use Rattle.write_reel.proofs.write_reel.Tie as tie
 
 check-record-requires : tie.Need-check-record-requires
-check-record-requires c κs = search needs
+check-record-requires c κs = tt
 
 enum-known-c : tie.Need-enum-known-c
 enum-known-c c = search needs
