@@ -6,7 +6,6 @@ use lib.Seq.{length-take-le}
 use Prim.Native.Nat.{ℕ, _+_, _*_, _≤_}
 use mathlib.Core.Path.{_≡_, refl, sym, ap, subst, _∙_}
 use native.Mathlib.Omega.{arith}
-use borrow.Author.Needs.{needs}
 use Rattle.write_reel.proofs.write_checked.Statement.{statement}
 use Rattle.write_reel.proofs.write_checked.Tie as tie
 
@@ -63,7 +62,7 @@ put-reel-requires c κs =
     (f .a-code, ap (λ (v : ℕ). 240 + a .n * v) (c .before .before .width-of .ensures .0), f .n-high, f .room, length-take-le (3600 + a .t * (240 + a .n * c .before .before .width-of .result)) (a .reel .now) (c .before .if1 .left))
 
 same-length : tie.Need-same-length
-same-length c = search needs
+same-length c = c .before .reel .given .1
 
 returns-2 : tie.Need-returns-2
 returns-2 c =
