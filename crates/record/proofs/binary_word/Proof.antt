@@ -17,7 +17,7 @@ place c =
     ap placeNo (c .field-at .ensures ∙ field-place (record { 0 = 6 }) (s .args .b) (s .pre .0) (omega arith)) ∙ omega (arith, s .pre)
 
 field-at-requires : tie.Need-field-at-requires
-field-at-requires c κs = search needs
+field-at-requires c κs = tt
 
 word-at-requires : tie.Need-word-at-requires
 word-at-requires c κs = omega (arith, place c, c .before .before .pre)

@@ -8,7 +8,7 @@ use lib.ListN.{length}
 use Prim.Native.Nat.{ℕ, _≤_}
 use mathlib.Core.Path.{_≡_, sym, ap, _∙_}
 use native.Mathlib.Omega.{arith}
-use borrow.Author.Needs.{needs}
+use lib.Dec.{lit<}
 use Rattle.record.proofs.check_binary.Statement.{statement}
 use Rattle.record.proofs.check_binary.Tie as tie
 
@@ -20,13 +20,13 @@ room : (c : tie.After-enum-told) → 3266 ≤ length (c .before .before .before 
 room c = field-room (c .before .before .before .before .args .«record» .now) 2 60 3203 (fine c)
 
 check-field-requires : tie.Need-check-field-requires
-check-field-requires c κs = search needs
+check-field-requires c κs = (c .before .pre, lit< tt)
 
 enum-told : tie.Need-enum-told
-enum-told c = search needs
+enum-told c = c .match .keys1
 
 enum-told-2 : tie.Need-enum-told-2
-enum-told-2 c = search needs
+enum-told-2 c = c .match .keys2
 
 returns : tie.Need-returns
 unfolding binaryCauses
@@ -42,7 +42,7 @@ binary-word-requires-3 : tie.Need-binary-word-requires-3
 binary-word-requires-3 c κs = (omega arith, omega (arith, room (c .before .before)))
 
 check-numbers-requires : tie.Need-check-numbers-requires
-check-numbers-requires c κs = search needs
+check-numbers-requires c κs = tt
 
 returns-2 : tie.Need-returns-2
 unfolding binaryCauses

@@ -14,7 +14,6 @@ use lib.ListN.{length}
 use Prim.Native.Nat.{_+_, _*_, _≤_}
 use mathlib.Core.Path.{_≡_, refl, sym, ap, _∙_}
 use native.Mathlib.Omega.{arith}
-use borrow.Author.Needs.{needs}
 use Rattle.record.proofs.check_canonical.Statement.{statement}
 use Rattle.record.proofs.check_canonical.Tie as tie
 
@@ -29,13 +28,13 @@ canonical : (c : tie.After-is-canonical Inv-loop μ-loop) → c .is-canonical .r
 canonical c = c .is-canonical .ensures ∙ ap isCanonical (c .before .pair-at .ensures)
 
 loop-holds : tie.Need-loop-holds Inv-loop μ-loop
-loop-holds c = search needs
+loop-holds c = (refl, c .before .pre)
 
 pair-at-requires : tie.Need-pair-at-requires Inv-loop μ-loop
 pair-at-requires c κs = omega (arith, times-more (c .before .loop .left) 6 (c .loop-test .taken), c .before .loop .inv)
 
 is-canonical-requires : tie.Need-is-canonical-requires Inv-loop μ-loop
-is-canonical-requires c κs = search needs
+is-canonical-requires c κs = tt
 
 returns : tie.Need-returns Inv-loop μ-loop
 returns c =
@@ -48,10 +47,10 @@ add-at : tie.Need-add-at Inv-loop μ-loop
 add-at c = omega (arith, times-more (c .before .before .before .before .loop .left) 6 (c .before .before .before .loop-test .taken), c .before .before .before .before .loop .inv)
 
 sub-left : tie.Need-sub-left Inv-loop μ-loop
-sub-left c = search needs
+sub-left c = omega (arith, c .before .before .before .loop-test .taken)
 
 loop-less : tie.Need-loop-less Inv-loop μ-loop
-loop-less c = search needs
+loop-less c = omega (arith, c .before .before .before .loop-test .taken)
 
 loop-again : tie.Need-loop-again Inv-loop μ-loop
 loop-again c =

@@ -4,7 +4,8 @@ use Rattle.record.specs.Form.{fieldCause, cardsCauses}
 use Rattle.numbers.proofs.CauseLaws.{then-stop, then-next}
 use Rattle.numbers.specs.declared.Check.the-variants.{Fine}
 use mathlib.Core.Path.{_≡_, sym, _∙_}
-use borrow.Author.Needs.{needs}
+use native.Mathlib.Omega.{arith}
+use lib.Dec.{lit<}
 use Rattle.record.proofs.check_cards.Statement.{statement}
 use Rattle.record.proofs.check_cards.Tie as tie
 
@@ -12,13 +13,13 @@ fine : (c : tie.After-enum-told) → fieldCause (c .before .before .before .befo
 fine c = sym (c .before .before .check-field .ensures) ∙ c .enum-told .given .1
 
 check-field-requires : tie.Need-check-field-requires
-check-field-requires c κs = search needs
+check-field-requires c κs = (omega arith, lit< tt)
 
 enum-told : tie.Need-enum-told
-enum-told c = search needs
+enum-told c = c .match .keys1
 
 enum-told-2 : tie.Need-enum-told-2
-enum-told-2 c = search needs
+enum-told-2 c = c .match .keys2
 
 returns : tie.Need-returns
 unfolding cardsCauses

@@ -13,7 +13,6 @@ use mathlib.Core.Bool.{true, not}
 use Prim.Native.Nat.{ℕ}
 use mathlib.Core.Path.{_≡_, sym, ap, ap₂, _∙_}
 use native.Mathlib.Omega.{arith}
-use borrow.Author.Needs.{needs}
 use Rattle.record.proofs.check_causes.Statement.{statement}
 use Rattle.record.proofs.check_causes.Tie as tie
 
@@ -27,26 +26,26 @@ head : (c : tie.After-enum-told3) → Headed (c .before .before .before .before 
 head c = headed (c .before .before .before .before .before .before .before .args .«record» .now) (front c)
 
 check-limits-requires : tie.Need-check-limits-requires
-check-limits-requires c κs = search needs
+check-limits-requires c κs = tt
 
 enum-told : tie.Need-enum-told
-enum-told c = search needs
+enum-told c = c .match .keys1
 
 enum-told-2 : tie.Need-enum-told-2
-enum-told-2 c = search needs
+enum-told-2 c = c .match .keys2
 
 returns : tie.Need-returns
 unfolding targetCauses
 returns c = let e = c .before .before .check-limits .ensures in e ∙ then-stop _ _ (sym e ∙ c .enum-told2 .given .1)
 
 check-front-requires : tie.Need-check-front-requires
-check-front-requires c κs = search needs
+check-front-requires c κs = tt
 
 enum-told-3 : tie.Need-enum-told-3
-enum-told-3 c = search needs
+enum-told-3 c = c .match2 .keys1
 
 enum-told-4 : tie.Need-enum-told-4
-enum-told-4 c = search needs
+enum-told-4 c = c .match2 .keys2
 
 returns-2 : tie.Need-returns-2
 returns-2 c =

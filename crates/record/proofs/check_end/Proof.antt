@@ -8,13 +8,12 @@ use Rattle.numbers.proofs.CauseLaws.{then-stop, then-next}
 use Rattle.numbers.specs.declared.Check.{Check}
 use Rattle.numbers.specs.declared.Check.the-variants.{Fine, Refused}
 use borrow.Author.Tests.{eq-eqb, ne-eqb, lt-ltb, le-ltb}
-use lib.Dec.{ltb, eqb}
+use lib.Dec.{lit<, ltb, eqb}
 use lib.ListN.{length}
 use mathlib.Core.Bool.{not}
 use Prim.Native.Nat.{ℕ, _+_, _≤_}
 use mathlib.Core.Path.{_≡_, refl, sym, ap, _∙_}
 use native.Mathlib.Omega.{arith}
-use borrow.Author.Needs.{needs}
 use Rattle.record.proofs.check_end.Statement.{statement}
 use Rattle.record.proofs.check_end.Tie as tie
 
@@ -35,13 +34,13 @@ same c =
     sym (ap (count (c .before)) (c .before .count-at .ensures)) ∙ m
 
 check-field-requires : tie.Need-check-field-requires
-check-field-requires c κs = search needs
+check-field-requires c κs = (c .before .pre, lit< tt)
 
 enum-told : tie.Need-enum-told
-enum-told c = search needs
+enum-told c = c .match .keys1
 
 enum-told-2 : tie.Need-enum-told-2
-enum-told-2 c = search needs
+enum-told-2 c = c .match .keys2
 
 returns : tie.Need-returns
 returns c = let e = c .before .before .check-field .ensures in e ∙ then-stop _ _ (sym e ∙ c .enum-told2 .given .1)

@@ -6,7 +6,6 @@ use lib.ListN.{length, getD}
 use Prim.Native.Nat.{_+_, _≤_}
 use mathlib.Core.Path.{_≡_, sym, _∙_}
 use native.Mathlib.Omega.{arith}
-use borrow.Author.Needs.{needs}
 use Rattle.record.proofs.check_field.Statement.{statement}
 use Rattle.record.proofs.check_field.Tie as tie
 
@@ -15,10 +14,10 @@ room : (c : tie.Else1) → let a = c .before .before .args in a .at + (3 + a .si
 room c = omega (arith, c .if1 .left, c .before .before .pre)
 
 sub-if1 : tie.Need-sub-if1
-sub-if1 c = search needs
+sub-if1 c = omega (arith, c .before .pre .0)
 
 add-if1 : tie.Need-add-if1
-add-if1 c = search needs
+add-if1 c = omega (arith, c .before .pre .1)
 
 returns : tie.Need-returns
 returns c =
@@ -26,7 +25,7 @@ returns c =
     rw (lt-leb (a .at + (3 + a .size)) (length (a .«record» .now)) (omega (arith, c .if1 .taken, c .before .before .pre)))
 
 shared-slice-read-if2 : tie.Need-shared-slice-read-if2
-shared-slice-read-if2 c = search needs
+shared-slice-read-if2 c = omega (arith, room (c .before))
 
 returns-2 : tie.Need-returns-2
 returns-2 c =
@@ -34,10 +33,10 @@ returns-2 c =
     rw (le-leb (a .at + (3 + a .size)) (length (a .«record» .now)) (room (c .before .before)), ne-eqb (getD (a .«record» .now) (a .at) 0) (a .tag) (c .if2 .taken))
 
 add-t6 : tie.Need-add-t6
-add-t6 c = search needs
+add-t6 c = omega (arith, room (c .before .before), c .before .before .before .before .good .0)
 
 word-at-requires : tie.Need-word-at-requires
-word-at-requires c κs = search needs
+word-at-requires c κs = omega (arith, room (c .before .before))
 
 returns-3 : tie.Need-returns-3
 returns-3 c =

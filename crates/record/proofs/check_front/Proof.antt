@@ -4,7 +4,6 @@ use Rattle.record.specs.Form.{fieldCause, cardsCauses}
 use Rattle.numbers.proofs.CauseLaws.{then-stop, then-next, then-fine}
 use Rattle.numbers.specs.declared.Check.the-variants.{Fine}
 use mathlib.Core.Path.{_≡_, sym, _∙_}
-use borrow.Author.Needs.{needs}
 use Rattle.record.proofs.check_front.Statement.{statement}
 use Rattle.record.proofs.check_front.Tie as tie
 
@@ -12,13 +11,13 @@ fine : (c : tie.After-enum-told) → cardsCauses (c .before .before .before .bef
 fine c = sym (c .before .before .check-cards .ensures) ∙ c .enum-told .given .1
 
 check-cards-requires : tie.Need-check-cards-requires
-check-cards-requires c κs = search needs
+check-cards-requires c κs = tt
 
 enum-told : tie.Need-enum-told
-enum-told c = search needs
+enum-told c = c .match .keys1
 
 enum-told-2 : tie.Need-enum-told-2
-enum-told-2 c = search needs
+enum-told-2 c = c .match .keys2
 
 returns : tie.Need-returns
 returns c = let e = c .before .before .check-cards .ensures in e ∙ then-stop _ _ (sym e ∙ c .enum-told2 .given .1)

@@ -7,14 +7,13 @@ use Rattle.numbers.proofs.CauseLaws.{then-stop, then-next}
 use Rattle.numbers.specs.Cause.{refuseIf}
 use Rattle.numbers.specs.declared.Check.{Check}
 use Rattle.numbers.specs.declared.Check.the-variants.{Fine}
-use lib.Dec.{eqb}
+use lib.Dec.{lit<, eqb}
 use mathlib.Core.List.{List}
 use lib.ListN.{length}
 use mathlib.Core.Bool.{not}
 use Prim.Native.Nat.{ℕ, _+_, _*_, _≤_}
 use mathlib.Core.Path.{_≡_, sym, ap, _∙_}
 use native.Mathlib.Omega.{arith}
-use borrow.Author.Needs.{needs}
 use Rattle.record.proofs.check_head.Statement.{statement}
 use Rattle.record.proofs.check_head.Tie as tie
 
@@ -50,13 +49,13 @@ fine117 : (c : tie.After-enum-told5) → let a = c .before .before .before .befo
 fine117 c = sym (row117 (c .before .before)) ∙ c .enum-told5 .given .1
 
 check-field-requires : tie.Need-check-field-requires
-check-field-requires c κs = search needs
+check-field-requires c κs = (c .before .pre .0, lit< tt)
 
 enum-told : tie.Need-enum-told
-enum-told c = search needs
+enum-told c = c .match .keys1
 
 enum-told-2 : tie.Need-enum-told-2
-enum-told-2 c = search needs
+enum-told-2 c = c .match .keys2
 
 returns : tie.Need-returns
 returns c =
@@ -71,10 +70,10 @@ check-like-requires : tie.Need-check-like-requires
 check-like-requires c κs = (omega arith, omega (arith, room c))
 
 enum-told-3 : tie.Need-enum-told-3
-enum-told-3 c = search needs
+enum-told-3 c = c .match2 .keys1
 
 enum-told-4 : tie.Need-enum-told-4
-enum-told-4 c = search needs
+enum-told-4 c = c .match2 .keys2
 
 returns-2 : tie.Need-returns-2
 returns-2 c =
@@ -89,10 +88,10 @@ check-like-requires-2 : tie.Need-check-like-requires-2
 check-like-requires-2 c κs = (omega arith, omega (arith, room (c .before .before .before)))
 
 enum-told-5 : tie.Need-enum-told-5
-enum-told-5 c = search needs
+enum-told-5 c = c .match3 .keys1
 
 enum-told-6 : tie.Need-enum-told-6
-enum-told-6 c = search needs
+enum-told-6 c = c .match3 .keys2
 
 returns-3 : tie.Need-returns-3
 returns-3 c =
@@ -102,7 +101,7 @@ returns-3 c =
     ∙ sym (head-form (a .«record» .now) (a .n) (a .i) (a .at))
 
 mul-check-field : tie.Need-mul-check-field
-mul-check-field c = search needs
+mul-check-field c = omega (arith, c .before .before .before .before .before .before .before .before .before .before .pre .1)
 
 add-check-field : tie.Need-add-check-field
 add-check-field c = omega (arith, room (c .before .before .before .before .before .before))

@@ -9,7 +9,6 @@ use Rattle.record.specs.Parts.{pairRefused, pairCheck}
 use lib.ListN.{length}
 use Prim.Native.Nat.{ℕ, _+_, _-_, _*_, _≤_}
 use mathlib.Core.Path.{_≡_, sym, ap, _∙_}
-use borrow.Author.Needs.{needs}
 use native.Mathlib.Omega.{arith}
 use Rattle.record.proofs.check_ibm.Statement.{statement}
 use Rattle.record.proofs.check_ibm.Tie as tie
@@ -39,19 +38,19 @@ loop-holds c =
     (ap (λ (j : ℕ). firstOf (walk (pairCheck (a .«record» .now) 1) 6 j (a .start))) e, omega (arith, times-more (a .n) 6 (omega (arith, some)), c .before .before .before .before .pre), c .before .exponent-at .ensures, c .mantissa-at .ensures)
 
 pair-of-bits-requires : tie.Need-pair-of-bits-requires Inv-loop μ-loop
-pair-of-bits-requires c κs = search needs
+pair-of-bits-requires c κs = tt
 
 ibm-word-requires : tie.Need-ibm-word-requires Inv-loop μ-loop
-ibm-word-requires c κs = search needs
+ibm-word-requires c κs = tt
 
 enum-told : tie.Need-enum-told Inv-loop μ-loop
-enum-told c = search needs
+enum-told c = c .match .keys1
 
 enum-told-2 : tie.Need-enum-told-2 Inv-loop μ-loop
-enum-told-2 c = search needs
+enum-told-2 c = c .match .keys2
 
 refused-requires : tie.Need-refused-requires Inv-loop μ-loop
-refused-requires c κs = search needs
+refused-requires c κs = tt
 
 returns-2 : tie.Need-returns-2 Inv-loop μ-loop
 returns-2 c =
@@ -70,10 +69,10 @@ mantissa-at-requires-2 : tie.Need-mantissa-at-requires-2 Inv-loop μ-loop
 mantissa-at-requires-2 c κs = omega (arith, times-more (c .before .before .before .before .before .before .loop .left) 6 (c .before .before .before .before .before .loop-test .taken), c .before .before .before .before .before .before .loop .inv .1)
 
 sub-left : tie.Need-sub-left Inv-loop μ-loop
-sub-left c = search needs
+sub-left c = omega (arith, c .before .before .before .before .before .before .loop-test .taken)
 
 loop-less : tie.Need-loop-less Inv-loop μ-loop
-loop-less c = search needs
+loop-less c = omega (arith, c .before .before .before .before .before .before .loop-test .taken)
 
 loop-again : tie.Need-loop-again Inv-loop μ-loop
 loop-again c =
@@ -83,19 +82,19 @@ loop-again c =
     (l .inv .0 ∙ pairs-more s 1 (l .left) (l .at) (c .before .before .before .before .before .before .loop-test .taken) (sym k ∙ ap (λ w. pairRefused w (l .at)) (c .before .before .enum-told .given .1)), omega (arith, times-more (l .left) 6 (c .before .before .before .before .before .before .loop-test .taken), l .inv .1), c .before .exponent-at2 .ensures, c .mantissa-at2 .ensures)
 
 pair-of-bits-requires-2 : tie.Need-pair-of-bits-requires-2 Inv-loop μ-loop
-pair-of-bits-requires-2 c κs = search needs
+pair-of-bits-requires-2 c κs = tt
 
 ibm-word-requires-2 : tie.Need-ibm-word-requires-2 Inv-loop μ-loop
-ibm-word-requires-2 c κs = search needs
+ibm-word-requires-2 c κs = tt
 
 enum-told-3 : tie.Need-enum-told-3 Inv-loop μ-loop
-enum-told-3 c = search needs
+enum-told-3 c = c .match2 .keys1
 
 enum-told-4 : tie.Need-enum-told-4 Inv-loop μ-loop
-enum-told-4 c = search needs
+enum-told-4 c = c .match2 .keys2
 
 refused-requires-2 : tie.Need-refused-requires-2 Inv-loop μ-loop
-refused-requires-2 c κs = search needs
+refused-requires-2 c κs = tt
 
 returns-3 : tie.Need-returns-3 Inv-loop μ-loop
 returns-3 c =

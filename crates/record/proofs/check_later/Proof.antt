@@ -3,7 +3,6 @@ use Rattle.record.specs.Parts.{formFrom}
 use Rattle.reel.specs.Causes.{mostTraces}
 use Rattle.numbers.proofs.CauseLaws.{then-stop, then-next}
 use mathlib.Core.Path.{_≡_, sym, _∙_}
-use borrow.Author.Needs.{needs}
 use Rattle.record.proofs.check_later.Statement.{statement}
 use Rattle.record.proofs.check_later.Tie as tie
 
@@ -11,10 +10,10 @@ check-rest-requires : tie.Need-check-rest-requires
 check-rest-requires c κs = c .before .pre
 
 enum-told : tie.Need-enum-told
-enum-told c = search needs
+enum-told c = c .match .keys1
 
 enum-told-2 : tie.Need-enum-told-2
-enum-told-2 c = search needs
+enum-told-2 c = c .match .keys2
 
 returns : tie.Need-returns
 returns c = let e = c .before .before .check-rest .ensures in e ∙ then-stop _ _ (sym e ∙ c .enum-told2 .given .1)

@@ -5,7 +5,6 @@ use Rattle.numbers.specs.Cause.{firstOf}
 use Rattle.numbers.specs.Walk.{walk}
 use Prim.Native.Nat.{ℕ}
 use mathlib.Core.Path.{_≡_, sym, ap, _∙_}
-use borrow.Author.Needs.{needs}
 use Rattle.record.proofs.check_pairs.Statement.{statement}
 use Rattle.record.proofs.check_pairs.Tie as tie
 

@@ -2,18 +2,17 @@
 use Rattle.record.proofs.FormLaws.{target-form}
 use Rattle.record.specs.Target.{checked}
 use mathlib.Core.Path.{_≡_, sym, ap, _∙_}
-use borrow.Author.Needs.{needs}
 use Rattle.record.proofs.check_record.Statement.{statement}
 use Rattle.record.proofs.check_record.Tie as tie
 
 check-causes-requires : tie.Need-check-causes-requires
-check-causes-requires c κs = search needs
+check-causes-requires c κs = tt
 
 enum-known-c : tie.Need-enum-known-c
-enum-known-c c = search needs
+enum-known-c c = c .match .keys1
 
 enum-told : tie.Need-enum-told
-enum-told c = search needs
+enum-told c = c .match .keys2
 
 own-numbers-requires : tie.Need-own-numbers-requires
 own-numbers-requires c κs = target-form (c .before .before .before .before .args .«record» .now) (c .before .before .before .before .args .code) (sym (c .before .before .check-causes .ensures) ∙ c .enum-told .given .1)

@@ -11,7 +11,6 @@ use mathlib.Core.Bool.{true, false}
 use Prim.Native.Nat.{_+_, _-_, _*_, _≤_, _<_}
 use mathlib.Core.Path.{_≡_, refl, sym, ap, _∙_}
 use native.Mathlib.Omega.{arith}
-use borrow.Author.Needs.{needs}
 use Rattle.record.proofs.check_rest.Statement.{statement}
 use Rattle.record.proofs.check_rest.Tie as tie
 
@@ -45,16 +44,16 @@ loop-holds : tie.Need-loop-holds Inv-loop μ-loop
 loop-holds c = (refl, c .before .pre .1, c .before .pre .2)
 
 more-requires : tie.Need-more-requires Inv-loop μ-loop
-more-requires c κs = search needs
+more-requires c κs = tt
 
 check-trace-form-requires : tie.Need-check-trace-form-requires Inv-loop μ-loop
 check-trace-form-requires c κs = (c .before .before .loop .inv .2, c .before .before .before .before .pre .0)
 
 enum-told : tie.Need-enum-told Inv-loop μ-loop
-enum-told c = search needs
+enum-told c = c .match .keys1
 
 enum-told-2 : tie.Need-enum-told-2 Inv-loop μ-loop
-enum-told-2 c = search needs
+enum-told-2 c = c .match .keys2
 
 returns : tie.Need-returns Inv-loop μ-loop
 returns c =

@@ -1,6 +1,5 @@
 -- `record::check_same` meets its contract. Assumes nothing.
 use borrow.Author.Tests.{eq-eqb, ne-eqb}
-use borrow.Author.Needs.{needs}
 use Rattle.record.proofs.check_same.Statement.{statement}
 use Rattle.record.proofs.check_same.Tie as tie
 

@@ -7,7 +7,6 @@ use lib.ListN.{length}
 use Prim.Native.Nat.{_+_, _*_, _≤_}
 use mathlib.Core.Path.{_≡_, sym, _∙_}
 use native.Mathlib.Omega.{arith}
-use borrow.Author.Needs.{needs}
 use Rattle.record.proofs.check_trace.Statement.{statement}
 use Rattle.record.proofs.check_trace.Tie as tie
 
@@ -22,10 +21,10 @@ check-head-requires : tie.Need-check-head-requires
 check-head-requires c κs = (c .before .pre .1, c .before .pre .2)
 
 enum-told : tie.Need-enum-told
-enum-told c = search needs
+enum-told c = c .match .keys1
 
 enum-told-2 : tie.Need-enum-told-2
-enum-told-2 c = search needs
+enum-told-2 c = c .match .keys2
 
 returns : tie.Need-returns
 unfolding traceCheck

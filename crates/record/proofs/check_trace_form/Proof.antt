@@ -7,7 +7,6 @@ use lib.ListN.{length}
 use Prim.Native.Nat.{_+_, _*_, _≤_}
 use mathlib.Core.Path.{_≡_, sym, _∙_}
 use native.Mathlib.Omega.{arith}
-use borrow.Author.Needs.{needs}
 use Rattle.record.proofs.check_trace_form.Statement.{statement}
 use Rattle.record.proofs.check_trace_form.Tie as tie
 
@@ -19,13 +18,13 @@ room : (c : tie.After-enum-told) → let a = c .before .before .before .before .
 room c = let a = c .before .before .before .before .args in head-room (a .«record» .now) (a .n) (a .i) (a .at) (fine c)
 
 check-head-requires : tie.Need-check-head-requires
-check-head-requires c κs = search needs
+check-head-requires c κs = c .before .pre
 
 enum-told : tie.Need-enum-told
-enum-told c = search needs
+enum-told c = c .match .keys1
 
 enum-told-2 : tie.Need-enum-told-2
-enum-told-2 c = search needs
+enum-told-2 c = c .match .keys2
 
 returns : tie.Need-returns
 returns c =

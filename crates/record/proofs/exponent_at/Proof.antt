@@ -1,20 +1,20 @@
 -- `record::exponent_at` meets its contract. Assumes nothing.
 use Rattle.numbers.specs.Walk.{bytesAt}
-use borrow.Author.Needs.{needs}
+use native.Mathlib.Omega.{arith}
 use Rattle.record.proofs.exponent_at.Statement.{statement}
 use Rattle.record.proofs.exponent_at.Tie as tie
 
 shared-slice-read-be16 : tie.Need-shared-slice-read-be16
-shared-slice-read-be16 c = search needs
+shared-slice-read-be16 c = omega (arith, c .before .before .pre)
 
 add-be16 : tie.Need-add-be16
-add-be16 c = search needs
+add-be16 c = omega (arith, c .before .before .pre, c .before .before .good .0)
 
 shared-slice-read-be16-2 : tie.Need-shared-slice-read-be16-2
-shared-slice-read-be16-2 c = search needs
+shared-slice-read-be16-2 c = omega (arith, c .before .before .before .pre)
 
 be16-requires : tie.Need-be16-requires
-be16-requires c κs = search needs
+be16-requires c κs = tt
 
 returns : tie.Need-returns
 unfolding bytesAt

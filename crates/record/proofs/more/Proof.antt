@@ -5,7 +5,7 @@ use lib.Dec.{ltb, eqb}
 use mathlib.Core.Bool.{Bool, true, false, _&&_}
 use mathlib.Core.Path.{_≡_, refl, sym, ap, _∙_}
 use Rattle.reel.specs.Causes.{mostTraces}
-use borrow.Author.Needs.{needs}
+use native.Mathlib.Omega.{arith}
 use Rattle.record.proofs.more.Statement.{statement}
 use Rattle.record.proofs.more.Tie as tie
 
@@ -23,7 +23,7 @@ returns-2 c =
     no false = refl
 
 shared-slice-read-result : tie.Need-shared-slice-read-result
-shared-slice-read-result c = search needs
+shared-slice-read-result c = omega (arith, c .before .if2 .left)
 
 returns-3 : tie.Need-returns-3
 returns-3 c = let a = c .before .before .before .args in rw (lt-ltb (a .t) mostTraces (c .before .before .if1 .left))

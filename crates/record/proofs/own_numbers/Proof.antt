@@ -7,7 +7,6 @@ use Rattle.numbers.specs.Cause.{then}
 use Rattle.numbers.specs.declared.Check.the-variants.{Fine}
 use mathlib.Core.Path.{_≡_, ap₂, _∙_}
 use native.Mathlib.Omega.{arith}
-use borrow.Author.Needs.{needs}
 use Rattle.record.proofs.own_numbers.Statement.{statement}
 use Rattle.record.proofs.own_numbers.Tie as tie
 

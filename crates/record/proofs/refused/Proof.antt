@@ -6,10 +6,10 @@ use Rattle.record.proofs.refused.Statement.{statement}
 use Rattle.record.proofs.refused.Tie as tie
 
 enum-told : tie.Need-enum-told
-enum-told c = search needs
+enum-told c = c .match .keys1
 
 enum-known-word : tie.Need-enum-known-word
-enum-known-word c = search needs
+enum-known-word c = c .match .keys2
 
 returns : tie.Need-returns
 returns c = search needs

@@ -8,7 +8,6 @@ use Rattle.numbers.specs.BigEndian.{number}
 use lib.ListN.{length}
 use Prim.Native.Nat.{ℕ, _+_, _-_, _*_, _≤_}
 use mathlib.Core.Path.{_≡_, refl, sym, ap, _∙_}
-use borrow.Author.Needs.{needs}
 use native.Mathlib.Omega.{arith}
 use Rattle.write_reel.proofs.put_gain.Statement.{statement}
 use Rattle.write_reel.proofs.put_gain.Tie as tie
@@ -48,25 +47,25 @@ loop-holds c =
     )
 
 add-next : tie.Need-add-next Inv-loop μ-loop
-add-next c = search needs
+add-next c = omega (arith, c .before .loop .inv .1, c .before .loop .inv .2)
 
 pair-of-bits-requires : tie.Need-pair-of-bits-requires Inv-loop μ-loop
-pair-of-bits-requires c κs = search needs
+pair-of-bits-requires c κs = tt
 
 gain-bits-requires : tie.Need-gain-bits-requires Inv-loop μ-loop
-gain-bits-requires c κs = search needs
+gain-bits-requires c κs = tt
 
 sub-put-word : tie.Need-sub-put-word Inv-loop μ-loop
-sub-put-word c = search needs
+sub-put-word c = omega arith
 
 part-put-word-start : tie.Need-part-put-word-start Inv-loop μ-loop
-part-put-word-start c = search needs
+part-put-word-start c = omega arith
 
 part-put-word-end : tie.Need-part-put-word-end Inv-loop μ-loop
 part-put-word-end c = omega (arith, c .before .before .before .loop .inv .1, c .before .before .before .loop .inv .2)
 
 put-word-requires : tie.Need-put-word-requires Inv-loop μ-loop
-put-word-requires c κs = search needs
+put-word-requires c κs = c .put-word-arg .given .2 ∙ omega arith
 
 add-at : tie.Need-add-at Inv-loop μ-loop
 add-at c = omega (arith, times-more (c .before .before .before .before .before .before .before .loop .left) 6 (c .before .before .before .before .before .before .loop-test .taken), c .before .before .before .before .before .before .before .loop .inv .0)
@@ -78,10 +77,10 @@ mantissa-at-requires-2 : tie.Need-mantissa-at-requires-2 Inv-loop μ-loop
 mantissa-at-requires-2 c κs = omega (arith, times-more (c .before .before .before .before .before .before .before .before .loop .left) 6 (c .before .before .before .before .before .before .before .loop-test .taken), c .before .before .before .before .before .before .before .before .loop .inv .0)
 
 sub-left : tie.Need-sub-left Inv-loop μ-loop
-sub-left c = search needs
+sub-left c = omega (arith, c .before .before .before .before .before .before .before .before .loop-test .taken)
 
 loop-less : tie.Need-loop-less Inv-loop μ-loop
-loop-less c = search needs
+loop-less c = omega (arith, c .before .before .before .before .before .before .before .before .loop-test .taken)
 
 loop-again : tie.Need-loop-again Inv-loop μ-loop
 loop-again c =
@@ -99,28 +98,25 @@ loop-again c =
     )
 
 pair-of-bits-requires-2 : tie.Need-pair-of-bits-requires-2 Inv-loop μ-loop
-pair-of-bits-requires-2 c κs = search needs
+pair-of-bits-requires-2 c κs = tt
 
 gain-bits-requires-2 : tie.Need-gain-bits-requires-2 Inv-loop μ-loop
-gain-bits-requires-2 c κs = search needs
+gain-bits-requires-2 c κs = tt
 
 add-put-word : tie.Need-add-put-word Inv-loop μ-loop
-add-put-word c = search needs
+add-put-word c = omega (arith, c .before .before .before .loop .inv .1, c .before .before .before .loop .inv .2)
 
 sub-put-word-2 : tie.Need-sub-put-word-2 Inv-loop μ-loop
-sub-put-word-2 c = search needs
+sub-put-word-2 c = omega arith
 
 part-put-word-start-2 : tie.Need-part-put-word-start-2 Inv-loop μ-loop
-part-put-word-start-2 c = search needs
+part-put-word-start-2 c = omega arith
 
 part-put-word-end-2 : tie.Need-part-put-word-end-2 Inv-loop μ-loop
 part-put-word-end-2 c = omega (arith, c .before .before .before .loop .inv .1, c .before .before .before .loop .inv .2)
 
 put-word-requires-2 : tie.Need-put-word-requires-2 Inv-loop μ-loop
-put-word-requires-2 c κs = search needs
-
-same-length : tie.Need-same-length Inv-loop μ-loop
-same-length c = search needs
+put-word-requires-2 c κs = c .put-word-arg2 .given .2 ∙ omega arith
 
 returns-2 : tie.Need-returns-2 Inv-loop μ-loop
 returns-2 c =
@@ -128,6 +124,11 @@ returns-2 c =
     let l = c .before .before .before .before .before .before .before .loop in
     let new = c .before .before .put-word2 .ensures ∙ sample-bytes s 4 (l .at) (l .e) (l .m) (c .before .before .before .before .before .pair-of-bits2 .result) (c .before .before .before .before .gain-bits2 .result) (c .before .before .before .before .gain-bits2 .ensures) (c .before .before .before .before .before .pair-of-bits2 .ensures) (l .inv .3) (l .inv .4) in
     last-put s 4 (l .left) (l .at) (l .o) (l .o + 4) (c .before .before .before .before .before .before .loop-test .left) refl (l .inv .5) new
+
+same-length : tie.Need-same-length Inv-loop μ-loop
+same-length c =
+    let b = c .before .before .before .before .before .before .before .before .before .before .before .before .before in
+    ap length (returns-2 c) ∙ (size-samples (b .args .«record» .now) 4 (b .args .n) (b .args .start) ∙ sym (b .pre .1))
 
 pub put-gain-spec : {M : Type 1} → statement M
 put-gain-spec =

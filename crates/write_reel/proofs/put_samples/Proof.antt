@@ -1,10 +1,11 @@
 -- `write_reel::put_samples` meets its contract. Assumes nothing.
 use Rattle.reel.proofs.CheckLaws.{last-code}
+use Rattle.write_reel.proofs.CopiedLaws.{size-samples}
 use Rattle.write_reel.specs.Copied.{samplesCopied}
 use Rattle.reel.specs.Layout.{sampleBytes}
+use lib.ListN.{length}
 use Prim.Native.Nat.{ℕ, _*_}
 use mathlib.Core.Path.{_≡_, sym, ap, _∙_}
-use borrow.Author.Needs.{needs}
 use Rattle.write_reel.proofs.put_samples.Statement.{statement}
 use Rattle.write_reel.proofs.put_samples.Tie as tie
 
@@ -33,37 +34,45 @@ put-gain-requires c κs =
     let s = c .before .before .before .before in
     (s .pre .1, s .pre .2 ∙ ap (λ (k : ℕ). s .args .n * sampleBytes k) (four (c .before)))
 
-same-length : tie.Need-same-length
-same-length c = search needs
-
 returns : tie.Need-returns
 returns c =
     let a = c .before .before .before .before .before .before .before .args in
     c .before .before .put-ibm .ensures ∙ ap (λ (k : ℕ). samplesCopied (a .«record» .now) k (a .n) (a .start)) (sym (c .before .before .before .before .match .keys1))
 
-same-length-2 : tie.Need-same-length-2
-same-length-2 c = search needs
+same-length : tie.Need-same-length
+same-length c =
+    let b = c .before .before .before .before .before .before .before in
+    ap length (returns c) ∙ (size-samples (b .args .«record» .now) (b .args .code) (b .args .n) (b .args .start) ∙ sym (b .pre .2))
 
 returns-2 : tie.Need-returns-2
 returns-2 c =
     let a = c .before .before .before .before .before .before .before .args in
     c .before .before .put-whole32 .ensures ∙ ap (λ (k : ℕ). samplesCopied (a .«record» .now) k (a .n) (a .start)) (sym (c .before .before .before .before .match .keys2))
 
-same-length-3 : tie.Need-same-length-3
-same-length-3 c = search needs
+same-length-2 : tie.Need-same-length-2
+same-length-2 c =
+    let b = c .before .before .before .before .before .before .before in
+    ap length (returns-2 c) ∙ (size-samples (b .args .«record» .now) (b .args .code) (b .args .n) (b .args .start) ∙ sym (b .pre .2))
 
 returns-3 : tie.Need-returns-3
 returns-3 c =
     let a = c .before .before .before .before .before .before .before .args in
     c .before .before .put-whole16 .ensures ∙ ap (λ (k : ℕ). samplesCopied (a .«record» .now) k (a .n) (a .start)) (sym (c .before .before .before .before .match .keys3))
 
-same-length-4 : tie.Need-same-length-4
-same-length-4 c = search needs
+same-length-3 : tie.Need-same-length-3
+same-length-3 c =
+    let b = c .before .before .before .before .before .before .before in
+    ap length (returns-3 c) ∙ (size-samples (b .args .«record» .now) (b .args .code) (b .args .n) (b .args .start) ∙ sym (b .pre .2))
 
 returns-4 : tie.Need-returns-4
 returns-4 c =
     let a = c .before .before .before .before .before .before .before .args in
     c .before .before .put-gain .ensures ∙ ap (λ (k : ℕ). samplesCopied (a .«record» .now) k (a .n) (a .start)) (sym (four (c .before .before .before .before)))
+
+same-length-4 : tie.Need-same-length-4
+same-length-4 c =
+    let b = c .before .before .before .before .before .before .before in
+    ap length (returns-4 c) ∙ (size-samples (b .args .«record» .now) (b .args .code) (b .args .n) (b .args .start) ∙ sym (b .pre .2))
 
 pub put-samples-spec : {M : Type 1} → statement M
 put-samples-spec =

@@ -9,68 +9,64 @@ use Prim.Native.Nat.{ℕ, _+_, _-_, _*_}
 use mathlib.Core.List.{List, _++_}
 use mathlib.Core.Path.{_≡_, refl, sym, ap, _∙_}
 use native.Mathlib.Omega.{arith}
-use borrow.Author.Needs.{needs}
 use Rattle.write_reel.proofs.put_trace.Statement.{statement}
 use Rattle.write_reel.proofs.put_trace.Tie as tie
 
 add-copy : tie.Need-add-copy
-add-copy c = search needs
+add-copy c = omega (arith, c .before .before .pre .1, c .before .before .good .0)
 
 add-copy-2 : tie.Need-add-copy-2
-add-copy-2 c = search needs
+add-copy-2 c = omega (arith, c .before .before .pre .1, c .before .before .good .0)
 
 sub-copy : tie.Need-sub-copy
-sub-copy c = search needs
+sub-copy c = omega arith
 
 part-copy-start : tie.Need-part-copy-start
-part-copy-start c = search needs
+part-copy-start c = omega arith
 
 part-copy-end : tie.Need-part-copy-end
-part-copy-end c = search needs
+part-copy-end c = omega (arith, c .before .before .pre .1)
 
 sub-copy-2 : tie.Need-sub-copy-2
-sub-copy-2 c = search needs
+sub-copy-2 c = omega arith
 
 part-copy-start-2 : tie.Need-part-copy-start-2
-part-copy-start-2 c = search needs
+part-copy-start-2 c = omega arith
 
 part-copy-end-2 : tie.Need-part-copy-end-2
-part-copy-end-2 c = search needs
+part-copy-end-2 c = omega (arith, c .before .before .before .pre .2)
 
 copy-requires : tie.Need-copy-requires
-copy-requires c κs = search needs
+copy-requires c κs = tt
 
 sub-put-zeros : tie.Need-sub-put-zeros
-sub-put-zeros c = search needs
+sub-put-zeros c = omega arith
 
 part-put-zeros-start : tie.Need-part-put-zeros-start
-part-put-zeros-start c = search needs
+part-put-zeros-start c = omega arith
 
 part-put-zeros-end : tie.Need-part-put-zeros-end
-part-put-zeros-end c = search needs
+part-put-zeros-end c = omega (arith, c .before .before .before .before .before .before .before .pre .2, c .before .out .given .1)
 
 put-zeros-requires : tie.Need-put-zeros-requires
-put-zeros-requires c κs = search needs
+put-zeros-requires c κs = tt
 
 add-put-samples : tie.Need-add-put-samples
-add-put-samples c = search needs
+add-put-samples c = omega (arith, c .before .before .before .before .before .before .before .before .before .before .before .pre .1, c .before .before .before .before .before .before .before .before .before .before .before .good .0)
 
 sub-put-samples : tie.Need-sub-put-samples
-sub-put-samples c = search needs
+sub-put-samples c = omega (arith, c .before .before .before .before .before .before .before .before .before .before .before .pre .2)
 
 part-put-samples-start : tie.Need-part-put-samples-start
-part-put-samples-start c = search needs
+part-put-samples-start c = omega (arith, c .before .before .before .before .before .before .before .before .before .before .before .pre .2)
 
 part-put-samples-end : tie.Need-part-put-samples-end
-part-put-samples-end c = search needs
+part-put-samples-end c = omega (arith, c .before .before .before .before .before .out .given .1, c .before .out2 .given .1)
 
 put-samples-requires : tie.Need-put-samples-requires
 put-samples-requires c κs =
     let s = c .before .before .before .before .before .before .before .before .before .before .before .before in
     (s .pre .0, omega (arith, s .pre .1), omega (arith, s .pre .2))
-
-same-length : tie.Need-same-length
-same-length c = search needs
 
 returns : tie.Need-returns
 unfolding traceCopied
@@ -83,10 +79,15 @@ returns c =
     let y : List ℕ = replicate 60 0 in
     let z = samplesCopied s (a .code) (a .n) (at + 186) in
     let w₀ = start _ (a .out .now) (b .pre .2 ∙ sym (size-trace s (a .code) (a .n) at)) in
-    let w₁ = lend x (y ++ z) 180 w₀ (omega arith) (size-bytes s (at + 3) 180) (copied _ _ (c .before .before .before .before .before .before .before .before .before .before .copy .ensures) (search needs) ∙ bytes-between s (at + 3) (at + 183) 180 (omega (arith, b .pre .1)) (omega arith)) in
-    let w₂ = lend y z 240 w₁ (omega arith) (length-replicate {A = ℕ} 60 0) (zeroed _ 60 (c .before .before .before .before .before .before .put-zeros .ensures) (search needs)) in
+    let w₁ = lend x (y ++ z) 180 w₀ (omega arith) (size-bytes s (at + 3) 180) (copied _ _ (c .before .before .before .before .before .before .before .before .before .before .copy .ensures) (omega (arith, c .before .before .before .before .before .before .before .before .before .before .before .before .copy-arg .given .2, c .before .before .before .before .before .before .before .before .before .before .before .copy-arg2 .given .2)) ∙ bytes-between s (at + 3) (at + 183) 180 (omega (arith, b .pre .1)) (omega arith)) in
+    let w₂ = lend y z 240 w₁ (omega arith) (length-replicate {A = ℕ} 60 0) (zeroed _ 60 (c .before .before .before .before .before .before .put-zeros .ensures) (c .before .before .before .before .before .before .before .put-zeros-arg .given .2)) in
     let size : length z ≡ length (a .out .now) - 240 = size-samples s (a .code) (a .n) (at + 186) ∙ omega (arith, b .pre .2) in
     close z (length (a .out .now)) w₂ (omega (arith, b .pre .2)) size (c .before .before .put-samples .ensures)
+
+same-length : tie.Need-same-length
+same-length c =
+    let b = c .before .before .before .before .before .before .before .before .before .before .before .before .before .before .before in
+    ap length (returns c) ∙ (size-trace (b .args .«record» .now) (b .args .code) (b .args .n) (b .args .at) ∙ sym (b .pre .2))
 
 pub put-trace-spec : {M : Type 1} → statement M
 put-trace-spec =

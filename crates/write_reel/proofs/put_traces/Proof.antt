@@ -10,7 +10,6 @@ use Prim.Native.Nat.{ℕ, _+_, _-_, _*_, _≤_}
 use mathlib.Core.List.{_++_, map}
 use mathlib.Core.Path.{_≡_, sym, ap, _∙_}
 use native.Mathlib.Omega.{arith}
-use borrow.Author.Needs.{needs}
 use Rattle.write_reel.proofs.put_traces.Statement.{statement}
 use Rattle.write_reel.proofs.put_traces.Tie as tie
 
@@ -32,10 +31,10 @@ add-e : tie.Need-add-e Inv-loop μ-loop
 add-e c = omega (arith, times-more (c .before .loop .left) (c .before .before .before .before .args .w) (c .loop-test .taken), c .before .loop .inv .1, c .before .loop .inv .2)
 
 sub-put-trace : tie.Need-sub-put-trace Inv-loop μ-loop
-sub-put-trace c = search needs
+sub-put-trace c = omega arith
 
 part-put-trace-start : tie.Need-part-put-trace-start Inv-loop μ-loop
-part-put-trace-start c = search needs
+part-put-trace-start c = omega arith
 
 part-put-trace-end : tie.Need-part-put-trace-end Inv-loop μ-loop
 part-put-trace-end c = omega (arith, times-more (c .before .loop .left) (c .before .before .before .before .args .w) (c .loop-test .taken), c .before .loop .inv .1, c .before .loop .inv .2)
@@ -50,10 +49,10 @@ add-at : tie.Need-add-at Inv-loop μ-loop
 add-at c = omega (arith, times-more (c .before .before .before .before .before .loop .left) (c .before .before .before .before .before .before .before .before .args .m) (c .before .before .before .before .loop-test .taken), c .before .before .before .before .before .loop .inv .0)
 
 sub-left : tie.Need-sub-left Inv-loop μ-loop
-sub-left c = search needs
+sub-left c = omega (arith, c .before .before .before .before .loop-test .taken)
 
 loop-less : tie.Need-loop-less Inv-loop μ-loop
-loop-less c = search needs
+loop-less c = omega (arith, c .before .before .before .before .loop-test .taken)
 
 loop-again : tie.Need-loop-again Inv-loop μ-loop
 loop-again c =
@@ -68,7 +67,7 @@ loop-again c =
     (omega (arith, times-more (l .left) (a .m) some, l .inv .0), f .size ∙ sym (l .inv .3 .size) ∙ l .inv .1, omega (arith, times-more (l .left) (a .w) some, l .inv .2), f)
 
 same-length : tie.Need-same-length Inv-loop μ-loop
-same-length c = search needs
+same-length c = c .before .loop .inv .1 ∙ sym (c .before .before .before .before .pre .4)
 
 returns : tie.Need-returns Inv-loop μ-loop
 returns c =

@@ -6,7 +6,6 @@ use lib.Seq.{length-take-le}
 use Prim.Native.Nat.{ℕ, _+_, _*_, _≤_}
 use mathlib.Core.Path.{_≡_, refl, sym, ap, subst, _∙_}
 use native.Mathlib.Omega.{arith}
-use borrow.Author.Needs.{needs}
 use Rattle.write_reel.proofs.write_checked.Statement.{statement}
 use Rattle.write_reel.proofs.write_checked.Tie as tie
 
@@ -27,7 +26,7 @@ size : (c : tie.After-width-of) → let a = c .before .before .before .args in 3
 size c = let a = c .before .before .before .args in ap (λ (v : ℕ). 3600 + a .t * (240 + a .n * v)) (c .width-of .ensures .0)
 
 width-of-requires : tie.Need-width-of-requires
-width-of-requires c κs = search needs
+width-of-requires c κs = tt
 
 mul-w : tie.Need-mul-w
 mul-w c = omega (arith, wide c)
@@ -48,7 +47,7 @@ returns c =
     short-end (a .«record» .now) (a .code) (a .reel .now) (a .n) (a .t) (3600 + a .t * (240 + a .n * c .before .width-of .result)) (owns s) (size (c .before)) (c .if1 .taken)
 
 slice-relend-prefix-put-reel : tie.Need-slice-relend-prefix-put-reel
-slice-relend-prefix-put-reel c = search needs
+slice-relend-prefix-put-reel c = c .if1 .left
 
 slice-aggregate-put-reel : tie.Need-slice-aggregate-put-reel
 slice-aggregate-put-reel c =
@@ -63,7 +62,7 @@ put-reel-requires c κs =
     (f .a-code, ap (λ (v : ℕ). 240 + a .n * v) (c .before .before .width-of .ensures .0), f .n-high, f .room, length-take-le (3600 + a .t * (240 + a .n * c .before .before .width-of .result)) (a .reel .now) (c .before .if1 .left))
 
 same-length : tie.Need-same-length
-same-length c = search needs
+same-length c = c .before .reel .given .1
 
 returns-2 : tie.Need-returns-2
 returns-2 c =

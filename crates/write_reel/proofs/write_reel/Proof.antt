@@ -1,18 +1,17 @@
 -- `write_reel::write_reel` meets its contract. Assumes nothing.
 use Rattle.write_reel.proofs.WriteLaws.{refused-is, refused-end}
 use mathlib.Core.Path.{_≡_, sym, _∙_}
-use borrow.Author.Needs.{needs}
 use Rattle.write_reel.proofs.write_reel.Statement.{statement}
 use Rattle.write_reel.proofs.write_reel.Tie as tie
 
 check-record-requires : tie.Need-check-record-requires
-check-record-requires c κs = search needs
+check-record-requires c κs = tt
 
 enum-known-c : tie.Need-enum-known-c
-enum-known-c c = search needs
+enum-known-c c = c .match .keys1
 
 enum-known-c-2 : tie.Need-enum-known-c-2
-enum-known-c-2 c = search needs
+enum-known-c-2 c = c .match .keys2
 
 write-checked-requires : tie.Need-write-checked-requires
 write-checked-requires c κs = sym (c .before .before .before .before .check-record .ensures) ∙ c .before .before .c2 .given .1
@@ -23,10 +22,10 @@ returns c =
     refused-end (a .«record» .now) (a .code) (a .reel .now) _ _ (refused-is (a .«record» .now) (a .code) _ _ (sym (c .before .before .before .check-record .ensures) ∙ c .before .c .given .1))
 
 same-length : tie.Need-same-length
-same-length c = search needs
+same-length c = c .before .reel .given
 
 returns-2 : tie.Need-returns-2
-returns-2 c = search needs
+returns-2 c = c .before .before .write-checked .ensures
 
 pub write-reel-spec : {M : Type 1} → statement M
 write-reel-spec =
