@@ -13,16 +13,14 @@ use Rattle.numbers.proofs.WalkLaws.{walk-more}
 use Rattle.sample.specs.Writing.{writePair}
 use Rattle.sample.specs.Calls.{pairOfBits}
 use Rattle.sample.specs.declared.Written.{Written}
-use Rattle.sample.proofs.PairBytes.{pair-there}
+use Rattle.sample.proofs.PairBytes.{pair-fetched}
 use Rattle.record.specs.Parts.{pairRefused, pairCheck}
 
 module _ (s : List ℕ) (code : ℕ) where
   -- the cause against a pair, by its bits
   pub pair-cause : (at e m : ℕ) (p : _) (w : Written) → w ≡ writePair code p → p ≡ pairOfBits e m → e ≡ number (bytesAt s at 2) → m ≡ number (bytesAt s (at + 2) 4)
       → pairRefused w at ≡ pairCheck s code at
-  pair-cause at e m p w h q i j =
-      let same : p ≡ pairOfBits (number (bytesAt s at 2)) (number (bytesAt s (at + 2) 4)) = q ∙ ap (λ (x : ℕ). pairOfBits x m) i ∙ ap (pairOfBits (number (bytesAt s at 2))) j in
-      ap (λ v. pairRefused v at) (h ∙ ap (writePair code) (same ∙ sym (pair-there s at)))
+  pair-cause at e m p w h q i j = ap (λ v. pairRefused v at) (h ∙ ap (writePair code) (pair-fetched s at e m p q i j))
 
   -- k pairs more behind the first
   pub pairs-stop : (k at : ℕ) {n : ℕ} {place : Place} → pairCheck s code at ≡ Refused n place → pairCheck s code at ≡ firstOf (walk (pairCheck s code) 6 (k + 1) at)

@@ -1,5 +1,5 @@
 -- The pieces of a reel as the code writes them: how long each is, and one more and none of its samples and traces. Assumes nothing.
-use mathlib.Core.Path.{_≡_, refl, sym, ap, _∙_}
+use mathlib.Core.Path.{_≡_, refl, ap, _∙_}
 use mathlib.Core.Bool.{Bool, true, false}
 use mathlib.Core.List.{List, [], _∷_, _++_, map}
 use Prim.Native.Nat.{ℕ, _+_, _-_, _*_, _≤_, _<_}
@@ -16,7 +16,7 @@ use Rattle.sample.specs.Calls.{pairLength, pairOfBits}
 use Rattle.sample.specs.declared.Pair.{Pair}
 use Rattle.sample.specs.declared.Written.{Written}
 use Rattle.sample.specs.declared.Written.the-variants.{Word, Refused}
-use Rattle.sample.proofs.PairBytes.{pair-there}
+use Rattle.sample.proofs.PairBytes.{pair-fetched}
 use Rattle.reel.specs.Layout.{sampleBytes, stride}
 use Rattle.record.specs.Form.{heldStride, tracesPlace}
 use Rattle.write_reel.specs.Reel.{wordContent}
@@ -90,8 +90,7 @@ module _ (s : List ℕ) (code : ℕ) where
   pub sample-bytes : (at e m : ℕ) (p : Pair) (bits : ℕ) → bits ≡ wordBits (writePair code p) → p ≡ pairOfBits e m → e ≡ number (bytesAt s at 2) → m ≡ number (bytesAt s (at + 2) 4)
       → take (sampleBytes code) (bytesOf 4 bits) ≡ wordBytes code (writtenAt s code at)
   sample-bytes at e m p bits h q i j =
-      let same : p ≡ pairOfBits (number (bytesAt s at 2)) (number (bytesAt s (at + 2) 4)) = q ∙ ap (λ (x : ℕ). pairOfBits x m) i ∙ ap (pairOfBits (number (bytesAt s at 2))) j in
-      ap (λ (x : ℕ). take (sampleBytes code) (bytesOf 4 x)) (h ∙ ap (λ (x : Pair). wordBits (writePair code x)) (same ∙ sym (pair-there s at)))
+      ap (λ (x : ℕ). take (sampleBytes code) (bytesOf 4 x)) (h ∙ ap (λ (x : Pair). wordBits (writePair code x)) (pair-fetched s at e m p q i j))
 
   pub next-put : (k at o e : ℕ) {all out ys : List ℕ} → 0 < k → e ≡ o + sampleBytes code → Filling all out o (samplesCopied s code (k + 1) at) → ys ≡ wordBytes code (writtenAt s code at)
       → Filling all (putMid o (e - o) out ys) e (samplesCopied s code (k - 1 + 1) (at + pairLength))
