@@ -1,6 +1,7 @@
 -- Laws of walks, of lists joined, and of the bytes of a list by offset.
 -- Assumes nothing.
 use mathlib.Core.Path.{_≡_, refl, sym, ap, _∙_}
+use mathlib.Core.Bool.{Bool, true, false, _&&_}
 use mathlib.Core.List.{List, [], _∷_, _++_, map, append-nil}
 use Prim.Native.Nat.{ℕ, zero, suc, _+_, _-_, _*_, _≤_, _<_}
 use native.Mathlib.Nat.{suc-mul, zero-mul, zero-add, not-suc-le-zero}
@@ -167,3 +168,15 @@ six-bytes s at =
 pub copied : (src out : List ℕ) {ys : List ℕ} → ys ≡ copyOf src out → length out ≡ length src → ys ≡ src
 unfolding copyOf
 copied src out p e = p ∙ rw (eq-eqb (length out) (length src) e)
+
+-- two tests that pass together pass each
+pub both : (a b : Bool) → (a && b) ≡ true → (a ≡ true) × (b ≡ true)
+both true b e = (refl, e)
+both false b e = absurd (none (ap number-of e))
+  where
+    number-of : Bool → ℕ
+    number-of true = 1
+    number-of false = 0
+
+    none : _≡_ {A = ℕ} 0 1 → ⊥
+    none z = omega arith

@@ -13,7 +13,7 @@ use lib.ListN.{length, getD}
 use Rattle.numbers.specs.Walk.{pick, bytesAt}
 use Rattle.numbers.specs.BigEndian.{number}
 use Rattle.numbers.specs.TwosComplement.{signedOf}
-use Rattle.numbers.proofs.WalkLaws.{flat-length, flat-more, flat-none, four-bytes}
+use Rattle.numbers.proofs.WalkLaws.{flat-length, flat-more, flat-none, four-bytes, both}
 use Rattle.numbers.proofs.Filling.{Filling, finish, again, lend}
 use Rattle.sample.specs.Value.{denominatorPower, ibmValue, wholeValue, gainValue}
 use Rattle.sample.specs.Reading.{isCode, pairTaken, readWord}
@@ -109,15 +109,6 @@ last-put s code k at o none w is =
     finish (sample-put s code (k + 1) at o (omega arith) w is) (samples-none s code (k + 1 - 1) (at + sampleBytes code) (omega arith))
 
 -- ## The call
-
--- both of two tests
-both : (a b : Bool) → (a && b) ≡ true → (a ≡ true) × (b ≡ true)
-both true b e = (refl, e)
-both false b e = absurd (let z : _≡_ {A = ℕ} 0 1 = ap number-of e in omega arith)
-  where
-    number-of : Bool → ℕ
-    number-of true = 1
-    number-of false = 0
 
 module _ (s : List ℕ) (code n at : ℕ) (out : List ℕ) where
   -- what it is to fit

@@ -220,21 +220,11 @@ fn put_samples(reel: &[u8], code: usize, n: usize, start: usize, out: &mut [u8])
     }
 }
 
-// Whether a code is 1 to 4.
-fn is_code(code: usize) -> bool
-    ensures { λ r. ⌜ r ≡ isCode code ⌝ }
-{
-    if code < 1 {
-        return false;
-    }
-    code <= 4
-}
-
 // Whether n words of a code from a place on are within so many bytes, and n pairs are as long as the output.
 fn do_fit(bytes: usize, code: usize, n: usize, start: usize, size: usize) -> bool
     ensures { λ r. ⌜ r ≡ (isCode code && (leb (start + n * sampleBytes code) bytes && eqb size (n * 6))) ⌝ }
 {
-    if !is_code(code) {
+    if !reel::is_code(code) {
         return false;
     }
     if !numbers::are_within(bytes, n, reel::width_of(code), start) {

@@ -32,7 +32,8 @@ use Rattle.reel.proofs.CheckLaws.{both-true, in-limits}
 use Rattle.record.specs.Form.{isField, fieldCause, cardsCauses, heldSamples, heldInterval, heldCode, numberCauses, binaryCauses, tracesPlace, heldStride, pairCause, samplesCauses, headerCauses, traceForm, tagsFrom, heldCount, endCauses, bodyCauses, formCauses}
 use Rattle.record.specs.Held.{heldValue}
 use Rattle.record.specs.Target.{isUnfit, fitCause, traceFit, fitCauses, targetCauses}
-use Rattle.record.specs.Parts.{pairRefused, pairCheck, headForm, traceCheck, formFrom, fitFrom}
+use Rattle.write_samples.specs.Samples.{pairRefused, pairCheck}
+use Rattle.record.specs.Parts.{headForm, traceCheck, formFrom, fitFrom}
 
 -- ## Fields
 

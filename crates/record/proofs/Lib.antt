@@ -2,4 +2,3 @@
 pub mod NumberLaws
 pub mod HeaderLaws
 pub mod FormLaws
-pub mod PairLaws

@@ -1,25 +1,13 @@
 -- Parts of the causes against a record, for the functions inside this crate.
 use Prim.Native.Nat.{ℕ, _+_, _*_}
 use mathlib.Core.List.{List}
-use Rattle.numbers.specs.Walk.{walk, bytesAt}
+use Rattle.numbers.specs.Walk.{walk}
 use Rattle.numbers.specs.Cause.{then, firstOf}
 use Rattle.numbers.specs.declared.Check.{Check}
-use Rattle.numbers.specs.declared.Check.the-variants.{Fine, Refused}
-use Rattle.sample.specs.Writing.{writePair}
-use Rattle.sample.specs.Calls.{pairLength, pairIn}
-use Rattle.sample.specs.declared.Written.{Written}
-use Rattle.sample.specs.declared.Written.the-variants as written
+use Rattle.sample.specs.Calls.{pairLength}
+use Rattle.write_samples.specs.Samples.{pairCheck}
 use Rattle.record.specs.Form.{fieldCause, headerCauses, heldStride, traceForm, tagsFrom, endCauses}
 use Rattle.record.specs.Target.{traceFit}
-
--- The refusal of the pair at a place, from what writing it gives.
-abbrev pub pairRefused : Written → ℕ → Check
-pairRefused (written.Word n) at = Fine
-pairRefused (written.Refused number) at = Refused number (record { 0 = at })
-
--- 13 or 14 against the pair at a place, under a code.
-abbrev pub pairCheck : List ℕ → ℕ → ℕ → Check
-pairCheck s code at = pairRefused (writePair code (pairIn (bytesAt s at pairLength))) at
 
 -- A trace's causes but for those of its pairs.
 unfoldable pub headForm : List ℕ → ℕ → ℕ → ℕ → Check

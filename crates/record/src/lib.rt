@@ -15,12 +15,11 @@ ghost use Rattle.reel.specs.Layout.{word};
 ghost use Rattle.reel.specs.Causes.{mostSamples, mostTraces};
 ghost use Rattle.record.specs.Form.{fieldCause, cardCause, cardsCauses, numberCauses, binaryCauses, tracesPlace, pairCause, traceForm, endCauses, formCauses};
 ghost use Rattle.record.specs.Target.{targetCauses, checked, checkedOf};
-ghost use Rattle.record.specs.Parts.{pairRefused, pairCheck, headForm, traceCheck, formFrom, fitFrom};
+ghost use Rattle.record.specs.Parts.{headForm, traceCheck, formFrom, fitFrom};
 use numbers::ByteNo;
 use numbers::Check;
 use numbers::Place;
 use sample::Pair;
-use sample::Written;
 
 // What a call on a whole reel or record answers: taken with T, N and the length of what it wrote, or refused with number and place.
 pub enum Answer {
@@ -164,168 +163,19 @@ fn check_binary(record: &[u8]) -> Check
     )
 }
 
-// The bits of the exponent and of the mantissa of the pair at a place.
-fn exponent_at(record: &[u8], at: usize) -> u16
-    requires { ⌜ at + 6 ≤ length (now «record») ⌝ }
-    ensures { λ r. ⌜ r ≡ number (bytesAt (now («record» .entry)) at 2) ⌝ }
-{
-    numbers::be16(record[at], record[at + 1])
-}
-
-fn mantissa_at(record: &[u8], at: usize) -> u32
-    requires { ⌜ at + 6 ≤ length (now «record») ⌝ }
-    ensures { λ r. ⌜ r ≡ number (bytesAt (now («record» .entry)) (at + 2) 4) ⌝ }
-{
-    let p = at + 2;
-    numbers::be32(record[p], record[p + 1], record[p + 2], record[p + 3])
-}
-
 // The pair at a place.
 fn pair_at(record: &[u8], at: usize) -> Pair
     requires { ⌜ at + 6 ≤ length (now «record») ⌝ }
     ensures { λ r. ⌜ r ≡ pairIn (bytesAt (now («record» .entry)) at 6) ⌝ }
 {
-    sample::pair_of_bits(exponent_at(record, at), mantissa_at(record, at))
-}
-
-// The refusal of a pair at a place.
-fn refused(word: Written, at: usize) -> Check
-    ensures { λ r. ⌜ r ≡ pairRefused word at ⌝ }
-{
-    match word {
-        Written::Word { bits: _ } => Check::Fine,
-        Written::Refused { number } => Check::Refused {
-            number,
-            place: Place(at),
-        },
-    }
-}
-
-// The first of n pairs from start on that is refused by 13 or 14, a loop for each code. The bits of a pair are fetched a turn early: the
-// compiler then makes one fetch of each.
-fn check_ibm(record: &[u8], n: usize, start: usize) -> Check
-    requires { ⌜ start + n * 6 ≤ length (now «record») ⌝ }
-    ensures { λ r. ⌜ r ≡ firstOf (walk (pairCheck (now («record» .entry)) 1) 6 n start) ⌝ }
-{
-    if n < 1 {
-        return Check::Fine;
-    }
-    let mut at = start;
-    let mut left = n - 1;
-    let mut e = exponent_at(record, start);
-    let mut m = mantissa_at(record, start);
-    while 0 < left {
-        let word = sample::pair_of_bits(e, m).ibm_word();
-        let Written::Word { bits: _ } = word else {
-            return refused(word, at);
-        };
-        at += 6;
-        e = exponent_at(record, at);
-        m = mantissa_at(record, at);
-        left -= 1;
-    }
-    let word = sample::pair_of_bits(e, m).ibm_word();
-    let Written::Word { bits: _ } = word else {
-        return refused(word, at);
-    };
-    Check::Fine
-}
-
-fn check_whole32(record: &[u8], n: usize, start: usize) -> Check
-    requires { ⌜ start + n * 6 ≤ length (now «record») ⌝ }
-    ensures { λ r. ⌜ r ≡ firstOf (walk (pairCheck (now («record» .entry)) 2) 6 n start) ⌝ }
-{
-    if n < 1 {
-        return Check::Fine;
-    }
-    let mut at = start;
-    let mut left = n - 1;
-    let mut e = exponent_at(record, start);
-    let mut m = mantissa_at(record, start);
-    while 0 < left {
-        let word = sample::pair_of_bits(e, m).whole32_word();
-        let Written::Word { bits: _ } = word else {
-            return refused(word, at);
-        };
-        at += 6;
-        e = exponent_at(record, at);
-        m = mantissa_at(record, at);
-        left -= 1;
-    }
-    let word = sample::pair_of_bits(e, m).whole32_word();
-    let Written::Word { bits: _ } = word else {
-        return refused(word, at);
-    };
-    Check::Fine
-}
-
-fn check_whole16(record: &[u8], n: usize, start: usize) -> Check
-    requires { ⌜ start + n * 6 ≤ length (now «record») ⌝ }
-    ensures { λ r. ⌜ r ≡ firstOf (walk (pairCheck (now («record» .entry)) 3) 6 n start) ⌝ }
-{
-    if n < 1 {
-        return Check::Fine;
-    }
-    let mut at = start;
-    let mut left = n - 1;
-    let mut e = exponent_at(record, start);
-    let mut m = mantissa_at(record, start);
-    while 0 < left {
-        let word = sample::pair_of_bits(e, m).whole16_word();
-        let Written::Word { bits: _ } = word else {
-            return refused(word, at);
-        };
-        at += 6;
-        e = exponent_at(record, at);
-        m = mantissa_at(record, at);
-        left -= 1;
-    }
-    let word = sample::pair_of_bits(e, m).whole16_word();
-    let Written::Word { bits: _ } = word else {
-        return refused(word, at);
-    };
-    Check::Fine
-}
-
-fn check_gain(record: &[u8], n: usize, start: usize) -> Check
-    requires { ⌜ start + n * 6 ≤ length (now «record») ⌝ }
-    ensures { λ r. ⌜ r ≡ firstOf (walk (pairCheck (now («record» .entry)) 4) 6 n start) ⌝ }
-{
-    if n < 1 {
-        return Check::Fine;
-    }
-    let mut at = start;
-    let mut left = n - 1;
-    let mut e = exponent_at(record, start);
-    let mut m = mantissa_at(record, start);
-    while 0 < left {
-        let word = sample::pair_of_bits(e, m).gain_word();
-        let Written::Word { bits: _ } = word else {
-            return refused(word, at);
-        };
-        at += 6;
-        e = exponent_at(record, at);
-        m = mantissa_at(record, at);
-        left -= 1;
-    }
-    let word = sample::pair_of_bits(e, m).gain_word();
-    let Written::Word { bits: _ } = word else {
-        return refused(word, at);
-    };
-    Check::Fine
-}
-
-// The same under a code, which is 1 to 4.
-fn check_pairs(record: &[u8], code: u32, n: usize, start: usize) -> Check
-    requires { ⌜ (isCode code ≡ true) × (start + n * 6 ≤ length (now «record»)) ⌝ }
-    ensures { λ r. ⌜ r ≡ firstOf (walk (pairCheck (now («record» .entry)) code) 6 n start) ⌝ }
-{
-    match code {
-        1 => check_ibm(record, n, start),
-        2 => check_whole32(record, n, start),
-        3 => check_whole16(record, n, start),
-        _ => check_gain(record, n, start),
-    }
+    sample::pair_in([
+        record[at],
+        record[at + 1],
+        record[at + 2],
+        record[at + 3],
+        record[at + 4],
+        record[at + 5],
+    ])
 }
 
 // 13: the first of n pairs from start on that isn't canonical.
@@ -387,7 +237,7 @@ fn check_trace(record: &[u8], code: u32, n: usize, i: usize, at: usize) -> Check
     let Check::Fine = a else {
         return a;
     };
-    check_pairs(record, code, n, at + 186)
+    write_samples::check_samples(record, code, n, at + 186)
 }
 
 // 12 and 13 of a trace.

@@ -7,6 +7,7 @@ ghost use mathlib.Core.Bool.{not};
 ghost use Rattle.numbers.specs.Cause.{refuseIf, then, firstOf};
 ghost use Rattle.numbers.specs.declared.Check.the-variants.{Fine};
 ghost use Rattle.numbers.specs.Places.{placeNo, byteNo};
+ghost use Rattle.sample.specs.Reading.{isCode};
 ghost use Rattle.reel.specs.Layout.{firstTrace, word, sampleBytes, stride};
 ghost use Rattle.reel.specs.Causes.{within, neither, headerCauses, sizeCauses, wordCause, traceCauses, behindCauses, causesOf, checkedOf};
 ghost use Rattle.reel.specs.Parts.{wordRefused};
@@ -178,6 +179,16 @@ fn check_traces(reel: &[u8], code: usize, n: usize, i: usize, v: usize, w: usize
         left -= 1;
     }
     Check::Fine
+}
+
+// Whether a code is 1 to 4.
+pub fn is_code(code: usize) -> bool
+    ensures { λ r. ⌜ r ≡ isCode code ⌝ }
+{
+    if code < 1 {
+        return false;
+    }
+    code <= 4
 }
 
 // The bytes of a sample.

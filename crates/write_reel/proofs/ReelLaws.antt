@@ -28,7 +28,8 @@ use Rattle.record.proofs.NumberLaws.{total, fields-again, numbers-append}
 use Rattle.record.proofs.HeaderLaws.{binary-front, binary-back}
 use Rattle.record.proofs.FormLaws.{trace-form, target-form}
 use Rattle.write_reel.specs.Reel.{sampleWritten, traceWritten, reelOf}
-use Rattle.write_reel.specs.Copied.{wordBytes, writtenAt, samplesCopied, traceCopied, binaryCopied, reelCopied}
+use Rattle.write_samples.specs.Samples.{wordBytes, writtenAt, samplesCopied}
+use Rattle.write_reel.specs.Copied.{traceCopied, binaryCopied, reelCopied}
 
 -- ## The binary header
 

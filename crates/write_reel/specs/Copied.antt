@@ -1,31 +1,15 @@
 -- A record's reel as the code writes it, by copying what can be copied: for the functions inside this crate.
 use Prim.Native.Nat.{ℕ, _+_}
 use mathlib.Core.List.{List, _++_, map}
-use lib.ListN.{length, replicate, take}
+use lib.ListN.{length, replicate}
 use Rattle.numbers.specs.Walk.{walk, flat, bytesAt}
 use Rattle.numbers.specs.BigEndian.{bytesOf}
-use Rattle.sample.specs.Writing.{writePair}
-use Rattle.sample.specs.Calls.{pairLength, pairIn}
-use Rattle.sample.specs.declared.Written.{Written}
-use Rattle.reel.specs.Layout.{sampleBytes}
+use Rattle.write_samples.specs.Samples.{samplesCopied}
 use Rattle.record.specs.Form.{heldStride, tracesPlace}
-use Rattle.write_reel.specs.Reel.{wordContent}
 
 -- Unassigned bytes in place of a slice's content.
 unfoldable pub zerosFor : List ℕ → List ℕ
 zerosFor out = replicate (length out) 0
-
--- The bytes of a word under a code.
-abbrev pub wordBytes : ℕ → Written → List ℕ
-wordBytes code w = take (sampleBytes code) (wordContent w)
-
--- What writing the pair at a place gives.
-abbrev pub writtenAt : List ℕ → ℕ → ℕ → Written
-writtenAt s code p = writePair code (pairIn (bytesAt s p pairLength))
-
--- n samples from a place on.
-unfoldable pub samplesCopied : List ℕ → ℕ → ℕ → ℕ → List ℕ
-samplesCopied s code n at = flat (map (wordBytes code) (walk (writtenAt s code) pairLength n at))
 
 -- A trace.
 unfoldable pub traceCopied : List ℕ → ℕ → ℕ → ℕ → List ℕ

@@ -4,9 +4,9 @@ ghost use mathlib.Core.Path.{_≡_};
 ghost use mathlib.Core.Bool.{true};
 ghost use mathlib.Core.List.{map};
 ghost use Prim.Native.Nat.{_+_, _*_, _≤_};
-ghost use lib.ListN.{length, take};
-ghost use Rattle.numbers.specs.Walk.{walk, flat, bytesAt};
-ghost use Rattle.numbers.specs.BigEndian.{number, bytesOf};
+ghost use lib.ListN.{length};
+ghost use Rattle.numbers.specs.Walk.{walk, flat};
+ghost use Rattle.numbers.specs.BigEndian.{bytesOf};
 ghost use Rattle.sample.specs.Reading.{isCode};
 ghost use Rattle.reel.specs.Layout.{sampleBytes, stride};
 ghost use Rattle.reel.specs.Causes.{mostSamples};
@@ -14,7 +14,7 @@ ghost use Rattle.record.specs.Form.{heldStride, tracesPlace};
 ghost use Rattle.record.specs.Target.{checkedOf};
 ghost use Rattle.record.specs.Answer.{outcome};
 ghost use Rattle.write_reel.specs.Writing.{writeOutcome};
-ghost use Rattle.write_reel.specs.Copied.{zerosFor, samplesCopied, traceCopied, binaryCopied, reelCopied};
+ghost use Rattle.write_reel.specs.Copied.{zerosFor, traceCopied, binaryCopied, reelCopied};
 use numbers::Place;
 use record::Answer;
 use record::Checked;
@@ -30,162 +30,6 @@ fn put_zeros(out: &mut [u8])
     }
 }
 
-// The bits of the exponent and of the mantissa of the pair at a place.
-fn exponent_at(record: &[u8], at: usize) -> u16
-    requires { ⌜ at + 6 ≤ length (now «record») ⌝ }
-    ensures { λ r. ⌜ r ≡ number (bytesAt (now («record» .entry)) at 2) ⌝ }
-{
-    numbers::be16(record[at], record[at + 1])
-}
-
-fn mantissa_at(record: &[u8], at: usize) -> u32
-    requires { ⌜ at + 6 ≤ length (now «record») ⌝ }
-    ensures { λ r. ⌜ r ≡ number (bytesAt (now («record» .entry)) (at + 2) 4) ⌝ }
-{
-    let p = at + 2;
-    numbers::be32(record[p], record[p + 1], record[p + 2], record[p + 3])
-}
-
-// The four bytes of a word, as codes 1, 2 and 4 have it.
-fn put_word(bits: u32, out: &mut [u8])
-    requires { ⌜ length (now out) ≡ 4 ⌝ }
-    ensures { λ _. ⌜ now (out .exit) ≡ bytesOf 4 bits ⌝ }
-{
-    let b = numbers::bytes32(bits);
-    out[0] = b[0];
-    out[1] = b[1];
-    out[2] = b[2];
-    out[3] = b[3];
-}
-
-// The two bytes that code 3 has of it.
-fn put_half(bits: u32, out: &mut [u8])
-    requires { ⌜ length (now out) ≡ 2 ⌝ }
-    ensures { λ _. ⌜ now (out .exit) ≡ take 2 (bytesOf 4 bits) ⌝ }
-{
-    let b = numbers::bytes32(bits);
-    out[0] = b[0];
-    out[1] = b[1];
-}
-
-// The samples of a trace, a loop for each code. The bits of a pair are fetched a turn early, as in `record`. The pairs of a record that came
-// through the causes 11 to 14 all have a word; for one without, which only the types allow here, the bits are 0, so that the loops need no
-// condition on each pair.
-fn put_ibm(record: &[u8], n: usize, start: usize, out: &mut [u8])
-    requires { ⌜ (start + n * 6 ≤ length (now «record»)) × (length (now out) ≡ n * 4) ⌝ }
-    ensures { λ _. ⌜ now (out .exit) ≡ samplesCopied (now («record» .entry)) 1 n start ⌝ }
-{
-    if n < 1 {
-        return;
-    }
-    let mut at = start;
-    let mut o = 0;
-    let mut left = n - 1;
-    let mut e = exponent_at(record, start);
-    let mut m = mantissa_at(record, start);
-    while 0 < left {
-        let next = o + 4;
-        put_word(sample::pair_of_bits(e, m).ibm_bits(), &mut out[o..next]);
-        at += 6;
-        e = exponent_at(record, at);
-        m = mantissa_at(record, at);
-        o = next;
-        left -= 1;
-    }
-    put_word(sample::pair_of_bits(e, m).ibm_bits(), &mut out[o..o + 4]);
-}
-
-fn put_whole32(record: &[u8], n: usize, start: usize, out: &mut [u8])
-    requires { ⌜ (start + n * 6 ≤ length (now «record»)) × (length (now out) ≡ n * 4) ⌝ }
-    ensures { λ _. ⌜ now (out .exit) ≡ samplesCopied (now («record» .entry)) 2 n start ⌝ }
-{
-    if n < 1 {
-        return;
-    }
-    let mut at = start;
-    let mut o = 0;
-    let mut left = n - 1;
-    let mut e = exponent_at(record, start);
-    let mut m = mantissa_at(record, start);
-    while 0 < left {
-        let next = o + 4;
-        put_word(sample::pair_of_bits(e, m).whole32_bits(), &mut out[o..next]);
-        at += 6;
-        e = exponent_at(record, at);
-        m = mantissa_at(record, at);
-        o = next;
-        left -= 1;
-    }
-    put_word(
-        sample::pair_of_bits(e, m).whole32_bits(),
-        &mut out[o..o + 4],
-    );
-}
-
-fn put_whole16(record: &[u8], n: usize, start: usize, out: &mut [u8])
-    requires { ⌜ (start + n * 6 ≤ length (now «record»)) × (length (now out) ≡ n * 2) ⌝ }
-    ensures { λ _. ⌜ now (out .exit) ≡ samplesCopied (now («record» .entry)) 3 n start ⌝ }
-{
-    if n < 1 {
-        return;
-    }
-    let mut at = start;
-    let mut o = 0;
-    let mut left = n - 1;
-    let mut e = exponent_at(record, start);
-    let mut m = mantissa_at(record, start);
-    while 0 < left {
-        let next = o + 2;
-        put_half(sample::pair_of_bits(e, m).whole16_bits(), &mut out[o..next]);
-        at += 6;
-        e = exponent_at(record, at);
-        m = mantissa_at(record, at);
-        o = next;
-        left -= 1;
-    }
-    put_half(
-        sample::pair_of_bits(e, m).whole16_bits(),
-        &mut out[o..o + 2],
-    );
-}
-
-fn put_gain(record: &[u8], n: usize, start: usize, out: &mut [u8])
-    requires { ⌜ (start + n * 6 ≤ length (now «record»)) × (length (now out) ≡ n * 4) ⌝ }
-    ensures { λ _. ⌜ now (out .exit) ≡ samplesCopied (now («record» .entry)) 4 n start ⌝ }
-{
-    if n < 1 {
-        return;
-    }
-    let mut at = start;
-    let mut o = 0;
-    let mut left = n - 1;
-    let mut e = exponent_at(record, start);
-    let mut m = mantissa_at(record, start);
-    while 0 < left {
-        let next = o + 4;
-        put_word(sample::pair_of_bits(e, m).gain_bits(), &mut out[o..next]);
-        at += 6;
-        e = exponent_at(record, at);
-        m = mantissa_at(record, at);
-        o = next;
-        left -= 1;
-    }
-    put_word(sample::pair_of_bits(e, m).gain_bits(), &mut out[o..o + 4]);
-}
-
-// The samples of a trace under a code, which is 1 to 4.
-fn put_samples(record: &[u8], code: u32, n: usize, start: usize, out: &mut [u8])
-    requires { ⌜ (isCode code ≡ true) × (start + n * 6 ≤ length (now «record»)) × (length (now out) ≡ n * sampleBytes code) ⌝ }
-    ensures { λ _. ⌜ now (out .exit) ≡ samplesCopied (now («record» .entry)) code n start ⌝ }
-{
-    match code {
-        1 => put_ibm(record, n, start, out),
-        2 => put_whole32(record, n, start, out),
-        3 => put_whole16(record, n, start, out),
-        _ => put_gain(record, n, start, out),
-    }
-}
-
 // A trace: its 71 fields, the unassigned bytes of its header, and its samples.
 fn put_trace(record: &[u8], code: u32, n: usize, at: usize, out: &mut [u8])
     requires { ⌜ (isCode code ≡ true) × (at + (186 + n * 6) ≤ length (now «record»)) × (length (now out) ≡ stride n (sampleBytes code)) ⌝ }
@@ -194,7 +38,7 @@ fn put_trace(record: &[u8], code: u32, n: usize, at: usize, out: &mut [u8])
     let e = out.len();
     numbers::copy(&record[at + 3..at + 183], &mut out[0..180]);
     put_zeros(&mut out[180..240]);
-    put_samples(record, code, n, at + 186, &mut out[240..e]);
+    write_samples::write_samples(record, code, n, at + 186, &mut out[240..e]);
 }
 
 // The traces, one behind the other.

@@ -1,4 +1,5 @@
 -- `record::check_trace` meets its contract. Assumes nothing.
+use Rattle.write_samples.proofs.WordLaws.{samples-checked}
 use Rattle.record.proofs.FormLaws.{head-room}
 use Rattle.record.specs.Parts.{headForm, traceCheck}
 use Rattle.numbers.proofs.CauseLaws.{then-stop, then-next}
@@ -30,15 +31,18 @@ returns : tie.Need-returns
 unfolding traceCheck
 returns c = let e = c .before .before .check-head .ensures in e ∙ then-stop _ _ (sym e ∙ c .enum-told2 .given .1)
 
-add-check-pairs : tie.Need-add-check-pairs
-add-check-pairs c = omega (arith, room c)
+add-check-samples : tie.Need-add-check-samples
+add-check-samples c = omega (arith, room c)
 
-check-pairs-requires : tie.Need-check-pairs-requires
-check-pairs-requires c κs = (c .before .before .before .before .pre .0, omega (arith, room c))
+check-samples-requires : tie.Need-check-samples-requires
+check-samples-requires c κs = tt
 
 returns-2 : tie.Need-returns-2
 unfolding traceCheck
-returns-2 c = c .check-pairs .ensures ∙ then-next _ _ (fine (c .before))
+returns-2 c =
+    let b = c .before .before .before .before .before in
+    let a = b .args in
+    c .check-samples .ensures ∙ samples-checked (a .«record» .now) (a .code) (a .n) (a .at + 186) (b .pre .0) (omega (arith, room (c .before))) ∙ then-next _ _ (fine (c .before))
 
 pub check-trace-spec : {M : Type 1} → statement M
 check-trace-spec =
@@ -48,6 +52,6 @@ check-trace-spec =
     enum-told
     enum-told-2
     returns
-    add-check-pairs
-    check-pairs-requires
+    add-check-samples
+    check-samples-requires
     returns-2)

@@ -1,21 +1,80 @@
 -- `record::pair_at` meets its contract. Assumes nothing.
-use Rattle.sample.proofs.PairBytes.{pair-there}
-use mathlib.Core.Path.{sym, _∙_}
+use Rattle.numbers.specs.Walk.{bytesAt}
+use Rattle.sample.specs.Calls.{pairIn}
+use lib.ListN.{getD}
+use Prim.Native.Nat.{ℕ, _+_}
+use mathlib.Core.List.{List, [], _∷_}
+use mathlib.Core.Path.{_≡_, sym, ap, _∙_}
+use native.Mathlib.Omega.{arith}
+use borrow.Author.Needs.{needs}
 use Rattle.record.proofs.pair_at.Statement.{statement}
 use Rattle.record.proofs.pair_at.Tie as tie
 
-exponent-at-requires : tie.Need-exponent-at-requires
-exponent-at-requires c κs = c .before .pre
+-- the six bytes from an offset on, one by one
+six-bytes : (s : List ℕ) (at : ℕ) → bytesAt s at 6 ≡ getD s at 0 ∷ getD s (at + 1) 0 ∷ getD s (at + 2) 0 ∷ getD s (at + 3) 0 ∷ getD s (at + 4) 0 ∷ getD s (at + 5) 0 ∷ []
+unfolding bytesAt
+six-bytes s at =
+    let d : at + 1 + 1 + 1 + 1 + 1 ≡ at + 5 = omega arith in
+    let c : at + 1 + 1 + 1 + 1 ≡ at + 4 = omega arith in
+    let b : at + 1 + 1 + 1 ≡ at + 3 = omega arith in
+    let a : at + 1 + 1 ≡ at + 2 = omega arith in
+    rw (d, c, b, a)
 
-mantissa-at-requires : tie.Need-mantissa-at-requires
-mantissa-at-requires c κs = c .before .before .pre
+shared-slice-read-t4 : tie.Need-shared-slice-read-t4
+shared-slice-read-t4 c = search needs
 
-pair-of-bits-requires : tie.Need-pair-of-bits-requires
-pair-of-bits-requires c κs = tt
+add-t5 : tie.Need-add-t5
+add-t5 c = search needs
+
+shared-slice-read-t7 : tie.Need-shared-slice-read-t7
+shared-slice-read-t7 c = search needs
+
+add-t8 : tie.Need-add-t8
+add-t8 c = search needs
+
+shared-slice-read-t10 : tie.Need-shared-slice-read-t10
+shared-slice-read-t10 c = search needs
+
+add-t11 : tie.Need-add-t11
+add-t11 c = search needs
+
+shared-slice-read-t13 : tie.Need-shared-slice-read-t13
+shared-slice-read-t13 c = search needs
+
+add-t14 : tie.Need-add-t14
+add-t14 c = search needs
+
+shared-slice-read-t16 : tie.Need-shared-slice-read-t16
+shared-slice-read-t16 c = search needs
+
+add-t17 : tie.Need-add-t17
+add-t17 c = search needs
+
+shared-slice-read-t19 : tie.Need-shared-slice-read-t19
+shared-slice-read-t19 c = search needs
+
+pair-in-requires : tie.Need-pair-in-requires
+pair-in-requires c κs = search needs
 
 returns : tie.Need-returns
-returns c = rw (c .before .before .exponent-at .ensures, c .before .mantissa-at .ensures) at (c .pair-of-bits .ensures) ∙ sym (pair-there (c .before .before .before .before .args .«record» .now) (c .before .before .before .before .args .at))
+returns c =
+    let a = c .before .before .before .before .before .before .before .before .args in
+    c .pair-in .ensures ∙ ap pairIn (sym (six-bytes (a .«record» .now) (a .at)))
 
 pub pair-at-spec : {M : Type 1} → statement M
 pair-at-spec =
-    tie.close (tie.spec exponent-at-requires mantissa-at-requires pair-of-bits-requires returns)
+    tie.close
+    (tie.spec
+    shared-slice-read-t4
+    add-t5
+    shared-slice-read-t7
+    add-t8
+    shared-slice-read-t10
+    add-t11
+    shared-slice-read-t13
+    add-t14
+    shared-slice-read-t16
+    add-t17
+    shared-slice-read-t19
+    pair-in-requires
+    returns)

@@ -1,6 +1,8 @@
 -- `write_reel::put_trace` meets its contract. Assumes nothing.
-use Rattle.write_reel.proofs.CopiedLaws.{zeroed, size-samples, size-trace}
-use Rattle.write_reel.specs.Copied.{samplesCopied, traceCopied}
+use Rattle.write_samples.specs.Samples.{samplesCopied}
+use Rattle.write_samples.proofs.WordLaws.{size-samples, samples-written}
+use Rattle.write_reel.proofs.CopiedLaws.{zeroed, size-trace}
+use Rattle.write_reel.specs.Copied.{traceCopied}
 use Rattle.numbers.proofs.Filling.{start, lend, close}
 use Rattle.numbers.proofs.WalkLaws.{bytes-between, copied, size-bytes}
 use Rattle.numbers.specs.Walk.{bytesAt}
@@ -51,22 +53,20 @@ part-put-zeros-end c = omega (arith, c .before .before .before .before .before .
 put-zeros-requires : tie.Need-put-zeros-requires
 put-zeros-requires c κs = tt
 
-add-put-samples : tie.Need-add-put-samples
-add-put-samples c = omega (arith, c .before .before .before .before .before .before .before .before .before .before .before .pre .1, c .before .before .before .before .before .before .before .before .before .before .before .good .0)
+add-write-samples : tie.Need-add-write-samples
+add-write-samples c = omega (arith, c .before .before .before .before .before .before .before .before .before .before .before .pre .1, c .before .before .before .before .before .before .before .before .before .before .before .good .0)
 
-sub-put-samples : tie.Need-sub-put-samples
-sub-put-samples c = omega (arith, c .before .before .before .before .before .before .before .before .before .before .before .pre .2)
+sub-write-samples : tie.Need-sub-write-samples
+sub-write-samples c = omega (arith, c .before .before .before .before .before .before .before .before .before .before .before .pre .2)
 
-part-put-samples-start : tie.Need-part-put-samples-start
-part-put-samples-start c = omega (arith, c .before .before .before .before .before .before .before .before .before .before .before .pre .2)
+part-write-samples-start : tie.Need-part-write-samples-start
+part-write-samples-start c = omega (arith, c .before .before .before .before .before .before .before .before .before .before .before .pre .2)
 
-part-put-samples-end : tie.Need-part-put-samples-end
-part-put-samples-end c = omega (arith, c .before .before .before .before .before .out .given .1, c .before .out2 .given .1)
+part-write-samples-end : tie.Need-part-write-samples-end
+part-write-samples-end c = omega (arith, c .before .before .before .before .before .out .given .1, c .before .out2 .given .1)
 
-put-samples-requires : tie.Need-put-samples-requires
-put-samples-requires c κs =
-    let s = c .before .before .before .before .before .before .before .before .before .before .before .before in
-    (s .pre .0, omega (arith, s .pre .1), omega (arith, s .pre .2))
+write-samples-requires : tie.Need-write-samples-requires
+write-samples-requires c κs = tt
 
 returns : tie.Need-returns
 unfolding traceCopied
@@ -82,7 +82,7 @@ returns c =
     let w₁ = lend x (y ++ z) 180 w₀ (omega arith) (size-bytes s (at + 3) 180) (copied _ _ (c .before .before .before .before .before .before .before .before .before .before .copy .ensures) (omega (arith, c .before .before .before .before .before .before .before .before .before .before .before .before .copy-arg .given .2, c .before .before .before .before .before .before .before .before .before .before .before .copy-arg2 .given .2)) ∙ bytes-between s (at + 3) (at + 183) 180 (omega (arith, b .pre .1)) (omega arith)) in
     let w₂ = lend y z 240 w₁ (omega arith) (length-replicate {A = ℕ} 60 0) (zeroed _ 60 (c .before .before .before .before .before .before .put-zeros .ensures) (c .before .before .before .before .before .before .before .put-zeros-arg .given .2)) in
     let size : length z ≡ length (a .out .now) - 240 = size-samples s (a .code) (a .n) (at + 186) ∙ omega (arith, b .pre .2) in
-    close z (length (a .out .now)) w₂ (omega (arith, b .pre .2)) size (c .before .before .put-samples .ensures)
+    close z (length (a .out .now)) w₂ (omega (arith, b .pre .2)) size (c .before .before .write-samples .ensures ∙ samples-written s (a .code) (a .n) (at + 186) _ (b .pre .0) (omega (arith, b .pre .1)) (c .before .before .before .write-samples-arg .given .2 ∙ omega (arith, b .pre .2)))
 
 same-length : tie.Need-same-length
 same-length c =
@@ -106,10 +106,10 @@ put-trace-spec =
     part-put-zeros-start
     part-put-zeros-end
     put-zeros-requires
-    add-put-samples
-    sub-put-samples
-    part-put-samples-start
-    part-put-samples-end
-    put-samples-requires
+    add-write-samples
+    sub-write-samples
+    part-write-samples-start
+    part-write-samples-end
+    write-samples-requires
     same-length
     returns)

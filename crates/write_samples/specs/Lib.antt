@@ -1,0 +1,2 @@
+-- The samples of a trace, from pairs to words.
+pub mod Samples

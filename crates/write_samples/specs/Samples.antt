@@ -1,0 +1,55 @@
+-- The samples of a trace as a record holds them: what writing them under a code finds against their pairs, and their words.
+use Prim.Native.Nat.{ℕ, _+_, _*_}
+use mathlib.Core.Bool.{Bool, _&&_}
+use mathlib.Core.List.{List, map}
+use lib.ListN.{length, take}
+use lib.Dec.{leb, eqb}
+use Rattle.numbers.specs.Walk.{pick, walk, flat, bytesAt}
+use Rattle.numbers.specs.BigEndian.{bytesOf}
+use Rattle.numbers.specs.Cause.{firstOf}
+use Rattle.numbers.specs.declared.Check.{Check}
+use Rattle.numbers.specs.declared.Check.the-variants.{Fine, Refused}
+use Rattle.sample.specs.Reading.{isCode}
+use Rattle.sample.specs.Writing.{writePair, wordBits}
+use Rattle.sample.specs.Calls.{pairLength, pairIn}
+use Rattle.sample.specs.declared.Written.{Written}
+use Rattle.sample.specs.declared.Written.the-variants as written
+use Rattle.reel.specs.Layout.{sampleBytes}
+
+-- What writing the pair at a place gives.
+abbrev pub writtenAt : List ℕ → ℕ → ℕ → Written
+writtenAt s code p = writePair code (pairIn (bytesAt s p pairLength))
+
+-- ## Causes
+
+-- The refusal of the pair at a place, from what writing it gives.
+abbrev pub pairRefused : Written → ℕ → Check
+pairRefused (written.Word n) at = Fine
+pairRefused (written.Refused number) at = Refused number (record { 0 = at })
+
+-- 13 or 14 against the pair at a place, under a code.
+abbrev pub pairCheck : List ℕ → ℕ → ℕ → Check
+pairCheck s code at = pairRefused (writtenAt s code at) at
+
+-- The code is one of the codes, and there are n pairs from a place on.
+abbrev pub pairsThere : List ℕ → ℕ → ℕ → ℕ → Bool
+pairsThere s code n at = isCode code && leb (at + n * pairLength) (length s)
+
+-- The first cause against n pairs from a place on; none where they aren't there.
+unfoldable pub samplesChecked : List ℕ → ℕ → ℕ → ℕ → Check
+samplesChecked s code n at = pick (pairsThere s code n at) (firstOf (walk (pairCheck s code) pairLength n at)) Fine
+
+-- ## Words
+
+-- The bytes of a word under a code, of which code 3 has the first two; 00 where there is no word.
+abbrev pub wordBytes : ℕ → Written → List ℕ
+wordBytes code w = take (sampleBytes code) (bytesOf 4 (wordBits w))
+
+-- n samples from a place on.
+unfoldable pub samplesCopied : List ℕ → ℕ → ℕ → ℕ → List ℕ
+samplesCopied s code n at = flat (map (wordBytes code) (walk (writtenAt s code) pairLength n at))
+
+-- An output after n samples were written into it: their words, or what it was where they don't fit.
+unfoldable pub samplesWritten : List ℕ → ℕ → ℕ → ℕ → List ℕ → List ℕ
+samplesWritten s code n at out =
+    pick (pairsThere s code n at && eqb (length out) (n * sampleBytes code)) (samplesCopied s code n at) out
