@@ -5,10 +5,10 @@ use Rattle.numbers.specs.Walk.{walk, bytesAt}
 use Rattle.numbers.specs.Cause.{then, firstOf}
 use Rattle.numbers.specs.declared.Check.{Check}
 use Rattle.numbers.specs.declared.Check.the-variants.{Fine, Refused}
-use Rattle.sample.specs.Writing.{writePair}
-use Rattle.sample.specs.Calls.{pairLength, pairIn}
-use Rattle.sample.specs.declared.Written.{Written}
-use Rattle.sample.specs.declared.Written.the-variants as written
+use Rattle.value.specs.Pair.{pairLength, pairIn}
+use Rattle.value.specs.Writing.{writePair}
+use Rattle.value.specs.declared.Written.{Written}
+use Rattle.value.specs.declared.Written.the-variants as written
 use Rattle.record.specs.Form.{fieldCause, headerCauses, heldStride, traceForm, tagsFrom, endCauses}
 use Rattle.record.specs.Target.{traceFit}
 

@@ -9,8 +9,8 @@ ghost use Rattle.numbers.specs.BigEndian.{number};
 ghost use Rattle.numbers.specs.Cause.{refuseIf, then, firstOf};
 ghost use Rattle.numbers.specs.Places.{placeNo, byteNo};
 ghost use Rattle.numbers.specs.declared.Check.the-variants.{Fine};
-ghost use Rattle.sample.specs.Reading.{isCode};
-ghost use Rattle.sample.specs.Calls.{pairIn};
+ghost use Rattle.value.specs.Value.{isCode};
+ghost use Rattle.value.specs.Pair.{pairIn};
 ghost use Rattle.reel.specs.Layout.{word};
 ghost use Rattle.reel.specs.Causes.{mostSamples, mostTraces};
 ghost use Rattle.record.specs.Form.{fieldCause, cardCause, cardsCauses, numberCauses, binaryCauses, tracesPlace, pairCause, traceForm, endCauses, formCauses};
@@ -19,8 +19,8 @@ ghost use Rattle.record.specs.Parts.{pairRefused, pairCheck, headForm, t
 use numbers::ByteNo;
 use numbers::Check;
 use numbers::Place;
-use sample::Pair;
-use sample::Written;
+use value::Pair;
+use value::Written;
 
 // What a call on a whole reel or record answers: taken with T, N and the length of what it wrote, or refused with number and place.
 pub enum Answer {
@@ -185,7 +185,7 @@ fn pair_at(record: &[u8], at: usize) -> Pair
     requires { ⌜ at + 6 ≤ length (now «record») ⌝ }
     ensures { λ r. ⌜ r ≡ pairIn (bytesAt (now («record» .entry)) at 6) ⌝ }
 {
-    sample::pair_of_bits(exponent_at(record, at), mantissa_at(record, at))
+    value::pair_of_bits(exponent_at(record, at), mantissa_at(record, at))
 }
 
 // The refusal of a pair at a place.
@@ -215,7 +215,7 @@ fn check_ibm(record: &[u8], n: usize, start: usize) -> Check
     let mut e = exponent_at(record, start);
     let mut m = mantissa_at(record, start);
     while 0 < left {
-        let word = sample::pair_of_bits(e, m).ibm_word();
+        let word = value::pair_of_bits(e, m).ibm_word();
         let Written::Word { bits: _ } = word else {
             return refused(word, at);
         };
@@ -224,7 +224,7 @@ fn check_ibm(record: &[u8], n: usize, start: usize) -> Check
         m = mantissa_at(record, at);
         left -= 1;
     }
-    let word = sample::pair_of_bits(e, m).ibm_word();
+    let word = value::pair_of_bits(e, m).ibm_word();
     let Written::Word { bits: _ } = word else {
         return refused(word, at);
     };
@@ -243,7 +243,7 @@ fn check_whole32(record: &[u8], n: usize, start: usize) -> Check
     let mut e = exponent_at(record, start);
     let mut m = mantissa_at(record, start);
     while 0 < left {
-        let word = sample::pair_of_bits(e, m).whole32_word();
+        let word = value::pair_of_bits(e, m).whole32_word();
         let Written::Word { bits: _ } = word else {
             return refused(word, at);
         };
@@ -252,7 +252,7 @@ fn check_whole32(record: &[u8], n: usize, start: usize) -> Check
         m = mantissa_at(record, at);
         left -= 1;
     }
-    let word = sample::pair_of_bits(e, m).whole32_word();
+    let word = value::pair_of_bits(e, m).whole32_word();
     let Written::Word { bits: _ } = word else {
         return refused(word, at);
     };
@@ -271,7 +271,7 @@ fn check_whole16(record: &[u8], n: usize, start: usize) -> Check
     let mut e = exponent_at(record, start);
     let mut m = mantissa_at(record, start);
     while 0 < left {
-        let word = sample::pair_of_bits(e, m).whole16_word();
+        let word = value::pair_of_bits(e, m).whole16_word();
         let Written::Word { bits: _ } = word else {
             return refused(word, at);
         };
@@ -280,7 +280,7 @@ fn check_whole16(record: &[u8], n: usize, start: usize) -> Check
         m = mantissa_at(record, at);
         left -= 1;
     }
-    let word = sample::pair_of_bits(e, m).whole16_word();
+    let word = value::pair_of_bits(e, m).whole16_word();
     let Written::Word { bits: _ } = word else {
         return refused(word, at);
     };
@@ -299,7 +299,7 @@ fn check_gain(record: &[u8], n: usize, start: usize) -> Check
     let mut e = exponent_at(record, start);
     let mut m = mantissa_at(record, start);
     while 0 < left {
-        let word = sample::pair_of_bits(e, m).gain_word();
+        let word = value::pair_of_bits(e, m).gain_word();
         let Written::Word { bits: _ } = word else {
             return refused(word, at);
         };
@@ -308,7 +308,7 @@ fn check_gain(record: &[u8], n: usize, start: usize) -> Check
         m = mantissa_at(record, at);
         left -= 1;
     }
-    let word = sample::pair_of_bits(e, m).gain_word();
+    let word = value::pair_of_bits(e, m).gain_word();
     let Written::Word { bits: _ } = word else {
         return refused(word, at);
     };

@@ -13,7 +13,7 @@ use Rattle.numbers.specs.TwosComplement.{signedOf}
 use Rattle.numbers.proofs.WalkLaws.{flat-length, flat-more, flat-none, size-bytes, four-bytes}
 use Rattle.numbers.proofs.Filling.{Filling, finish, again, lend}
 use borrow.Rule.Slice.PartMut.{putMid}
-use Rattle.sample.specs.Value.{ibmValue, wholeValue, gainValue}
+use Rattle.value.specs.Value.{ibmValue, wholeValue, gainValue}
 use Rattle.sample.specs.Reading.{pairTaken, readWord}
 use Rattle.sample.specs.declared.Sample.{Sample}
 use Rattle.sample.specs.declared.Sample.the-variants.{Taken, Refused}

@@ -7,10 +7,9 @@ use lib.IntN.{pos}
 use Rattle.numbers.specs.Walk.{pick, walk, flat, bytesAt}
 use Rattle.numbers.specs.BigEndian.{bytesOf}
 use Rattle.numbers.specs.TwosComplement.{signedOf, bitsOf}
-use Rattle.sample.specs.Value.{gainValue}
+use Rattle.value.specs.Value.{gainValue}
+use Rattle.value.specs.Pair.{mantissaBits, pairLength, pairBytes}
 use Rattle.sample.specs.Reading.{pairTaken, readWord}
-use Rattle.sample.specs.Pair.{mantissaBits}
-use Rattle.sample.specs.Calls.{pairLength, pairBytes}
 use Rattle.sample.specs.declared.Sample.{Sample}
 use Rattle.sample.specs.declared.Sample.the-variants.{Taken, Refused}
 use Rattle.reel.specs.Layout.{firstTrace, traceHeader, word, sampleBytes}

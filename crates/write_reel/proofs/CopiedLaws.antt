@@ -11,12 +11,12 @@ use Rattle.numbers.specs.Walk.{pick, walk, flat, bytesAt}
 use Rattle.numbers.proofs.WalkLaws.{flat-length, flat-more, flat-none, size-bytes}
 use Rattle.numbers.specs.BigEndian.{number, bytesOf}
 use Rattle.numbers.proofs.Filling.{Filling, finish, again, lend}
-use Rattle.sample.specs.Writing.{writePair, wordBits}
-use Rattle.sample.specs.Calls.{pairLength, pairOfBits}
-use Rattle.sample.specs.declared.Pair.{Pair}
-use Rattle.sample.specs.declared.Written.{Written}
-use Rattle.sample.specs.declared.Written.the-variants.{Word, Refused}
-use Rattle.sample.proofs.PairBytes.{pair-fetched}
+use Rattle.value.specs.Pair.{pairLength, pairOfBits}
+use Rattle.value.specs.Writing.{writePair, wordBits}
+use Rattle.value.specs.declared.Pair.{Pair}
+use Rattle.value.specs.declared.Written.{Written}
+use Rattle.value.specs.declared.Written.the-variants.{Word, Refused}
+use Rattle.value.proofs.PairBytes.{pair-fetched}
 use Rattle.reel.specs.Layout.{sampleBytes, stride}
 use Rattle.record.specs.Form.{heldStride, tracesPlace}
 use Rattle.write_reel.specs.Reel.{wordContent}

@@ -4,9 +4,9 @@ use mathlib.Core.List.{List, _++_, map}
 use lib.ListN.{length, replicate, take}
 use Rattle.numbers.specs.Walk.{walk, flat, bytesAt}
 use Rattle.numbers.specs.BigEndian.{bytesOf}
-use Rattle.sample.specs.Writing.{writePair}
-use Rattle.sample.specs.Calls.{pairLength, pairIn}
-use Rattle.sample.specs.declared.Written.{Written}
+use Rattle.value.specs.Pair.{pairLength, pairIn}
+use Rattle.value.specs.Writing.{writePair}
+use Rattle.value.specs.declared.Written.{Written}
 use Rattle.reel.specs.Layout.{sampleBytes}
 use Rattle.record.specs.Form.{heldStride, tracesPlace}
 use Rattle.write_reel.specs.Reel.{wordContent}

@@ -7,7 +7,7 @@ ghost use Prim.Native.Nat.{_+_, _*_, _≤_};
 ghost use lib.ListN.{length, take};
 ghost use Rattle.numbers.specs.Walk.{walk, flat, bytesAt};
 ghost use Rattle.numbers.specs.BigEndian.{number, bytesOf};
-ghost use Rattle.sample.specs.Reading.{isCode};
+ghost use Rattle.value.specs.Value.{isCode};
 ghost use Rattle.reel.specs.Layout.{sampleBytes, stride};
 ghost use Rattle.reel.specs.Causes.{mostSamples};
 ghost use Rattle.record.specs.Form.{heldStride, tracesPlace};
@@ -85,14 +85,14 @@ fn put_ibm(record: &[u8], n: usize, start: usize, out: &mut [u8])
     let mut m = mantissa_at(record, start);
     while 0 < left {
         let next = o + 4;
-        put_word(sample::pair_of_bits(e, m).ibm_bits(), &mut out[o..next]);
+        put_word(value::pair_of_bits(e, m).ibm_bits(), &mut out[o..next]);
         at += 6;
         e = exponent_at(record, at);
         m = mantissa_at(record, at);
         o = next;
         left -= 1;
     }
-    put_word(sample::pair_of_bits(e, m).ibm_bits(), &mut out[o..o + 4]);
+    put_word(value::pair_of_bits(e, m).ibm_bits(), &mut out[o..o + 4]);
 }
 
 fn put_whole32(record: &[u8], n: usize, start: usize, out: &mut [u8])
@@ -109,17 +109,14 @@ fn put_whole32(record: &[u8], n: usize, start: usize, out: &mut [u8])
     let mut m = mantissa_at(record, start);
     while 0 < left {
         let next = o + 4;
-        put_word(sample::pair_of_bits(e, m).whole32_bits(), &mut out[o..next]);
+        put_word(value::pair_of_bits(e, m).whole32_bits(), &mut out[o..next]);
         at += 6;
         e = exponent_at(record, at);
         m = mantissa_at(record, at);
         o = next;
         left -= 1;
     }
-    put_word(
-        sample::pair_of_bits(e, m).whole32_bits(),
-        &mut out[o..o + 4],
-    );
+    put_word(value::pair_of_bits(e, m).whole32_bits(), &mut out[o..o + 4]);
 }
 
 fn put_whole16(record: &[u8], n: usize, start: usize, out: &mut [u8])
@@ -136,17 +133,14 @@ fn put_whole16(record: &[u8], n: usize, start: usize, out: &mut [u8])
     let mut m = mantissa_at(record, start);
     while 0 < left {
         let next = o + 2;
-        put_half(sample::pair_of_bits(e, m).whole16_bits(), &mut out[o..next]);
+        put_half(value::pair_of_bits(e, m).whole16_bits(), &mut out[o..next]);
         at += 6;
         e = exponent_at(record, at);
         m = mantissa_at(record, at);
         o = next;
         left -= 1;
     }
-    put_half(
-        sample::pair_of_bits(e, m).whole16_bits(),
-        &mut out[o..o + 2],
-    );
+    put_half(value::pair_of_bits(e, m).whole16_bits(), &mut out[o..o + 2]);
 }
 
 fn put_gain(record: &[u8], n: usize, start: usize, out: &mut [u8])
@@ -163,14 +157,14 @@ fn put_gain(record: &[u8], n: usize, start: usize, out: &mut [u8])
     let mut m = mantissa_at(record, start);
     while 0 < left {
         let next = o + 4;
-        put_word(sample::pair_of_bits(e, m).gain_bits(), &mut out[o..next]);
+        put_word(value::pair_of_bits(e, m).gain_bits(), &mut out[o..next]);
         at += 6;
         e = exponent_at(record, at);
         m = mantissa_at(record, at);
         o = next;
         left -= 1;
     }
-    put_word(sample::pair_of_bits(e, m).gain_bits(), &mut out[o..o + 4]);
+    put_word(value::pair_of_bits(e, m).gain_bits(), &mut out[o..o + 4]);
 }
 
 // The samples of a trace under a code, which is 1 to 4.

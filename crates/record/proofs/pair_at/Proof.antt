@@ -1,5 +1,5 @@
 -- `record::pair_at` meets its contract. Assumes nothing.
-use Rattle.sample.proofs.PairBytes.{pair-there}
+use Rattle.value.proofs.PairBytes.{pair-there}
 use mathlib.Core.Path.{sym, _∙_}
 use Rattle.record.proofs.pair_at.Statement.{statement}
 use Rattle.record.proofs.pair_at.Tie as tie

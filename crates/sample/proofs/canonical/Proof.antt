@@ -1,6 +1,6 @@
 -- `sample::canonical` meets its contract. Assumes nothing.
-use Rattle.sample.proofs.Pairs.{taken-zero, taken-at}
-use Rattle.sample.proofs.Twos.{trailing-lt, split}
+use Rattle.value.proofs.Twos.{trailing-lt, split}
+use Rattle.sample.proofs.Taken.{taken-zero, taken-at}
 use mir.Facts.{toZ-ofZ}
 use lib.Count.{trailingZeros}
 use Prim.Native.Nat.{ℕ, _^_, _<_}

@@ -1,7 +1,7 @@
 -- `transcribe::put_ibm` meets its contract. Assumes nothing.
 use Rattle.transcribe.proofs.CopiedLaws.{size-samples, samples-none, next-put, last-put, ibm-copied}
 use Rattle.transcribe.specs.Copied.{sampleContent, sampleCopied, samplesCopied}
-use Rattle.sample.specs.Value.{ibmValue}
+use Rattle.value.specs.Value.{ibmValue}
 use Rattle.sample.specs.Reading.{pairTaken}
 use Rattle.numbers.proofs.Filling.{Filling, start as begin, finish, again}
 use Rattle.numbers.proofs.WalkLaws.{times-more}

@@ -1,5 +1,5 @@
 -- `transcribe::put_pair` meets its contract. Assumes nothing.
-use Rattle.sample.specs.Calls.{pairBytes}
+use Rattle.value.specs.Pair.{pairBytes}
 use Rattle.numbers.proofs.WalkLaws.{stored}
 use mir.Facts.{toZ-ofZ}
 use lib.Dec.{lit<}

@@ -1,7 +1,7 @@
 -- `transcribe::put_whole16` meets its contract. Assumes nothing.
 use Rattle.transcribe.proofs.CopiedLaws.{size-samples, samples-none, next-put, last-put, whole16-copied}
 use Rattle.transcribe.specs.Copied.{sampleContent, sampleCopied, samplesCopied}
-use Rattle.sample.specs.Value.{wholeValue}
+use Rattle.value.specs.Value.{wholeValue}
 use Rattle.sample.specs.Reading.{pairTaken}
 use Rattle.numbers.proofs.Filling.{Filling, start as begin, finish, again}
 use Rattle.numbers.proofs.WalkLaws.{times-more}
