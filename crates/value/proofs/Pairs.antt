@@ -22,7 +22,7 @@ sfits-sub w a b h l =
     ⊎-elim (λ p. subst (SFits w) (sym (sub-below a b p)) (record { sfits = omega arith }))
     (λ p. subst (SFits w) (sym (sub-above a b p)) (record { sfits = omega arith })) (below-or a b)
 
--- the one fact
+-- the pair of a value other than zero, by its sign and magnitude
 
 pub pair-of : (s : Bool) (a : ℕ) → 0 < a → pairOf (signMagnitude s a) ≡ record { e = subℕ (twos a) denominatorPower; m = signMagnitude s (oddPart a) }
 pair-of s zero p = absurd (none p)
