@@ -62,14 +62,13 @@ module _ {A : Type 0} {all out : List A} {o : ℕ} where
         size = q ∙ w .size;
       }
 
--- Two parts lent, the one behind first: as they come back, they make up the slice.
-pub behind-first : {A : Type 0} (k j : ℕ) (out : List A) {ys zs behind front : List A} → length out ≡ k + j → ys ≡ behind → zs ≡ front
-    → putMid 0 k (putMid k j out ys) zs ≡ front ++ behind
-behind-first {A} k j out {ys} {zs} {behind} {front} n is was =
+-- Two parts lent, the second behind the first: as they come back, they make up the slice.
+pub in-turn : {A : Type 0} (k j : ℕ) (out : List A) {ys zs front behind : List A} → length out ≡ k + j → length front ≡ k → ys ≡ front → zs ≡ behind
+    → putMid k j (putMid 0 k out ys) zs ≡ front ++ behind
+in-turn {A} k j out {ys} {zs} {front} {behind} n size is was =
     let few : length (drop k out) ≤ j = rw length-drop (omega arith) in
     let rest : drop j (drop k out) ≡ [] = drop-of-length-le (drop k out) few in
-    let size : length (take k out) ≡ k = rw length-take (omega arith) in
-    rw (was, is) (ap (λ (l : List A). front ++ l) (drop-at (take k out) (behind ++ drop j (drop k out)) k size ∙ ap (λ (l : List A). behind ++ l) rest ∙ append-nil behind))
+    rw (is, was, take-at front (drop k out) k size, drop-at front (drop k out) k size, rest) (ap (λ (l : List A). front ++ l) (append-nil behind))
 
 -- The last part lent: as it comes back, the slice is what it was to become.
 pub close : {A : Type 0} {all out : List A} {o : ℕ} (new : List A) (e : ℕ) {ys : List A} → Filling all out o new → o ≤ e → length new ≡ e - o → ys ≡ new

@@ -2,7 +2,9 @@
 ghost use mathlib.Core.Path.{_≡_};
 ghost use mathlib.Core.List.{[], _∷_};
 ghost use Prim.Native.Nat.{_*_, _/_, _^_, _<_, _≤_};
-ghost use lib.IntN.{natAbs, subℕ};
+ghost use lib.Dec.{eqb};
+ghost use lib.IntN.{pos, natAbs, subℕ};
+ghost use Rattle.numbers.specs.Walk.{pick};
 ghost use Rattle.numbers.specs.Outcome.{refused};
 ghost use Rattle.numbers.specs.TwosComplement.{signedOf};
 ghost use Rattle.value.specs.Value.{denominatorPower, signMagnitude, fraction, ibmValue, wholeValue, gainValue};
@@ -68,17 +70,22 @@ fn shifted_down(a: u32, t: u32) -> u32
     a >> t
 }
 
-// The canonical pair of V = ± a × 2^k: the power of two in a is counted out of it.
+// An exponent, or 0 where the magnitude is 0: zero has the exponent 0.
+fn exponent_unless_zero(a: u32, e: i16) -> i16
+    ensures { λ r. ⌜ r ≡ pick (eqb a 0) (pos 0) e ⌝ }
+{
+    if a == 0 { 0 } else { e }
+}
+
+// The canonical pair of V = ± a × 2^k: the power of two in a is counted out of it. There is no branch on a: where it is 0, all its 32
+// bits are trailing zeros, and it is shifted by none of them.
 fn canonical(neg: bool, a: u32, k: u32) -> Sample
     requires { ⌜ (a ≤ 2 ^ 31) × (k ≤ 2 ^ 14) ⌝ }
     ensures { λ r. ⌜ r ≡ pairTaken (signMagnitude neg (a * 2 ^ k)) ⌝ }
 {
-    if a == 0 {
-        return Sample::Taken { e: 0, m: 0 };
-    }
     let twos = u32::trailing_zeros(a);
-    let e = exponent(k + twos);
-    let m = with_sign(neg, shifted_down(a, twos));
+    let e = exponent_unless_zero(a, exponent(k + twos));
+    let m = with_sign(neg, shifted_down(a, twos % 32));
     Sample::Taken { e, m }
 }
 

@@ -2,7 +2,8 @@
 use mathlib.Core.Path.{_≡_, refl, sym, ap, _∙_, subst}
 use mathlib.Core.Bool.{Bool, true, false, not}
 use mathlib.Core.List.{List, [], _∷_, _++_, map}
-use Prim.Native.Nat.{ℕ, _+_, _-_, _*_, _≤_, _<_}
+use Prim.Native.Nat.{ℕ, _+_, _-_, _*_, _^_, _≤_, _<_}
+use native.Mathlib.Nat.{zero-mul}
 use native.Mathlib.Omega.{arith}
 use lib.Dec.{eqb}
 use lib.IntN.{ℤ, pos}
@@ -13,7 +14,7 @@ use Rattle.numbers.specs.TwosComplement.{signedOf}
 use Rattle.numbers.proofs.WalkLaws.{flat-length, flat-more, flat-none, size-bytes, four-bytes}
 use Rattle.numbers.proofs.Filling.{Filling, finish, again, lend}
 use borrow.Rule.Slice.PartMut.{putMid}
-use Rattle.value.specs.Value.{ibmValue, wholeValue, gainValue}
+use Rattle.value.specs.Value.{denominatorPower, ibmValue, wholeValue, gainValue}
 use Rattle.sample.specs.Reading.{pairTaken, readWord}
 use Rattle.sample.specs.declared.Sample.{Sample}
 use Rattle.sample.specs.declared.Sample.the-variants.{Taken, Refused}
@@ -40,6 +41,10 @@ pub size-content : (q : Sample) → length (sampleContent q) ≡ 6
 size-content (Taken e m) = refl
 size-content (Refused number) = refl
 
+pub size-exponent : (q : Sample) → length (exponentContent q) ≡ 2
+size-exponent (Taken e m) = refl
+size-exponent (Refused number) = refl
+
 -- a sample's bytes are those of its exponent and those of its mantissa
 pub content-parts : (q : Sample) → exponentContent q ++ mantissaContent q ≡ sampleContent q
 content-parts (Taken e m) = refl
@@ -62,6 +67,14 @@ module _ (s : List ℕ) (code n i : ℕ) where
   size-record w t = simp (length-append, size-head, size-traces) (omega arith)
 
 -- ## Samples
+
+-- a gain word's number, or 0 in its place: the sample is then zero
+pub gain-either : (first g d : ℕ) → pairTaken (gainValue g (signedOf 16 (pick (eqb first 0) d 0))) ≡ gainOrZero first g d
+gain-either first g d = go (eqb first 0)
+  where
+    go : (b : Bool) → pairTaken (gainValue g (signedOf 16 (pick b d 0))) ≡ pick b (pairTaken (gainValue g (signedOf 16 d))) (Taken (pos 0) (pos 0))
+    go true = refl
+    go false = rw (zero-mul (2 ^ (denominatorPower - g)))
 
 module _ (s : List ℕ) (at : ℕ) where
   -- what the code reads under each code

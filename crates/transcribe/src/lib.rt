@@ -4,12 +4,12 @@ ghost use mathlib.Core.Path.{_≡_};
 ghost use mathlib.Core.Bool.{true};
 ghost use mathlib.Core.List.{_++_, map};
 ghost use Prim.Native.Nat.{_+_, _-_, _*_, _<_, _≤_};
+ghost use lib.Dec.{eqb};
 ghost use lib.ListN.{length};
-ghost use Rattle.numbers.specs.Walk.{flat, bytesAt};
+ghost use Rattle.numbers.specs.Walk.{pick, flat, bytesAt};
 ghost use Rattle.numbers.specs.BigEndian.{number, bytesOf};
 ghost use Rattle.numbers.specs.TwosComplement.{signedOf};
 ghost use Rattle.value.specs.Value.{ibmValue, wholeValue, isCode};
-ghost use Rattle.value.specs.Pair.{pairBytes};
 ghost use Rattle.sample.specs.Reading.{pairTaken};
 ghost use Rattle.reel.specs.Layout.{firstTrace, word, sampleBytes, stride};
 ghost use Rattle.reel.specs.Causes.{mostSamples, mostTraces, checkedOf};
@@ -107,35 +107,19 @@ fn put_binary(reel: &[u8], out: &mut [u8])
     numbers::copy(&reel[3226..3260], &mut out[26..60]);
 }
 
-// A pair in six bytes.
-fn put_pair(e: i16, m: i32, out: &mut [u8])
-    requires { ⌜ length (now out) ≡ 6 ⌝ }
-    ensures { λ _. ⌜ now (out .exit) ≡ pairBytes e m ⌝ }
+// What reading a word gives: its exponent in two bytes, and its mantissa in four. The words of a reel that came through the causes 1 to 9 are
+// all taken; a refused one, which only the types allow here, is given as zero, so that the loops need no condition on each word.
+fn put_exponent(word: Sample, out: &mut [u8])
+    requires { ⌜ length (now out) ≡ 2 ⌝ }
+    ensures { λ _. ⌜ now (out .exit) ≡ exponentContent word ⌝ }
 {
-    let a = numbers::bytes16(numbers::bits16(e));
-    let b = numbers::bytes32(numbers::bits32(m));
-    out[0] = a[0];
-    out[1] = a[1];
-    out[2] = b[0];
-    out[3] = b[1];
-    out[4] = b[2];
-    out[5] = b[3];
-}
-
-// What reading a word gives, in six bytes. The words of a reel that came through the causes 1 to 9 are all taken; a refused one, which only
-// the types allow here, is given as zero, so that the loops need no condition on each word.
-fn put_sample(word: Sample, out: &mut [u8])
-    requires { ⌜ length (now out) ≡ 6 ⌝ }
-    ensures { λ _. ⌜ now (out .exit) ≡ sampleContent word ⌝ }
-{
-    let Sample::Taken { e, m } = word else {
-        put_pair(0, 0, out);
+    let Sample::Taken { e, m: _ } = word else {
+        put16(0, out);
         return;
     };
-    put_pair(e, m, out);
+    put16(numbers::bits16(e), out);
 }
 
-// The same in two stores, of the mantissa and of the exponent.
 fn put_mantissa(word: Sample, out: &mut [u8])
     requires { ⌜ length (now out) ≡ 4 ⌝ }
     ensures { λ _. ⌜ now (out .exit) ≡ mantissaContent word ⌝ }
@@ -147,15 +131,12 @@ fn put_mantissa(word: Sample, out: &mut [u8])
     put32(numbers::bits32(m), out);
 }
 
-fn put_exponent(word: Sample, out: &mut [u8])
-    requires { ⌜ length (now out) ≡ 2 ⌝ }
-    ensures { λ _. ⌜ now (out .exit) ≡ exponentContent word ⌝ }
+fn put_sample(word: Sample, out: &mut [u8])
+    requires { ⌜ length (now out) ≡ 6 ⌝ }
+    ensures { λ _. ⌜ now (out .exit) ≡ sampleContent word ⌝ }
 {
-    let Sample::Taken { e, m: _ } = word else {
-        put16(0, out);
-        return;
-    };
-    put16(numbers::bits16(e), out);
+    put_exponent(word, &mut out[0..2]);
+    put_mantissa(word, &mut out[2..6]);
 }
 
 // The number in the four bytes at a place, and in two.
@@ -180,9 +161,9 @@ fn put_ibm_word(reel: &[u8], word: u32, next: usize, out: &mut [u8]) -> u32
     ensures { λ r. ⌜ (r ≡ number (bytesAt (now (reel .entry)) next 4)) × (now (out .exit) ≡ sampleContent (pairTaken (ibmValue word))) ⌝ }
 {
     let pair = sample::ibm(word);
-    put_mantissa(pair, &mut out[2..6]);
-    let w = word32_at(reel, next);
     put_exponent(pair, &mut out[0..2]);
+    let w = word32_at(reel, next);
+    put_mantissa(pair, &mut out[2..6]);
     w
 }
 
@@ -191,9 +172,9 @@ fn put_whole32_word(reel: &[u8], word: u32, next: usize, out: &mut [u8]) -> u32
     ensures { λ r. ⌜ (r ≡ number (bytesAt (now (reel .entry)) next 4)) × (now (out .exit) ≡ sampleContent (pairTaken (wholeValue (signedOf 32 word)))) ⌝ }
 {
     let pair = sample::whole32(word);
-    put_mantissa(pair, &mut out[2..6]);
-    let w = word32_at(reel, next);
     put_exponent(pair, &mut out[0..2]);
+    let w = word32_at(reel, next);
+    put_mantissa(pair, &mut out[2..6]);
     w
 }
 
@@ -202,21 +183,24 @@ fn put_whole16_word(reel: &[u8], word: u16, next: usize, out: &mut [u8]) -> u16
     ensures { λ r. ⌜ (r ≡ number (bytesAt (now (reel .entry)) next 2)) × (now (out .exit) ≡ sampleContent (pairTaken (wholeValue (signedOf 16 word)))) ⌝ }
 {
     let pair = sample::whole16(word);
-    put_mantissa(pair, &mut out[2..6]);
-    let w = word16_at(reel, next);
     put_exponent(pair, &mut out[0..2]);
+    let w = word16_at(reel, next);
+    put_mantissa(pair, &mut out[2..6]);
     w
 }
 
-// What reading a gain word gives, by its first byte, its gain and its number. One that 9 refuses, which only the types allow here, is given
-// as zero, as in `put_sample`.
+// The number of a gain word, by its first byte and the bits of d. One that 9 refuses, which only the types allow here, is given as zero.
+fn number_or_zero(first: u8, d: u16) -> u16
+    ensures { λ r. ⌜ r ≡ pick (eqb first 0) d 0 ⌝ }
+{
+    if first == 0 { d } else { 0 }
+}
+
+// What reading a gain word gives, by its first byte, its gain and the bits of d.
 fn gain_or_zero(first: u8, g: u8, d: u16) -> Sample
     ensures { λ r. ⌜ r ≡ gainOrZero first g d ⌝ }
 {
-    if first != 0 {
-        return Sample::Taken { e: 0, m: 0 };
-    }
-    sample::gain_number(g, d)
+    sample::gain_number(g, number_or_zero(first, d))
 }
 
 // The same for a gain word, of which d is fetched early.
@@ -225,9 +209,9 @@ fn put_gain_word(reel: &[u8], at: usize, d: u16, out: &mut [u8]) -> u16
     ensures { λ r. ⌜ (r ≡ number (bytesAt (now (reel .entry)) (at + 6) 2)) × (now (out .exit) ≡ sampleCopied (now (reel .entry)) 4 at) ⌝ }
 {
     let pair = gain_or_zero(reel[at], reel[at + 1], d);
-    put_mantissa(pair, &mut out[2..6]);
-    let w = word16_at(reel, at + 6);
     put_exponent(pair, &mut out[0..2]);
+    let w = word16_at(reel, at + 6);
+    put_mantissa(pair, &mut out[2..6]);
     w
 }
 

@@ -1,17 +1,23 @@
 -- `transcribe::gain_or_zero` meets its contract. Assumes nothing.
-use borrow.Author.Tests.{eq-eqb, ne-eqb}
-use borrow.Author.Needs.{needs}
+use Prim.Native.Nat.{ℕ}
+use mathlib.Core.Path.{ap, _∙_}
+use Rattle.numbers.specs.TwosComplement.{signedOf}
+use Rattle.value.specs.Value.{gainValue}
+use Rattle.sample.specs.Reading.{pairTaken}
+use Rattle.transcribe.proofs.CopiedLaws.{gain-either}
 use Rattle.transcribe.proofs.gain_or_zero.Statement.{statement}
 use Rattle.transcribe.proofs.gain_or_zero.Tie as tie
 
-returns : tie.Need-returns
-returns c = rw (ne-eqb (c .before .args .first) 0 (c .if1 .taken))
+number-or-zero-requires : tie.Need-number-or-zero-requires
+number-or-zero-requires c κs = tt
 
 gain-number-requires : tie.Need-gain-number-requires
-gain-number-requires c κs = search needs
+gain-number-requires c κs = tt
 
-returns-2 : tie.Need-returns-2
-returns-2 c = rw (eq-eqb (c .before .before .args .first) 0 (c .before .if1 .left)) (c .gain-number .ensures)
+returns : tie.Need-returns
+returns c =
+    let a = c .before .before .args in
+    c .gain-number .ensures ∙ ap (λ (d : ℕ). pairTaken (gainValue (a .g) (signedOf 16 d))) (c .before .number-or-zero .ensures) ∙ gain-either (a .first) (a .g) (a .d)
 
 pub gain-or-zero-spec : {M : Type 1} → statement M
-gain-or-zero-spec = tie.close (tie.spec returns gain-number-requires returns-2)
+gain-or-zero-spec = tie.close (tie.spec number-or-zero-requires gain-number-requires returns)

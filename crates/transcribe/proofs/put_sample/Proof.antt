@@ -1,50 +1,58 @@
 -- `transcribe::put_sample` meets its contract. Assumes nothing.
-use Rattle.transcribe.specs.Copied.{sampleContent}
-use mir.Facts.{toZ-ofZ}
-use mir.Val.{SFits}
-use mir.Syntax.{w16, w32}
-use mathlib.Core.Path.{_≡_, sym, ap, _∙_}
-use borrow.Author.Needs.{needs}
+use Rattle.transcribe.proofs.CopiedLaws.{size-exponent, content-parts, size-content}
+use Rattle.numbers.proofs.Filling.{in-turn}
+use lib.ListN.{length}
+use mathlib.Core.Path.{ap, _∙_, sym}
+use native.Mathlib.Omega.{arith}
 use Rattle.transcribe.proofs.put_sample.Statement.{statement}
 use Rattle.transcribe.proofs.put_sample.Tie as tie
 
-enum-known-word : tie.Need-enum-known-word
-enum-known-word c = search needs
+sub-put-exponent : tie.Need-sub-put-exponent
+sub-put-exponent c = omega arith
 
-enum-told : tie.Need-enum-told
-enum-told c = search needs
+part-put-exponent-start : tie.Need-part-put-exponent-start
+part-put-exponent-start c = omega arith
 
-put-pair-requires : tie.Need-put-pair-requires
-put-pair-requires c κs = search needs
+part-put-exponent-end : tie.Need-part-put-exponent-end
+part-put-exponent-end c = omega (arith, c .before .pre)
 
-same-length : tie.Need-same-length
-same-length c = search needs
+put-exponent-requires : tie.Need-put-exponent-requires
+put-exponent-requires c κs = c .put-exponent-arg .given .2
+
+sub-put-mantissa : tie.Need-sub-put-mantissa
+sub-put-mantissa c = omega arith
+
+part-put-mantissa-start : tie.Need-part-put-mantissa-start
+part-put-mantissa-start c = omega arith
+
+part-put-mantissa-end : tie.Need-part-put-mantissa-end
+part-put-mantissa-end c = omega (arith, c .before .before .before .before .before .pre, c .before .out .given .1)
+
+put-mantissa-requires : tie.Need-put-mantissa-requires
+put-mantissa-requires c κs = c .put-mantissa-arg .given .2
 
 returns : tie.Need-returns
-returns c = c .before .before .put-pair .ensures ∙ ap sampleContent (sym (c .before .before .before .before .enum-told .given .1))
+returns c =
+    let x = c .before .before .before .before .before .before in
+    let s = x .before .before .before in
+    in-turn 2 4 (s .args .out .now) (s .pre) (size-exponent (s .args .word)) (x .put-exponent .ensures) (c .before .before .put-mantissa .ensures) ∙ content-parts (s .args .word)
 
-put-pair-requires-2 : tie.Need-put-pair-requires-2
-put-pair-requires-2 c κs = search needs
-
-same-length-2 : tie.Need-same-length-2
-same-length-2 c = search needs
-
-returns-2 : tie.Need-returns-2
-returns-2 c =
-    let w = c .before .before .before .before .before in
-    let x : SFits w16 (w .word .given .0 .0) = search needs in
-    let y : SFits w32 (w .word .given .0 .1 .0) = search needs in
-    c .before .before .put-pair2 .ensures ∙ rw (toZ-ofZ x, toZ-ofZ y) (ap sampleContent (sym (w .word .given .1)))
+same-length : tie.Need-same-length
+same-length c =
+    let s = c .before .before .before .before .before .before .before .before .before in
+    ap length (returns c) ∙ size-content (s .args .word) ∙ sym (s .pre)
 
 pub put-sample-spec : {M : Type 1} → statement M
 put-sample-spec =
     tie.close
     (tie.spec
-    enum-known-word
-    enum-told
-    put-pair-requires
+    sub-put-exponent
+    part-put-exponent-start
+    part-put-exponent-end
+    put-exponent-requires
+    sub-put-mantissa
+    part-put-mantissa-start
+    part-put-mantissa-end
+    put-mantissa-requires
     same-length
-    returns
-    put-pair-requires-2
-    same-length-2
-    returns-2)
+    returns)
