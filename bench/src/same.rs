@@ -35,7 +35,7 @@ impl Samples for Same {
             1 => put_pairs(words, pairs, |word| ibm(u32::from_be_bytes(word))),
             2 => put_pairs(words, pairs, |word| whole32(i32::from_be_bytes(word))),
             3 => put_pairs(words, pairs, |word| whole16(i16::from_be_bytes(word))),
-            _ => put_pairs(words, pairs, |word| gain(word).unwrap_or(ZERO)),
+            _ => put_pairs(words, pairs, gain_or_zero),
         }
     }
 
@@ -85,19 +85,15 @@ struct Pair {
     m: i32,
 }
 
-const ZERO: Pair = Pair { e: 0, m: 0 };
-
 /// The canonical pair of ± `magnitude` × 2^(`power` - 280): the power of two in the magnitude is
-/// counted out of it.
+/// counted out of it. Zero has the exponent 0.
 #[inline(always)]
 fn canonical(negative: bool, magnitude: u32, power: u32) -> Pair {
-    if magnitude == 0 {
-        return ZERO;
-    }
     let twos = magnitude.trailing_zeros();
-    let odd = (magnitude >> twos) as i32;
+    let e = (power + twos) as i16 - DENOMINATOR_POWER as i16;
+    let odd = (magnitude >> (twos % 32)) as i32;
     Pair {
-        e: (power + twos) as i16 - DENOMINATOR_POWER as i16,
+        e: if magnitude == 0 { 0 } else { e },
         m: if negative { -odd } else { odd },
     }
 }
@@ -119,14 +115,24 @@ fn whole16(number: i16) -> Pair {
 }
 
 #[inline(always)]
+fn gain_number(g: u8, number: i16) -> Pair {
+    let magnitude = u32::from(number.unsigned_abs());
+    canonical(number < 0, magnitude, DENOMINATOR_POWER - u32::from(g))
+}
+
+#[inline(always)]
 fn gain([first, g, high, low]: [u8; 4]) -> Result<Pair, u64> {
     if first != 0 {
         return Err(BAD_GAIN);
     }
+    Ok(gain_number(g, i16::from_be_bytes([high, low])))
+}
+
+/// The second pass's gain word: one that is refused, which the first pass has ruled out, is zero.
+#[inline(always)]
+fn gain_or_zero([first, g, high, low]: [u8; 4]) -> Pair {
     let number = i16::from_be_bytes([high, low]);
-    let magnitude = u32::from(number.unsigned_abs());
-    let power = DENOMINATOR_POWER - u32::from(g);
-    Ok(canonical(number < 0, magnitude, power))
+    gain_number(g, if first == 0 { number } else { 0 })
 }
 
 // ## Writing

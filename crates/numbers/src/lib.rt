@@ -1,6 +1,8 @@
 // What every layer uses: byte numbers and places, big-endian numbers, two's complement.
 ghost use mathlib.Core.Path.{_≡_};
 ghost use mathlib.Core.List.{[], _∷_};
+ghost use Prim.Native.Nat.{_+_, _*_};
+ghost use lib.Dec.{leb};
 ghost use Rattle.numbers.specs.Walk.{copyOf};
 ghost use Rattle.numbers.specs.BigEndian.{number, bytesOf};
 ghost use Rattle.numbers.specs.TwosComplement.{signedOf, bitsOf};
@@ -144,4 +146,42 @@ pub fn copy(src: &[u8], out: &mut [u8])
         out[i] = src[i];
         i += 1;
     }
+}
+
+// Stores a number in a slice of two bytes, and in one of four. A slice of another length is left as it was.
+pub fn put16(n: u16, out: &mut [u8])
+    ensures { λ _. ⌜ now (out .exit) ≡ copyOf (bytesOf 2 n) (now (out .entry)) ⌝ }
+{
+    if out.len() != 2 {
+        return;
+    }
+    let b = bytes16(n);
+    out[0] = b[0];
+    out[1] = b[1];
+}
+
+pub fn put32(n: u32, out: &mut [u8])
+    ensures { λ _. ⌜ now (out .exit) ≡ copyOf (bytesOf 4 n) (now (out .entry)) ⌝ }
+{
+    if out.len() != 4 {
+        return;
+    }
+    let b = bytes32(n);
+    out[0] = b[0];
+    out[1] = b[1];
+    out[2] = b[2];
+    out[3] = b[3];
+}
+
+// Whether n parts of w bytes each, from a place on, are within so many bytes.
+pub fn are_within(bytes: usize, n: usize, w: usize, start: usize) -> bool
+    ensures { λ r. ⌜ r ≡ leb (start + n * w) bytes ⌝ }
+{
+    if bytes < start {
+        return false;
+    }
+    if w < 1 {
+        return true;
+    }
+    n <= (bytes - start) / w
 }

@@ -28,8 +28,10 @@ use Rattle.reel.proofs.CheckLaws.{Numbers, Sound, reel-fine}
 use Rattle.record.specs.Record.{field, numberBytes, withCode, binaryBytes, valueBytes, samplesField, traceBytes, recordOf, reelRecord}
 use Rattle.record.proofs.NumberLaws.{fields-again, numbers-append}
 use Rattle.record.proofs.HeaderLaws.{binary-front, binary-back, trace-front, trace-back, countField, intervalField, size-cards}
-use Rattle.transcribe.specs.Copied.{tagBytes, binaryCopied, headCopied, ownOr, headerCopied, sampleContent, sampleCopied, places, samplesCopied, traceCopied, recordCopied}
-use Rattle.transcribe.proofs.CopiedLaws.{size-binary, size-header, size-samples}
+use Rattle.read_samples.specs.Samples.{sampleContent, sampleCopied, places, samplesCopied}
+use Rattle.transcribe.specs.Copied.{tagBytes, binaryCopied, headCopied, ownOr, headerCopied, traceCopied, recordCopied}
+use Rattle.read_samples.proofs.SampleLaws.{size-samples}
+use Rattle.transcribe.proofs.CopiedLaws.{size-binary, size-header}
 
 -- ## Fields
 

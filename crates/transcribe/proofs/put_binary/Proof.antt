@@ -43,7 +43,7 @@ part-put16-end : tie.Need-part-put16-end
 part-put16-end c = omega (arith, c .before .before .before .before .before .before .before .pre .1, c .before .out .given .1)
 
 put16-requires : tie.Need-put16-requires
-put16-requires c κs = c .put16-arg .given .2
+put16-requires c κs = tt
 
 sub-copy-3 : tie.Need-sub-copy-3
 sub-copy-3 c = omega arith
@@ -75,7 +75,7 @@ returns c =
     let z = bytesAt s 3226 34 in
     let w₀ = start _ (b .args .out .now) (b .pre .1 ∙ sym (size-binary s)) in
     let w₁ = lend x (bytesOf 2 0 ++ z) 24 w₀ (omega arith) (size-bytes s 3200 24) (copied _ _ (c .before .before .before .before .before .before .before .before .before .before .before .copy .ensures) (omega (arith, c .before .before .before .before .before .before .before .before .before .before .before .before .before .copy-arg .given .2, c .before .before .before .before .before .before .before .before .before .before .before .before .copy-arg2 .given .2)) ∙ bytes-between s 3200 3224 24 (omega (arith, b .pre .0)) refl) in
-    let w₂ = lend (bytesOf 2 0) z 26 w₁ (omega arith) refl (c .before .before .before .before .before .before .before .put16 .ensures) in
+    let w₂ = lend (bytesOf 2 0) z 26 w₁ (omega arith) refl (copied _ _ (c .before .before .before .before .before .before .before .put16 .ensures) (c .before .before .before .before .before .before .before .before .put16-arg .given .2)) in
     close z 60 w₂ (omega arith) (size-bytes s 3226 34) (copied _ _ (c .before .before .copy2 .ensures) (omega (arith, c .before .before .before .before .copy-arg3 .given .2, c .before .before .before .copy-arg4 .given .2)) ∙ bytes-between s 3226 3260 34 (omega (arith, b .pre .0)) refl)
 
 same-length : tie.Need-same-length

@@ -1,4 +1,5 @@
 -- `transcribe::put_count` meets its contract. Assumes nothing.
+use Rattle.numbers.proofs.WalkLaws.{copied}
 use Rattle.transcribe.specs.Copied.{tagBytes}
 use Rattle.numbers.proofs.Filling.{start, lend, close}
 use Rattle.numbers.specs.BigEndian.{bytesOf}
@@ -29,7 +30,7 @@ part-put32-end : tie.Need-part-put32-end
 part-put32-end c = omega (arith, c .before .before .before .before .before .pre, c .before .out .given .1)
 
 put32-requires : tie.Need-put32-requires
-put32-requires c κs = c .put32-arg .given .2
+put32-requires c κs = tt
 
 same-length : tie.Need-same-length
 same-length c = omega (arith, c .before .out2 .given .1, c .before .before .before .before .before .out .given .1)
@@ -39,7 +40,7 @@ returns c =
     let s = c .before .before .before .before .before .before .before .before .before in
     let z = bytesOf 4 (s .args .t) in
     let w₁ = lend (tagBytes 5 4) z 3 (start _ (s .args .out .now) (s .pre)) (omega arith) refl (c .before .before .before .before .before .before .put-tag .ensures) in
-    close z 7 w₁ (omega arith) refl (c .before .before .put32 .ensures)
+    close z 7 w₁ (omega arith) refl (copied _ _ (c .before .before .put32 .ensures) (c .before .before .before .put32-arg .given .2))
 
 pub put-count-spec : {M : Type 1} → statement M
 put-count-spec =

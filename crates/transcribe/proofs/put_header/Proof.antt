@@ -54,7 +54,7 @@ part-put16-end : tie.Need-part-put16-end
 part-put16-end c = omega (arith, c .before .before .before .before .before .before .before .before .pre .1, c .before .before .out .given .1)
 
 put16-requires : tie.Need-put16-requires
-put16-requires c κs = c .put16-arg .given .2
+put16-requires c κs = tt
 
 add-own-at-2 : tie.Need-add-own-at-2
 add-own-at-2 c = omega (arith, c .before .before .before .before .before .before .before .before .before .before .before .before .pre .0, c .before .before .before .before .before .before .before .before .before .before .before .before .good .0)
@@ -72,7 +72,7 @@ part-put16-end-2 : tie.Need-part-put16-end-2
 part-put16-end-2 c = omega (arith, c .before .before .before .before .before .before .before .before .before .before .before .before .before .pre .1, c .before .before .before .before .before .before .before .out .given .1, c .before .before .out2 .given .1)
 
 put16-requires-2 : tie.Need-put16-requires-2
-put16-requires-2 c κs = c .put16-arg2 .given .2
+put16-requires-2 c κs = tt
 
 add-copy-2 : tie.Need-add-copy-2
 add-copy-2 c = omega (arith, c .before .before .before .before .before .before .before .before .before .before .before .before .before .before .before .before .before .pre .0, c .before .before .before .before .before .before .before .before .before .before .before .before .before .before .before .before .before .good .0)
@@ -112,8 +112,8 @@ returns c =
     let u = bytesOf 2 (ownOr (b .args .i) (word s (at + 116))) in
     let z = bytesAt s (at + 118) 62 in
     let e₁ = copied _ _ (c .before .before .before .before .before .before .before .before .before .before .before .before .before .before .before .before .before .copy .ensures) (omega (arith, c .before .before .before .before .before .before .before .before .before .before .before .before .before .before .before .before .before .before .before .copy-arg .given .2, c .before .before .before .before .before .before .before .before .before .before .before .before .before .before .before .before .before .before .copy-arg2 .given .2)) ∙ bytes-between s at (at + 114) 114 (omega (arith, b .pre .0)) refl in
-    let e₂ = c .before .before .before .before .before .before .before .before .before .before .before .before .put16 .ensures ∙ ap (bytesOf 2) (c .before .before .before .before .before .before .before .before .before .before .before .before .before .before .own-at .ensures) in
-    let e₃ = c .before .before .before .before .before .before .before .put162 .ensures ∙ ap (bytesOf 2) (c .before .before .before .before .before .before .before .before .before .own-at2 .ensures) in
+    let e₂ = copied _ _ (c .before .before .before .before .before .before .before .before .before .before .before .before .put16 .ensures) (c .before .before .before .before .before .before .before .before .before .before .before .before .before .put16-arg .given .2) ∙ ap (bytesOf 2) (c .before .before .before .before .before .before .before .before .before .before .before .before .before .before .own-at .ensures) in
+    let e₃ = copied _ _ (c .before .before .before .before .before .before .before .put162 .ensures) (c .before .before .before .before .before .before .before .before .put16-arg2 .given .2) ∙ ap (bytesOf 2) (c .before .before .before .before .before .before .before .before .before .own-at2 .ensures) in
     let e₄ = copied _ _ (c .before .before .copy2 .ensures) (omega (arith, c .before .before .before .before .copy-arg3 .given .2, c .before .before .before .copy-arg4 .given .2)) ∙ bytes-between s (at + 118) (at + 180) 62 (omega (arith, b .pre .0)) (omega arith) in
     let w₀ = start _ (b .args .out .now) (b .pre .1 ∙ sym (size-header s (b .args .n) (b .args .i) at)) in
     let w₁ = lend x (y ++ (u ++ z)) 114 w₀ (omega arith) (size-bytes s at 114) e₁ in

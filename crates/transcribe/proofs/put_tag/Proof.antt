@@ -1,4 +1,5 @@
 -- `transcribe::put_tag` meets its contract. Assumes nothing.
+use Rattle.numbers.proofs.WalkLaws.{copied}
 use Rattle.numbers.proofs.Filling.{start, finish, put, lend}
 use Rattle.numbers.specs.BigEndian.{bytesOf}
 use lib.ListN.{length}
@@ -22,12 +23,12 @@ part-put16-end : tie.Need-part-put16-end
 part-put16-end c = simp length-set (omega arith)
 
 put16-requires : tie.Need-put16-requires
-put16-requires c κs = c .put16-arg .given .2
+put16-requires c κs = tt
 
 returns : tie.Need-returns
 returns c =
     let s = c .before .before .before .before .before in
-    finish (lend (bytesOf 2 (s .args .size)) [] 3 (put (s .args .tag) (start _ (s .args .out .now) (s .pre))) (omega arith) refl (c .before .before .put16 .ensures)) refl
+    finish (lend (bytesOf 2 (s .args .size)) [] 3 (put (s .args .tag) (start _ (s .args .out .now) (s .pre))) (omega arith) refl (copied _ _ (c .before .before .put16 .ensures) (c .before .before .before .put16-arg .given .2))) refl
 
 same-length : tie.Need-same-length
 same-length c = ap length (returns c) ∙ sym (c .before .before .before .before .before .pre)

@@ -1,6 +1,7 @@
 -- `transcribe::put_traces` meets its contract. Assumes nothing.
 use Rattle.transcribe.proofs.CopiedLaws.{size-trace, size-traces, traces-more, traces-none}
-use Rattle.transcribe.specs.Copied.{places, traceCopied}
+use Rattle.read_samples.specs.Samples.{places}
+use Rattle.transcribe.specs.Copied.{traceCopied}
 use Rattle.reel.specs.Layout.{firstTrace}
 use Rattle.numbers.proofs.Filling.{Filling, start as begin, finish, again, lend}
 use Rattle.numbers.proofs.WalkLaws.{times-more}
@@ -14,18 +15,18 @@ use Rattle.transcribe.proofs.put_traces.Statement.{statement}
 use Rattle.transcribe.proofs.put_traces.Tie as tie
 
 abbrev Inv-loop : tie.InvT-loop
-Inv-loop reel code n i v w m t out₀ at₀ o₀ left₀ out at o left =
+Inv-loop reel code n i w m t out₀ at₀ o₀ left₀ out at o left =
     (at + left * w ≤ length reel) × (length out ≡ t * m) × (o + left * m ≡ t * m)
     × Filling (flat (map (traceCopied reel code n i) (places w t firstTrace))) out o (flat (map (traceCopied reel code n i) (places w left at)))
 
 abbrev μ-loop : tie.MeasureT-loop
-μ-loop reel code n i v w m t out₀ at₀ o₀ left₀ out at o left = left
+μ-loop reel code n i w m t out₀ at₀ o₀ left₀ out at o left = left
 
 loop-holds : tie.Need-loop-holds Inv-loop μ-loop
 loop-holds c =
     let s = c .before .before in
     let a = s .args in
-    (omega (arith, s .pre .5), s .pre .6, omega arith, begin _ _ (s .pre .6 ∙ ap (λ (x : ℕ). a .t * x) (s .pre .4) ∙ sym (size-traces (a .reel .now) (a .code) (a .n) (a .i) (a .w) (a .t) firstTrace)))
+    (omega (arith, s .pre .4), s .pre .5, omega arith, begin _ _ (s .pre .5 ∙ ap (λ (x : ℕ). a .t * x) (s .pre .3) ∙ sym (size-traces (a .reel .now) (a .code) (a .n) (a .i) (a .w) (a .t) firstTrace)))
 
 add-e : tie.Need-add-e Inv-loop μ-loop
 add-e c = omega (arith, times-more (c .before .loop .left) (c .before .before .before .before .args .m) (c .loop-test .taken), c .before .loop .inv .1, c .before .loop .inv .2)
@@ -45,9 +46,8 @@ put-trace-requires c κs =
     let l = c .before .before .loop in (
       s .pre .0,
       s .pre .1,
-      s .pre .2,
-      omega (arith, times-more (l .left) (s .args .w) (c .before .loop-test .taken), s .pre .3, l .inv .0),
-      omega (arith, s .pre .4),
+      omega (arith, times-more (l .left) (s .args .w) (c .before .loop-test .taken), s .pre .2, l .inv .0),
+      omega (arith, s .pre .3),
     )
 
 add-at : tie.Need-add-at Inv-loop μ-loop
@@ -67,11 +67,11 @@ loop-again c =
     let a = s .args in
     let r = a .reel .now in
     let l = h .loop in
-    let f = lend (traceCopied r (a .code) (a .n) (a .i) (l .at)) (flat (map (traceCopied r (a .code) (a .n) (a .i)) (places (a .w) (l .left - 1) (l .at + a .w)))) (l .o + a .m) (again (l .inv .3) (traces-more r (a .code) (a .n) (a .i) (a .w) (l .left) (l .at) (t .loop-test .taken))) (omega arith) (size-trace r (a .code) (a .n) (a .i) (l .at) ∙ omega (arith, s .pre .4)) (c .before .before .put-trace .ensures) in
+    let f = lend (traceCopied r (a .code) (a .n) (a .i) (l .at)) (flat (map (traceCopied r (a .code) (a .n) (a .i)) (places (a .w) (l .left - 1) (l .at + a .w)))) (l .o + a .m) (again (l .inv .3) (traces-more r (a .code) (a .n) (a .i) (a .w) (l .left) (l .at) (t .loop-test .taken))) (omega arith) (size-trace r (a .code) (a .n) (a .i) (l .at) ∙ omega (arith, s .pre .3)) (c .before .before .put-trace .ensures) in
     (omega (arith, times-more (l .left) (a .w) (t .loop-test .taken)), f .size ∙ sym (l .inv .3 .size) ∙ l .inv .1, omega (arith, times-more (l .left) (a .m) (t .loop-test .taken)), f)
 
 same-length : tie.Need-same-length Inv-loop μ-loop
-same-length c = c .before .loop .inv .1 ∙ sym (c .before .before .before .before .pre .6)
+same-length c = c .before .loop .inv .1 ∙ sym (c .before .before .before .before .pre .5)
 
 returns : tie.Need-returns Inv-loop μ-loop
 returns c =

@@ -1,9 +1,10 @@
 -- `transcribe::read_checked` meets its contract. Assumes nothing.
 use Rattle.transcribe.proofs.ReadLaws.{Own, own, Fit, fit, short-end, taken-end}
 use Rattle.numbers.proofs.ByteLaws.{all-bytes}
+use Rattle.reel.specs.Layout.{stride}
 use lib.Seq.{length-take-le}
 use Prim.Native.Nat.{_+_, _*_}
-use mathlib.Core.Path.{_≡_, sym}
+use mathlib.Core.Path.{_≡_, sym, ap, _∙_}
 use native.Mathlib.Omega.{arith}
 use borrow.Author.Needs.{needs}
 use Rattle.transcribe.proofs.read_checked.Statement.{statement}
@@ -50,7 +51,7 @@ put-record-requires c κs =
     let s = c .before .before .before .before in
     let a = s .args in
     let f = fits s in
-    (f .a-code, f .width, f .n-high, f .strides, f .few, f .room, length-take-le (3273 + a .t * (186 + a .n * 6)) (a .out .now) (c .before .if1 .left))
+    (f .a-code, f .n-high, f .strides ∙ ap (stride (a .n)) (f .width), f .few, f .room, length-take-le (3273 + a .t * (186 + a .n * 6)) (a .out .now) (c .before .if1 .left))
 
 same-length : tie.Need-same-length
 same-length c = search needs

@@ -1,0 +1,78 @@
+-- `numbers::put32` meets its contract. Assumes nothing.
+use Rattle.numbers.specs.Walk.{copyOf}
+use Rattle.numbers.specs.BigEndian.{bytesOf}
+use Rattle.numbers.proofs.WalkLaws.{stored, copied}
+use borrow.Author.Tests.{ne-eqb}
+use lib.Dec.{lit<}
+use lib.ListN.{length, getD}
+use lib.Seq.{lt-length-sets}
+use mathlib.Core.List.{[], _∷_}
+use mathlib.Core.Path.{refl, sym, ap, _∙_}
+use native.Mathlib.Omega.{arith}
+use Rattle.numbers.proofs.put32.Statement.{statement}
+use Rattle.numbers.proofs.put32.Tie as tie
+
+returns : tie.Need-returns
+unfolding copyOf
+returns c = let a = c .before .before .args in rw (ne-eqb (length (a .out .now)) 4 (c .if1 .taken))
+
+bytes32-requires : tie.Need-bytes32-requires
+bytes32-requires c κs = tt
+
+array-read-out : tie.Need-array-read-out
+array-read-out c = lit< tt
+
+slice-write-out : tie.Need-slice-write-out
+slice-write-out c = omega (arith, c .before .if1 .left)
+
+array-read-out-2 : tie.Need-array-read-out-2
+array-read-out-2 c = lit< tt
+
+slice-write-out-2 : tie.Need-slice-write-out-2
+slice-write-out-2 c =
+    let b = c .bytes32 .result in
+    lt-length-sets (c .before .before .before .args .out .now) 0 (getD b 0 0 ∷ []) (omega (arith, c .before .if1 .left))
+
+array-read-out-3 : tie.Need-array-read-out-3
+array-read-out-3 c = lit< tt
+
+slice-write-out-3 : tie.Need-slice-write-out-3
+slice-write-out-3 c =
+    let b = c .bytes32 .result in
+    lt-length-sets (c .before .before .before .args .out .now) 0 (getD b 0 0 ∷ getD b 1 0 ∷ []) (omega (arith, c .before .if1 .left))
+
+array-read-out-4 : tie.Need-array-read-out-4
+array-read-out-4 c = lit< tt
+
+slice-write-out-4 : tie.Need-slice-write-out-4
+slice-write-out-4 c =
+    let b = c .bytes32 .result in
+    lt-length-sets (c .before .before .before .args .out .now) 0 (getD b 0 0 ∷ getD b 1 0 ∷ getD b 2 0 ∷ []) (omega (arith, c .before .if1 .left))
+
+stores : tie.Need-returns-2
+stores c =
+    let s = c .before .before .before in
+    let w = bytesOf 4 (s .args .n) in
+    rw (c .bytes32 .ensures) (stored w (s .args .out .now) (c .before .if1 .left) ∙ sym (copied w (s .args .out .now) refl (c .before .if1 .left)))
+
+same-length : tie.Need-same-length
+same-length c =
+    let s = c .before .before .before in
+    ap length (stores c ∙ copied (bytesOf 4 (s .args .n)) (s .args .out .now) refl (c .before .if1 .left)) ∙ sym (c .before .if1 .left)
+
+pub put32-spec : {M : Type 1} → statement M
+put32-spec =
+    tie.close
+    (tie.spec
+    returns
+    bytes32-requires
+    array-read-out
+    slice-write-out
+    array-read-out-2
+    slice-write-out-2
+    array-read-out-3
+    slice-write-out-3
+    array-read-out-4
+    slice-write-out-4
+    same-length
+    stores)

@@ -1,0 +1,56 @@
+-- `read_samples::put_exponent` meets its contract. Assumes nothing.
+use Rattle.read_samples.specs.Parts.{exponentContent}
+use Rattle.numbers.specs.BigEndian.{bytesOf}
+use Rattle.numbers.specs.TwosComplement.{bitsOf}
+use Rattle.numbers.proofs.WalkLaws.{copied}
+use mir.Facts.{toZ-ofZ}
+use mir.Val.{SFits}
+use mir.Syntax.{w16}
+use mathlib.Core.Path.{sym, ap, _∙_}
+use borrow.Author.Needs.{needs}
+use Rattle.read_samples.proofs.put_exponent.Statement.{statement}
+use Rattle.read_samples.proofs.put_exponent.Tie as tie
+
+enum-known-word : tie.Need-enum-known-word
+enum-known-word c = search needs
+
+enum-told : tie.Need-enum-told
+enum-told c = search needs
+
+put16-requires : tie.Need-put16-requires
+put16-requires c κs = search needs
+
+same-length : tie.Need-same-length
+same-length c = search needs
+
+returns : tie.Need-returns
+returns c = copied _ _ (c .before .before .put16 .ensures) (c .before .before .before .before .before .before .before .pre) ∙ ap exponentContent (sym (c .before .before .before .before .enum-told .given .1))
+
+bits16-requires : tie.Need-bits16-requires
+bits16-requires c κs = search needs
+
+put16-requires-2 : tie.Need-put16-requires-2
+put16-requires-2 c κs = search needs
+
+same-length-2 : tie.Need-same-length-2
+same-length-2 c = search needs
+
+returns-2 : tie.Need-returns-2
+returns-2 c =
+    let w = c .before .before .before .before .before .before in
+    let x : SFits w16 (w .word .given .0 .0) = search needs in
+    copied _ _ (c .before .before .put162 .ensures) (c .before .before .before .before .before .before .before .before .before .pre) ∙ ap (bytesOf 2) (c .before .before .before .before .bits16 .ensures ∙ ap (bitsOf 16) (toZ-ofZ x)) ∙ ap exponentContent (sym (w .word .given .1))
+
+pub put-exponent-spec : {M : Type 1} → statement M
+put-exponent-spec =
+    tie.close
+    (tie.spec
+    enum-known-word
+    enum-told
+    put16-requires
+    same-length
+    returns
+    bits16-requires
+    put16-requires-2
+    same-length-2
+    returns-2)

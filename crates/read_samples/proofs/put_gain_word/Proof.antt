@@ -1,0 +1,86 @@
+-- `read_samples::put_gain_word` meets its contract. Assumes nothing.
+use Rattle.numbers.specs.Walk.{bytesAt}
+use Rattle.sample.specs.Reading.{readWord}
+use lib.ListN.{length}
+use native.Mathlib.Omega.{arith}
+use Rattle.read_samples.proofs.SampleLaws.{size-exponent, content-parts, gain-copied, size-content}
+use Rattle.read_samples.specs.Samples.{sampleContent}
+use Rattle.numbers.proofs.Filling.{in-turn}
+use mathlib.Core.Path.{ap, _∙_, sym}
+use Rattle.read_samples.proofs.put_gain_word.Statement.{statement}
+use Rattle.read_samples.proofs.put_gain_word.Tie as tie
+
+shared-slice-read-gain-or-zero : tie.Need-shared-slice-read-gain-or-zero
+shared-slice-read-gain-or-zero c = omega (arith, c .before .before .before .pre .0)
+
+add-gain-or-zero : tie.Need-add-gain-or-zero
+add-gain-or-zero c = omega (arith, c .before .before .before .pre .0, c .before .before .before .good .0)
+
+shared-slice-read-gain-or-zero-2 : tie.Need-shared-slice-read-gain-or-zero-2
+shared-slice-read-gain-or-zero-2 c = omega (arith, c .before .before .before .before .pre .0)
+
+gain-or-zero-requires : tie.Need-gain-or-zero-requires
+gain-or-zero-requires c κs = tt
+
+sub-put-exponent : tie.Need-sub-put-exponent
+sub-put-exponent c = omega arith
+
+part-put-exponent-start : tie.Need-part-put-exponent-start
+part-put-exponent-start c = omega arith
+
+part-put-exponent-end : tie.Need-part-put-exponent-end
+part-put-exponent-end c = omega (arith, c .before .before .before .before .before .pre .1)
+
+put-exponent-requires : tie.Need-put-exponent-requires
+put-exponent-requires c κs = c .put-exponent-arg .given .2
+
+add-word16-at : tie.Need-add-word16-at
+add-word16-at c = omega (arith, c .before .before .before .before .before .before .before .before .before .pre .0, c .before .before .before .before .before .before .before .before .before .good .0)
+
+word16-at-requires : tie.Need-word16-at-requires
+word16-at-requires c κs = omega (arith, c .before .before .before .before .before .before .before .before .before .pre .0)
+
+sub-put-mantissa : tie.Need-sub-put-mantissa
+sub-put-mantissa c = omega arith
+
+part-put-mantissa-start : tie.Need-part-put-mantissa-start
+part-put-mantissa-start c = omega arith
+
+part-put-mantissa-end : tie.Need-part-put-mantissa-end
+part-put-mantissa-end c = omega (arith, c .before .before .before .before .before .before .before .before .before .before .pre .1, c .before .before .out .given .1)
+
+put-mantissa-requires : tie.Need-put-mantissa-requires
+put-mantissa-requires c κs = c .put-mantissa-arg .given .2
+
+returns : tie.Need-returns
+returns c =
+    let p = (c .before .before .before .before .before .before .before .before .before) in
+    let s = (c .before .before .before .before .before .before .before .before .before .before .before .before .before .before) in (
+      c .before .before .before .before .word16-at .ensures,
+      in-turn 2 4 (s .args .out .now) (s .pre .1) (size-exponent (p .gain-or-zero .result)) (c .before .before .before .before .before .before .before .put-exponent .ensures) (c .before .before .put-mantissa .ensures) ∙ content-parts (p .gain-or-zero .result)
+          ∙ ap sampleContent (p .gain-or-zero .ensures) ∙ gain-copied (s .args .reel .now) (s .args .at) (s .args .d) (s .pre .2),
+    )
+
+same-length : tie.Need-same-length
+same-length c = let s = (c .before .before .before .before .before .before .before .before .before .before .before .before .before .before) in ap length (returns c .1) ∙ size-content (readWord 4 (bytesAt (s .args .reel .now) (s .args .at) 4)) ∙ sym (s .pre .1)
+
+pub put-gain-word-spec : {M : Type 1} → statement M
+put-gain-word-spec =
+    tie.close
+    (tie.spec
+    shared-slice-read-gain-or-zero
+    add-gain-or-zero
+    shared-slice-read-gain-or-zero-2
+    gain-or-zero-requires
+    sub-put-exponent
+    part-put-exponent-start
+    part-put-exponent-end
+    put-exponent-requires
+    add-word16-at
+    word16-at-requires
+    sub-put-mantissa
+    part-put-mantissa-start
+    part-put-mantissa-end
+    put-mantissa-requires
+    same-length
+    returns)

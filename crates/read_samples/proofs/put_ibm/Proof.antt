@@ -1,0 +1,138 @@
+-- `read_samples::put_ibm` meets its contract. Assumes nothing.
+use Rattle.read_samples.proofs.SampleLaws.{size-samples, samples-none, next-put, last-put, ibm-copied}
+use Rattle.read_samples.specs.Samples.{sampleContent, sampleCopied, samplesCopied}
+use Rattle.value.specs.Value.{ibmValue}
+use Rattle.sample.specs.Reading.{pairTaken}
+use Rattle.numbers.proofs.Filling.{Filling, start as begin, finish, again}
+use Rattle.numbers.proofs.WalkLaws.{times-more}
+use Rattle.numbers.specs.Walk.{bytesAt}
+use Rattle.numbers.specs.BigEndian.{number}
+use lib.ListN.{length}
+use mathlib.Core.List.{List}
+use Prim.Native.Nat.{ℕ, _+_, _-_, _*_, _≤_}
+use mathlib.Core.Path.{_≡_, sym, ap, _∙_}
+use borrow.Author.Needs.{needs}
+use native.Mathlib.Omega.{arith}
+use Rattle.read_samples.proofs.put_ibm.Statement.{statement}
+use Rattle.read_samples.proofs.put_ibm.Tie as tie
+
+-- what a word gives, by the number in its bytes
+content : (s : List ℕ) (at w : ℕ) → w ≡ number (bytesAt s at 4) → sampleContent (pairTaken (ibmValue w)) ≡ sampleCopied s 1 at
+content s at w e = ap (λ (w : ℕ). sampleContent (pairTaken (ibmValue w))) e ∙ ap sampleContent (ibm-copied s at)
+
+abbrev Inv-loop : tie.InvT-loop
+Inv-loop reel n start out₀ at₀ o₀ left₀ w₀ out at o left w =
+    (at + left * 4 + 4 ≤ length reel) × (length out ≡ n * 6) × (o + left * 6 + 6 ≡ n * 6) × (w ≡ number (bytesAt reel at 4))
+    × Filling (samplesCopied reel 1 n start) out o (samplesCopied reel 1 (left + 1) at)
+
+abbrev μ-loop : tie.MeasureT-loop
+μ-loop reel n start out₀ at₀ o₀ left₀ w₀ out at o left w = left
+
+returns : tie.Need-returns Inv-loop μ-loop
+returns c =
+    let a = c .before .before .before .args in
+    let s = a .reel .now in
+    finish (begin _ _ (c .before .before .before .pre .1 ∙ sym (size-samples s 1 (a .n) (a .start)))) (samples-none s 1 (a .n) (a .start) (omega (arith, c .if1 .taken)))
+
+word32-at-requires : tie.Need-word32-at-requires Inv-loop μ-loop
+word32-at-requires c κs = omega (arith, times-more (c .before .before .before .args .n) 4 (omega (arith, c .if1 .left)), c .before .before .before .pre .0)
+
+loop-holds : tie.Need-loop-holds Inv-loop μ-loop
+loop-holds c =
+    let a = c .before .before .before .before .args in
+    let s = a .reel .now in
+    let some = c .before .if1 .left in
+    let e : a .n ≡ a .n - 1 + 1 = omega (arith, some) in (
+      omega (arith, times-more (a .n) 4 (omega (arith, some)), c .before .before .before .before .pre .0),
+      c .before .before .before .before .pre .1,
+      omega (arith, times-more (a .n) 6 (omega (arith, some))),
+      c .word32-at .ensures,
+      again (begin _ _ (c .before .before .before .before .pre .1 ∙ sym (size-samples s 1 (a .n) (a .start)))) (ap (λ (j : ℕ). samplesCopied s 1 j (a .start)) e),
+    )
+
+add-e : tie.Need-add-e Inv-loop μ-loop
+add-e c = omega (arith, c .before .loop .inv .1, c .before .loop .inv .2)
+
+add-at : tie.Need-add-at Inv-loop μ-loop
+add-at c = omega (arith, c .before .loop .inv .0)
+
+sub-put-ibm-word : tie.Need-sub-put-ibm-word Inv-loop μ-loop
+sub-put-ibm-word c = omega arith
+
+part-put-ibm-word-start : tie.Need-part-put-ibm-word-start Inv-loop μ-loop
+part-put-ibm-word-start c = omega arith
+
+part-put-ibm-word-end : tie.Need-part-put-ibm-word-end Inv-loop μ-loop
+part-put-ibm-word-end c = omega (arith, c .before .loop .inv .1, c .before .loop .inv .2)
+
+put-ibm-word-requires : tie.Need-put-ibm-word-requires Inv-loop μ-loop
+put-ibm-word-requires c κs = (omega (arith, times-more (c .before .before .loop .left) 4 (c .before .loop-test .taken), c .before .before .loop .inv .0), c .put-ibm-word-arg .given .2 ∙ omega arith)
+
+sub-left : tie.Need-sub-left Inv-loop μ-loop
+sub-left c = omega (arith, c .before .before .before .before .loop-test .taken)
+
+loop-less : tie.Need-loop-less Inv-loop μ-loop
+loop-less c = omega (arith, c .before .before .before .before .loop-test .taken)
+
+loop-again : tie.Need-loop-again Inv-loop μ-loop
+loop-again c =
+    let s = c .before .before .before .before .before .before .before .before .before .before .args .reel .now in
+    let l = c .before .before .before .before .before .loop in
+    let some = c .before .before .before .before .loop-test .taken in
+    let g = c .before .before .put-ibm-word .ensures in
+    let f = next-put s 1 (l .left) (l .at) (l .o) some (l .inv .4) (g .1 ∙ content s (l .at) (l .w) (l .inv .3)) in
+    (omega (arith, times-more (l .left) 4 some, l .inv .0), f .size ∙ sym (l .inv .4 .size) ∙ l .inv .1, omega (arith, times-more (l .left) 6 some, l .inv .2), g .0, f)
+
+ibm-requires : tie.Need-ibm-requires Inv-loop μ-loop
+ibm-requires c κs = tt
+
+add-put-sample : tie.Need-add-put-sample Inv-loop μ-loop
+add-put-sample c = omega (arith, c .before .before .loop .inv .1, c .before .before .loop .inv .2)
+
+sub-put-sample : tie.Need-sub-put-sample Inv-loop μ-loop
+sub-put-sample c = omega arith
+
+part-put-sample-start : tie.Need-part-put-sample-start Inv-loop μ-loop
+part-put-sample-start c = omega arith
+
+part-put-sample-end : tie.Need-part-put-sample-end Inv-loop μ-loop
+part-put-sample-end c = omega (arith, c .before .before .loop .inv .1, c .before .before .loop .inv .2)
+
+put-sample-requires : tie.Need-put-sample-requires Inv-loop μ-loop
+put-sample-requires c κs = c .put-sample-arg .given .2 ∙ omega arith
+
+returns-2 : tie.Need-returns-2 Inv-loop μ-loop
+returns-2 c =
+    let s = c .before .before .before .before .before .before .before .before .before .before .before .args .reel .now in
+    let l = c .before .before .before .before .before .before .loop in
+    last-put s 1 (l .left) (l .at) (l .o) (c .before .before .before .before .before .loop-test .left) (l .inv .4) (c .before .before .put-sample .ensures ∙ ap sampleContent (c .before .before .before .before .ibm .ensures) ∙ content s (l .at) (l .w) (l .inv .3))
+
+same-length : tie.Need-same-length Inv-loop μ-loop
+same-length c = ap length (returns-2 c) ∙ size-samples (c .before .before .before .before .before .before .before .before .before .before .before .args .reel .now) 1 (c .before .before .before .before .before .before .before .before .before .before .before .args .n) (c .before .before .before .before .before .before .before .before .before .before .before .args .start) ∙ sym (c .before .before .before .before .before .before .before .before .before .before .before .pre .1)
+
+pub put-ibm-spec : {M : Type 1} → statement M
+put-ibm-spec =
+    tie.close
+    (tie.spec
+    Inv-loop
+    μ-loop
+    returns
+    word32-at-requires
+    loop-holds
+    add-e
+    add-at
+    sub-put-ibm-word
+    part-put-ibm-word-start
+    part-put-ibm-word-end
+    put-ibm-word-requires
+    sub-left
+    loop-less
+    loop-again
+    ibm-requires
+    add-put-sample
+    sub-put-sample
+    part-put-sample-start
+    part-put-sample-end
+    put-sample-requires
+    same-length
+    returns-2)

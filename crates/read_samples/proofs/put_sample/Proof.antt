@@ -1,0 +1,58 @@
+-- `read_samples::put_sample` meets its contract. Assumes nothing.
+use Rattle.read_samples.proofs.SampleLaws.{size-exponent, content-parts, size-content}
+use Rattle.numbers.proofs.Filling.{in-turn}
+use lib.ListN.{length}
+use mathlib.Core.Path.{ap, _∙_, sym}
+use native.Mathlib.Omega.{arith}
+use Rattle.read_samples.proofs.put_sample.Statement.{statement}
+use Rattle.read_samples.proofs.put_sample.Tie as tie
+
+sub-put-exponent : tie.Need-sub-put-exponent
+sub-put-exponent c = omega arith
+
+part-put-exponent-start : tie.Need-part-put-exponent-start
+part-put-exponent-start c = omega arith
+
+part-put-exponent-end : tie.Need-part-put-exponent-end
+part-put-exponent-end c = omega (arith, c .before .pre)
+
+put-exponent-requires : tie.Need-put-exponent-requires
+put-exponent-requires c κs = c .put-exponent-arg .given .2
+
+sub-put-mantissa : tie.Need-sub-put-mantissa
+sub-put-mantissa c = omega arith
+
+part-put-mantissa-start : tie.Need-part-put-mantissa-start
+part-put-mantissa-start c = omega arith
+
+part-put-mantissa-end : tie.Need-part-put-mantissa-end
+part-put-mantissa-end c = omega (arith, c .before .before .before .before .before .pre, c .before .out .given .1)
+
+put-mantissa-requires : tie.Need-put-mantissa-requires
+put-mantissa-requires c κs = c .put-mantissa-arg .given .2
+
+returns : tie.Need-returns
+returns c =
+    let x = c .before .before .before .before .before .before in
+    let s = x .before .before .before in
+    in-turn 2 4 (s .args .out .now) (s .pre) (size-exponent (s .args .word)) (x .put-exponent .ensures) (c .before .before .put-mantissa .ensures) ∙ content-parts (s .args .word)
+
+same-length : tie.Need-same-length
+same-length c =
+    let s = c .before .before .before .before .before .before .before .before .before in
+    ap length (returns c) ∙ size-content (s .args .word) ∙ sym (s .pre)
+
+pub put-sample-spec : {M : Type 1} → statement M
+put-sample-spec =
+    tie.close
+    (tie.spec
+    sub-put-exponent
+    part-put-exponent-start
+    part-put-exponent-end
+    put-exponent-requires
+    sub-put-mantissa
+    part-put-mantissa-start
+    part-put-mantissa-end
+    put-mantissa-requires
+    same-length
+    returns)

@@ -1,0 +1,71 @@
+-- `read_samples::put_whole32_word` meets its contract. Assumes nothing.
+use Rattle.numbers.specs.TwosComplement.{signedOf}
+use Rattle.value.specs.Value.{wholeValue}
+use Rattle.sample.specs.Reading.{pairTaken}
+use lib.ListN.{length}
+use native.Mathlib.Omega.{arith}
+use Rattle.read_samples.proofs.SampleLaws.{size-exponent, content-parts, size-content}
+use Rattle.read_samples.specs.Samples.{sampleContent}
+use Rattle.numbers.proofs.Filling.{in-turn}
+use mathlib.Core.Path.{ap, _∙_, sym}
+use Rattle.read_samples.proofs.put_whole32_word.Statement.{statement}
+use Rattle.read_samples.proofs.put_whole32_word.Tie as tie
+
+whole32-requires : tie.Need-whole32-requires
+whole32-requires c κs = tt
+
+sub-put-exponent : tie.Need-sub-put-exponent
+sub-put-exponent c = omega arith
+
+part-put-exponent-start : tie.Need-part-put-exponent-start
+part-put-exponent-start c = omega arith
+
+part-put-exponent-end : tie.Need-part-put-exponent-end
+part-put-exponent-end c = omega (arith, c .before .before .before .pre .1)
+
+put-exponent-requires : tie.Need-put-exponent-requires
+put-exponent-requires c κs = c .put-exponent-arg .given .2
+
+word32-at-requires : tie.Need-word32-at-requires
+word32-at-requires c κs = c .before .before .before .before .before .before .before .pre .0
+
+sub-put-mantissa : tie.Need-sub-put-mantissa
+sub-put-mantissa c = omega arith
+
+part-put-mantissa-start : tie.Need-part-put-mantissa-start
+part-put-mantissa-start c = omega arith
+
+part-put-mantissa-end : tie.Need-part-put-mantissa-end
+part-put-mantissa-end c = omega (arith, c .before .before .before .before .before .before .before .before .pre .1, c .before .before .out .given .1)
+
+put-mantissa-requires : tie.Need-put-mantissa-requires
+put-mantissa-requires c κs = c .put-mantissa-arg .given .2
+
+returns : tie.Need-returns
+returns c =
+    let p = (c .before .before .before .before .before .before .before .before .before) in
+    let s = (c .before .before .before .before .before .before .before .before .before .before .before .before) in (
+      c .before .before .before .before .word32-at .ensures,
+      in-turn 2 4 (s .args .out .now) (s .pre .1) (size-exponent (p .whole32 .result)) (c .before .before .before .before .before .before .before .put-exponent .ensures) (c .before .before .put-mantissa .ensures) ∙ content-parts (p .whole32 .result)
+          ∙ ap sampleContent (p .whole32 .ensures),
+    )
+
+same-length : tie.Need-same-length
+same-length c = ap length (returns c .1) ∙ size-content (pairTaken (wholeValue (signedOf 32 (c .before .before .before .before .before .before .before .before .before .before .before .before .args .word)))) ∙ sym (c .before .before .before .before .before .before .before .before .before .before .before .before .pre .1)
+
+pub put-whole32-word-spec : {M : Type 1} → statement M
+put-whole32-word-spec =
+    tie.close
+    (tie.spec
+    whole32-requires
+    sub-put-exponent
+    part-put-exponent-start
+    part-put-exponent-end
+    put-exponent-requires
+    word32-at-requires
+    sub-put-mantissa
+    part-put-mantissa-start
+    part-put-mantissa-end
+    put-mantissa-requires
+    same-length
+    returns)

@@ -1,0 +1,28 @@
+-- What the functions inside this crate hand to each other: a sample in two parts, and a gain word by its parts.
+use Prim.Native.Nat.{ℕ, _/_}
+use mathlib.Core.List.{List}
+use lib.ListN.{replicate}
+use lib.Dec.{eqb}
+use lib.IntN.{pos}
+use Rattle.numbers.specs.Walk.{pick}
+use Rattle.numbers.specs.BigEndian.{bytesOf}
+use Rattle.numbers.specs.TwosComplement.{signedOf, bitsOf}
+use Rattle.value.specs.Value.{gainValue}
+use Rattle.value.specs.Pair.{mantissaBits}
+use Rattle.sample.specs.Reading.{pairTaken}
+use Rattle.sample.specs.declared.Sample.{Sample}
+use Rattle.sample.specs.declared.Sample.the-variants.{Taken, Refused}
+
+-- What reading a word gives, its exponent in two bytes and its mantissa in four.
+abbrev pub exponentContent : Sample → List ℕ
+exponentContent (Taken e m) = bytesOf 2 (bitsOf 16 e)
+exponentContent (Refused number) = replicate 2 0
+
+abbrev pub mantissaContent : Sample → List ℕ
+mantissaContent (Taken e m) = bytesOf (mantissaBits / 8) (bitsOf mantissaBits m)
+mantissaContent (Refused number) = replicate (mantissaBits / 8) 0
+
+-- What reading a gain word gives, by its first byte, its gain and the bits of its number; zero where it is refused, which has the same
+-- six bytes.
+abbrev pub gainOrZero : ℕ → ℕ → ℕ → Sample
+gainOrZero first g d = pick (eqb first 0) (pairTaken (gainValue g (signedOf 16 d))) (Taken (pos 0) (pos 0))

@@ -1,0 +1,39 @@
+-- The samples of a trace as a record holds them: the pairs of its words.
+use Prim.Native.Nat.{ℕ, _+_, _*_}
+use mathlib.Core.Bool.{Bool, _&&_}
+use mathlib.Core.List.{List, map}
+use lib.ListN.{length, replicate}
+use lib.Dec.{leb, eqb}
+use Rattle.numbers.specs.Walk.{pick, walk, flat, bytesAt}
+use Rattle.value.specs.Value.{isCode}
+use Rattle.value.specs.Pair.{pairLength, pairBytes}
+use Rattle.sample.specs.Reading.{readWord}
+use Rattle.sample.specs.declared.Sample.{Sample}
+use Rattle.sample.specs.declared.Sample.the-variants.{Taken, Refused}
+use Rattle.reel.specs.Layout.{sampleBytes}
+
+-- What reading a word gives, as six bytes; zero for a word that is refused, which a reel has only where a cause of 1 to 9 applies.
+abbrev pub sampleContent : Sample → List ℕ
+sampleContent (Taken e m) = pairBytes e m
+sampleContent (Refused number) = replicate pairLength 0
+
+-- The sample at a place.
+abbrev pub sampleCopied : List ℕ → ℕ → ℕ → List ℕ
+sampleCopied s code p = sampleContent (readWord code (bytesAt s p 4))
+
+-- k places from `at` on, w bytes apart.
+abbrev pub places : ℕ → ℕ → ℕ → List ℕ
+places w k at = walk (λ p. p) w k at
+
+-- n samples from a place on.
+unfoldable pub samplesCopied : List ℕ → ℕ → ℕ → ℕ → List ℕ
+samplesCopied s code n at = flat (map (sampleCopied s code) (places (sampleBytes code) n at))
+
+-- There are n words of the code from a place on, and an output as long as their pairs.
+abbrev pub samplesFit : List ℕ → ℕ → ℕ → ℕ → List ℕ → Bool
+samplesFit s code n at out =
+    isCode code && (leb (at + n * sampleBytes code) (length s) && eqb (length out) (n * pairLength))
+
+-- An output after n samples were read into it: their pairs, or what it was where they don't fit.
+unfoldable pub samplesRead : List ℕ → ℕ → ℕ → ℕ → List ℕ → List ℕ
+samplesRead s code n at out = pick (samplesFit s code n at out) (samplesCopied s code n at) out

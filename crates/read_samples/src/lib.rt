@@ -1,0 +1,258 @@
+// The samples of a trace, from words to pairs: a loop for each code. Each function that writes is lent exactly the bytes that it writes.
+ghost use mathlib.Core.Path.{_≡_};
+ghost use mathlib.Core.Bool.{true, _&&_};
+ghost use Prim.Native.Nat.{_+_, _*_, _≤_};
+ghost use lib.Dec.{leb, eqb};
+ghost use lib.ListN.{length};
+ghost use Rattle.numbers.specs.Walk.{pick, bytesAt};
+ghost use Rattle.numbers.specs.BigEndian.{number};
+ghost use Rattle.numbers.specs.TwosComplement.{signedOf};
+ghost use Rattle.value.specs.Value.{ibmValue, wholeValue, isCode};
+ghost use Rattle.sample.specs.Reading.{pairTaken};
+ghost use Rattle.reel.specs.Layout.{sampleBytes};
+ghost use Rattle.read_samples.specs.Samples.{sampleContent, sampleCopied, samplesCopied, samplesRead};
+ghost use Rattle.read_samples.specs.Parts.{exponentContent, mantissaContent, gainOrZero};
+use sample::Sample;
+
+// What reading a word gives: its exponent in two bytes, and its mantissa in four. The words of a reel that came through the causes 1 to 9 are
+// all taken; a refused one, which only the types allow here, is given as zero, so that the loops need no condition on each word.
+fn put_exponent(word: Sample, out: &mut [u8])
+    requires { ⌜ length (now out) ≡ 2 ⌝ }
+    ensures { λ _. ⌜ now (out .exit) ≡ exponentContent word ⌝ }
+{
+    let Sample::Taken { e, m: _ } = word else {
+        numbers::put16(0, out);
+        return;
+    };
+    numbers::put16(numbers::bits16(e), out);
+}
+
+fn put_mantissa(word: Sample, out: &mut [u8])
+    requires { ⌜ length (now out) ≡ 4 ⌝ }
+    ensures { λ _. ⌜ now (out .exit) ≡ mantissaContent word ⌝ }
+{
+    let Sample::Taken { e: _, m } = word else {
+        numbers::put32(0, out);
+        return;
+    };
+    numbers::put32(numbers::bits32(m), out);
+}
+
+fn put_sample(word: Sample, out: &mut [u8])
+    requires { ⌜ length (now out) ≡ 6 ⌝ }
+    ensures { λ _. ⌜ now (out .exit) ≡ sampleContent word ⌝ }
+{
+    put_exponent(word, &mut out[0..2]);
+    put_mantissa(word, &mut out[2..6]);
+}
+
+// The number in the four bytes at a place, and in two.
+fn word32_at(reel: &[u8], at: usize) -> u32
+    requires { ⌜ at + 4 ≤ length (now reel) ⌝ }
+    ensures { λ r. ⌜ r ≡ number (bytesAt (now (reel .entry)) at 4) ⌝ }
+{
+    numbers::be32(reel[at], reel[at + 1], reel[at + 2], reel[at + 3])
+}
+
+fn word16_at(reel: &[u8], at: usize) -> u16
+    requires { ⌜ at + 2 ≤ length (now reel) ⌝ }
+    ensures { λ r. ⌜ r ≡ number (bytesAt (now (reel .entry)) at 2) ⌝ }
+{
+    numbers::be16(reel[at], reel[at + 1])
+}
+
+// Each writes what a word gives, and fetches the next word between the two stores: the compiler then makes one store of each, and one
+// fetch of the word.
+fn put_ibm_word(reel: &[u8], word: u32, next: usize, out: &mut [u8]) -> u32
+    requires { ⌜ (next + 4 ≤ length (now reel)) × (length (now out) ≡ 6) ⌝ }
+    ensures { λ r. ⌜ (r ≡ number (bytesAt (now (reel .entry)) next 4)) × (now (out .exit) ≡ sampleContent (pairTaken (ibmValue word))) ⌝ }
+{
+    let pair = sample::ibm(word);
+    put_exponent(pair, &mut out[0..2]);
+    let w = word32_at(reel, next);
+    put_mantissa(pair, &mut out[2..6]);
+    w
+}
+
+fn put_whole32_word(reel: &[u8], word: u32, next: usize, out: &mut [u8]) -> u32
+    requires { ⌜ (next + 4 ≤ length (now reel)) × (length (now out) ≡ 6) ⌝ }
+    ensures { λ r. ⌜ (r ≡ number (bytesAt (now (reel .entry)) next 4)) × (now (out .exit) ≡ sampleContent (pairTaken (wholeValue (signedOf 32 word)))) ⌝ }
+{
+    let pair = sample::whole32(word);
+    put_exponent(pair, &mut out[0..2]);
+    let w = word32_at(reel, next);
+    put_mantissa(pair, &mut out[2..6]);
+    w
+}
+
+fn put_whole16_word(reel: &[u8], word: u16, next: usize, out: &mut [u8]) -> u16
+    requires { ⌜ (next + 2 ≤ length (now reel)) × (length (now out) ≡ 6) ⌝ }
+    ensures { λ r. ⌜ (r ≡ number (bytesAt (now (reel .entry)) next 2)) × (now (out .exit) ≡ sampleContent (pairTaken (wholeValue (signedOf 16 word)))) ⌝ }
+{
+    let pair = sample::whole16(word);
+    put_exponent(pair, &mut out[0..2]);
+    let w = word16_at(reel, next);
+    put_mantissa(pair, &mut out[2..6]);
+    w
+}
+
+// The number of a gain word, by its first byte and the bits of d. One that 9 refuses, which only the types allow here, is given as zero.
+fn number_or_zero(first: u8, d: u16) -> u16
+    ensures { λ r. ⌜ r ≡ pick (eqb first 0) d 0 ⌝ }
+{
+    if first == 0 { d } else { 0 }
+}
+
+// What reading a gain word gives, by its first byte, its gain and the bits of d.
+fn gain_or_zero(first: u8, g: u8, d: u16) -> Sample
+    ensures { λ r. ⌜ r ≡ gainOrZero first g d ⌝ }
+{
+    sample::gain_number(g, number_or_zero(first, d))
+}
+
+// The same for a gain word, of which d is fetched early.
+fn put_gain_word(reel: &[u8], at: usize, d: u16, out: &mut [u8]) -> u16
+    requires { ⌜ (at + 8 ≤ length (now reel)) × (length (now out) ≡ 6) × (d ≡ number (bytesAt (now reel) (at + 2) 2)) ⌝ }
+    ensures { λ r. ⌜ (r ≡ number (bytesAt (now (reel .entry)) (at + 6) 2)) × (now (out .exit) ≡ sampleCopied (now (reel .entry)) 4 at) ⌝ }
+{
+    let pair = gain_or_zero(reel[at], reel[at + 1], d);
+    put_exponent(pair, &mut out[0..2]);
+    let w = word16_at(reel, at + 6);
+    put_mantissa(pair, &mut out[2..6]);
+    w
+}
+
+// The samples of a trace, a loop for each code.
+fn put_ibm(reel: &[u8], n: usize, start: usize, out: &mut [u8])
+    requires { ⌜ (start + n * 4 ≤ length (now reel)) × (length (now out) ≡ n * 6) ⌝ }
+    ensures { λ _. ⌜ now (out .exit) ≡ samplesCopied (now (reel .entry)) 1 n start ⌝ }
+{
+    if n < 1 {
+        return;
+    }
+    let mut at = start;
+    let mut o = 0;
+    let mut left = n - 1;
+    let mut w = word32_at(reel, start);
+    while 0 < left {
+        let e = o + 6;
+        at += 4;
+        w = put_ibm_word(reel, w, at, &mut out[o..e]);
+        o = e;
+        left -= 1;
+    }
+    put_sample(sample::ibm(w), &mut out[o..o + 6]);
+}
+
+fn put_whole32(reel: &[u8], n: usize, start: usize, out: &mut [u8])
+    requires { ⌜ (start + n * 4 ≤ length (now reel)) × (length (now out) ≡ n * 6) ⌝ }
+    ensures { λ _. ⌜ now (out .exit) ≡ samplesCopied (now (reel .entry)) 2 n start ⌝ }
+{
+    if n < 1 {
+        return;
+    }
+    let mut at = start;
+    let mut o = 0;
+    let mut left = n - 1;
+    let mut w = word32_at(reel, start);
+    while 0 < left {
+        let e = o + 6;
+        at += 4;
+        w = put_whole32_word(reel, w, at, &mut out[o..e]);
+        o = e;
+        left -= 1;
+    }
+    put_sample(sample::whole32(w), &mut out[o..o + 6]);
+}
+
+fn put_whole16(reel: &[u8], n: usize, start: usize, out: &mut [u8])
+    requires { ⌜ (start + n * 2 ≤ length (now reel)) × (length (now out) ≡ n * 6) ⌝ }
+    ensures { λ _. ⌜ now (out .exit) ≡ samplesCopied (now (reel .entry)) 3 n start ⌝ }
+{
+    if n < 1 {
+        return;
+    }
+    let mut at = start;
+    let mut o = 0;
+    let mut left = n - 1;
+    let mut w = word16_at(reel, start);
+    while 0 < left {
+        let e = o + 6;
+        at += 2;
+        w = put_whole16_word(reel, w, at, &mut out[o..e]);
+        o = e;
+        left -= 1;
+    }
+    put_sample(sample::whole16(w), &mut out[o..o + 6]);
+}
+
+fn put_gain(reel: &[u8], n: usize, start: usize, out: &mut [u8])
+    requires { ⌜ (start + n * 4 ≤ length (now reel)) × (length (now out) ≡ n * 6) ⌝ }
+    ensures { λ _. ⌜ now (out .exit) ≡ samplesCopied (now (reel .entry)) 4 n start ⌝ }
+{
+    if n < 1 {
+        return;
+    }
+    let mut at = start;
+    let mut o = 0;
+    let mut left = n - 1;
+    let mut d = word16_at(reel, start + 2);
+    while 0 < left {
+        let e = o + 6;
+        d = put_gain_word(reel, at, d, &mut out[o..e]);
+        at += 4;
+        o = e;
+        left -= 1;
+    }
+    put_sample(gain_or_zero(reel[at], reel[at + 1], d), &mut out[o..o + 6]);
+}
+
+// The samples of a trace under the reel's code, which is 1 to 4.
+fn put_samples(reel: &[u8], code: usize, n: usize, start: usize, out: &mut [u8])
+    requires { ⌜ (isCode code ≡ true) × (start + n * sampleBytes code ≤ length (now reel)) × (length (now out) ≡ n * 6) ⌝ }
+    ensures { λ _. ⌜ now (out .exit) ≡ samplesCopied (now (reel .entry)) code n start ⌝ }
+{
+    match code {
+        1 => put_ibm(reel, n, start, out),
+        2 => put_whole32(reel, n, start, out),
+        3 => put_whole16(reel, n, start, out),
+        _ => put_gain(reel, n, start, out),
+    }
+}
+
+// Whether a code is 1 to 4.
+fn is_code(code: usize) -> bool
+    ensures { λ r. ⌜ r ≡ isCode code ⌝ }
+{
+    if code < 1 {
+        return false;
+    }
+    code <= 4
+}
+
+// Whether n words of a code from a place on are within so many bytes, and n pairs are as long as the output.
+fn do_fit(bytes: usize, code: usize, n: usize, start: usize, size: usize) -> bool
+    ensures { λ r. ⌜ r ≡ (isCode code && (leb (start + n * sampleBytes code) bytes && eqb size (n * 6))) ⌝ }
+{
+    if !is_code(code) {
+        return false;
+    }
+    if !numbers::are_within(bytes, n, reel::width_of(code), start) {
+        return false;
+    }
+    if !numbers::are_within(size, n, 6, 0) {
+        return false;
+    }
+    size == n * 6
+}
+
+// The samples of a trace: the pairs of n words from a place on. Where the code isn't 1 to 4, the words aren't all there or the output isn't as
+// long as n pairs, it is left as it was.
+pub fn read_samples(reel: &[u8], code: usize, n: usize, start: usize, out: &mut [u8])
+    ensures { λ _. ⌜ now (out .exit) ≡ samplesRead (now (reel .entry)) code n start (now (out .entry)) ⌝ }
+{
+    if !do_fit(reel.len(), code, n, start, out.len()) {
+        return;
+    }
+    put_samples(reel, code, n, start, out);
+}
