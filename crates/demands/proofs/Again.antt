@@ -14,8 +14,8 @@ use Rattle.numbers.specs.BigEndian.{bytesOf}
 use Rattle.numbers.specs.declared.Check.the-variants.{Fine}
 use Rattle.numbers.proofs.WalkLaws.{cons-eq, size-walk, size-bytes, bytes-part}
 use Rattle.numbers.proofs.ByteLaws.{Bytes, bytes-at, bytes-again, bytes-append}
-use Rattle.sample.specs.Calls.{pairLength, pairBytes, pairIn}
-use Rattle.sample.specs.declared.Pair.{Pair}
+use Rattle.value.specs.Pair.{pairLength, pairBytes, pairIn}
+use Rattle.value.specs.declared.Pair.{Pair}
 use Rattle.sample_theorems.proofs.Pairs.{value-pair-back, pair-bytes}
 use Rattle.reel.specs.Layout.{fieldsFrom, cardBytes, binaryWidths, binaryFields, traceWidths, traceFields, fieldNumber}
 use Rattle.reel.specs.Meaning.{otherThan}

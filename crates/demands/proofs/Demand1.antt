@@ -38,16 +38,15 @@ use Rattle.numbers.specs.declared.Check.the-variants.{Fine, Refused}
 use Rattle.numbers.proofs.WalkLaws.{All}
 use Rattle.numbers.proofs.ByteLaws.{Bytes}
 use Rattle.numbers.proofs.CauseLaws.{not-fine, passed, then-fine, at-most}
-use Rattle.sample.specs.Value.{denominatorPower, exactValue}
-use Rattle.sample.specs.Pair.{valueOf, isCanonical}
-use Rattle.sample.specs.Reading.{isCode, badGain, pairTaken, readWord}
-use Rattle.sample.specs.Writing.{first, ibmFits, ibmAt, ibmWord, holds, wholeWord, gainFits, gainAt, gainWord, wordOf, writePair}
-use Rattle.sample.specs.Calls.{pairIn}
+use Rattle.value.specs.Value.{denominatorPower, isCode, exactValue}
+use Rattle.value.specs.Pair.{valueOf, isCanonical, pairIn}
+use Rattle.value.specs.Writing.{first, ibmFits, ibmAt, ibmWord, holds, wholeWord, gainFits, gainAt, gainWord, wordOf, writePair}
+use Rattle.value.specs.declared.Written.{Written}
+use Rattle.value.specs.declared.Written.the-variants as written
+use Rattle.sample.specs.Reading.{badGain, pairTaken, readWord}
 use Rattle.sample.specs.Calls as calls
 use Rattle.sample.specs.declared.Sample.{Sample}
 use Rattle.sample.specs.declared.Sample.the-variants as sample
-use Rattle.sample.specs.declared.Written.{Written}
-use Rattle.sample.specs.declared.Written.the-variants as written
 use Rattle.sample_theorems.proofs.Held.{and-true}
 use Rattle.sample_theorems.proofs.Pairs.{Iff, value-pair-back}
 use Rattle.reel.specs.Layout.{Field, binaryFields, traceFields, samplesOf, tracesOf}

@@ -28,7 +28,7 @@ use lib.Seq.{take-at, drop-at}
 use Rattle.numbers.specs.Outcome.{taken, Outcome}
 use Rattle.numbers.specs.declared.Check.the-variants.{Fine}
 use Rattle.numbers.proofs.ByteLaws.{Bytes}
-use Rattle.sample.specs.Reading.{isCode}
+use Rattle.value.specs.Value.{isCode}
 use Rattle.sample_theorems.proofs.Pairs.{Iff}
 use Rattle.reel.specs.Layout.{samplesOf, tracesOf, sampleBytes}
 use Rattle.reel.specs.Meaning.{meaningOf}

@@ -34,8 +34,7 @@ use Rattle.numbers.specs.declared.Check.the-variants.{Fine}
 use Rattle.numbers.proofs.WalkLaws.{All, cons-eq, size-bytes}
 use Rattle.numbers.proofs.ByteLaws.{Bytes, bytes-at}
 use Rattle.numbers.proofs.CauseLaws.{passed, then-fine, first-all}
-use Rattle.sample.specs.Value.{denominatorPower, exactValue}
-use Rattle.sample.specs.Reading.{isCode}
+use Rattle.value.specs.Value.{denominatorPower, isCode, exactValue}
 use Rattle.sample_theorems.proofs.Pairs.{Iff}
 use Rattle.reel.specs.Layout.{firstTrace, traceHeader, word, intervalOf, samplesOf, codeOf, sampleBytes, strideOf, tracesOf}
 use Rattle.reel.specs.Causes.{neither, wordCause, traceCauses, causesOf}

@@ -18,13 +18,12 @@ use Rattle.numbers.specs.declared.Check.the-variants.{Fine}
 use Rattle.numbers.proofs.WalkLaws.{All, all-walk}
 use Rattle.numbers.proofs.ByteLaws.{Bytes}
 use Rattle.numbers.proofs.CauseLaws.{passed, AllFine, first-all}
-use Rattle.sample.specs.Value.{exactValue}
-use Rattle.sample.specs.Pair.{pairOf, isCanonical}
-use Rattle.sample.specs.Reading.{isCode, badGain}
-use Rattle.sample.specs.Writing.{wordOf, writePair}
-use Rattle.sample.specs.Calls.{pairLength}
-use Rattle.sample.specs.declared.Written.{Written}
-use Rattle.sample.specs.declared.Written.the-variants.{Word, Refused}
+use Rattle.value.specs.Value.{isCode, exactValue}
+use Rattle.value.specs.Pair.{pairOf, isCanonical, pairLength}
+use Rattle.value.specs.Writing.{wordOf, writePair}
+use Rattle.value.specs.declared.Written.{Written}
+use Rattle.value.specs.declared.Written.the-variants.{Word, Refused}
+use Rattle.sample.specs.Reading.{badGain}
 use Rattle.sample_theorems.proofs.Pairs.{Iff, pair-value}
 use Rattle.sample_theorems.proofs.Words.{Writes, written-is, writing-sound, writing-complete}
 use Rattle.reel.specs.Meaning.{Trace, Meaning}

@@ -6,7 +6,7 @@ use Prim.Native.Nat.{ℕ, _≤_, _<_}
 use lib.ListN.{length, getD, take, drop}
 use lib.IntN.{pos}
 use Rattle.numbers.proofs.WalkLaws.{All}
-use Rattle.sample.specs.Pair.{pairOf, isCanonical}
+use Rattle.value.specs.Pair.{pairOf, isCanonical}
 use Rattle.reel.specs.Layout.{cardBytes, traceWidths}
 use Rattle.reel.specs.Causes.{mostSamples, mostTraces, mostInterval}
 use Rattle.reel.specs.Meaning.{Trace, Meaning}

@@ -19,8 +19,7 @@ use Rattle.numbers.specs.declared.Check.{Check}
 use Rattle.numbers.specs.declared.Check.the-variants.{Fine}
 use Rattle.numbers.proofs.WalkLaws.{All, flat-size}
 use Rattle.numbers.proofs.ByteLaws.{Bytes}
-use Rattle.sample.specs.Pair.{pairOf, valueOf, isCanonical}
-use Rattle.sample.specs.Calls.{pairLength, pairIn}
+use Rattle.value.specs.Pair.{pairOf, valueOf, isCanonical, pairLength, pairIn}
 use Rattle.sample_theorems.proofs.Pairs.{pair-value, bytes-pair}
 use Rattle.reel.specs.Layout.{cardBytes, binaryFields, traceWidths, fieldNumber, word}
 use Rattle.reel.specs.Causes.{mostSamples, mostTraces, mostInterval}

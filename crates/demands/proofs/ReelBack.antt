@@ -20,12 +20,12 @@ use Rattle.numbers.specs.Cause.{refuseIf, firstOf}
 use Rattle.numbers.specs.declared.Check.the-variants.{Fine}
 use Rattle.numbers.proofs.WalkLaws.{All, all-take, cons-eq, flat-size}
 use Rattle.numbers.proofs.ByteLaws.{Bytes}
-use Rattle.sample.specs.Value.{wholeValue, exactValue}
-use Rattle.sample.specs.Pair.{pairOf, isCanonical}
-use Rattle.sample.specs.Reading.{isCode, badGain}
-use Rattle.sample.specs.Writing.{wordOf, writePair}
-use Rattle.sample.specs.declared.Written.{Written}
-use Rattle.sample.specs.declared.Written.the-variants.{Word, Refused}
+use Rattle.value.specs.Value.{wholeValue, isCode, exactValue}
+use Rattle.value.specs.Pair.{pairOf, isCanonical}
+use Rattle.value.specs.Writing.{wordOf, writePair}
+use Rattle.value.specs.declared.Written.{Written}
+use Rattle.value.specs.declared.Written.the-variants.{Word, Refused}
+use Rattle.sample.specs.Reading.{badGain}
 use Rattle.sample_theorems.proofs.Held.{and-true}
 use Rattle.sample_theorems.proofs.Pairs.{pair-value}
 use Rattle.sample_theorems.proofs.Words.{Says, writing-sound}

@@ -15,7 +15,7 @@ use Rattle.numbers.specs.declared.Check.the-variants.{Fine, Refused}
 use Rattle.numbers.proofs.WalkLaws.{All, cons-eq, size-walk}
 use Rattle.numbers.proofs.ByteLaws.{Bytes}
 use Rattle.numbers.proofs.CauseLaws.{passed, then-fine, at-most}
-use Rattle.sample.specs.Reading.{isCode}
+use Rattle.value.specs.Value.{isCode}
 use Rattle.reel.specs.Layout.{firstTrace, intervalOf, samplesOf, codeOf, strideOf, tracesOf}
 use Rattle.reel.specs.Causes.{causesOf}
 use Rattle.reel.specs.Meaning.{Trace, traceMeaning, Meaning, meaningOf}

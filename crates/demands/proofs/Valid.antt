@@ -19,8 +19,7 @@ use Rattle.numbers.specs.declared.Check.{Check}
 use Rattle.numbers.specs.declared.Check.the-variants.{Fine}
 use Rattle.numbers.proofs.WalkLaws.{All}
 use Rattle.numbers.proofs.CauseLaws.{then-fine}
-use Rattle.sample.specs.Pair.{isCanonical}
-use Rattle.sample.specs.Calls.{pairLength, pairIn}
+use Rattle.value.specs.Pair.{isCanonical, pairLength, pairIn}
 use Rattle.sample_theorems.proofs.Held.{and-true}
 use Rattle.reel.specs.Layout.{word}
 use Rattle.reel.specs.Causes.{mostSamples, mostTraces, mostInterval, within}

@@ -18,9 +18,9 @@ use Rattle.numbers.specs.Cause.{refuseIf, firstOf}
 use Rattle.numbers.specs.declared.Check.{Check}
 use Rattle.numbers.specs.declared.Check.the-variants.{Fine, Refused}
 use Rattle.numbers.proofs.CauseLaws.{not-fine, then-fine}
-use Rattle.sample.specs.Reading.{isCode}
-use Rattle.sample.specs.Writing.{wordOf}
-use Rattle.sample.specs.Calls.{pairLength}
+use Rattle.value.specs.Value.{isCode}
+use Rattle.value.specs.Pair.{pairLength}
+use Rattle.value.specs.Writing.{wordOf}
 use Rattle.sample_theorems.proofs.Pairs.{Iff}
 use Rattle.reel.specs.Layout.{word}
 use Rattle.reel.specs.Causes.{mostSamples, mostInterval, within}

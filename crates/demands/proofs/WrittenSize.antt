@@ -11,10 +11,10 @@ use Rattle.numbers.specs.Walk.{pick, walk, flat, bytesAt}
 use Rattle.numbers.specs.BigEndian.{bytesOf}
 use Rattle.numbers.specs.TwosComplement.{bitsOf}
 use Rattle.numbers.proofs.WalkLaws.{flat-length, size-bytes}
-use Rattle.sample.specs.Calls.{pairLength}
-use Rattle.sample.specs.Writing.{wordOf}
-use Rattle.sample.specs.declared.Written.{Written}
-use Rattle.sample.specs.declared.Written.the-variants.{Word, Refused}
+use Rattle.value.specs.Pair.{pairLength}
+use Rattle.value.specs.Writing.{wordOf}
+use Rattle.value.specs.declared.Written.{Written}
+use Rattle.value.specs.declared.Written.the-variants.{Word, Refused}
 use Rattle.reel.specs.Layout.{binaryWidths, binaryFields, traceWidths, traceFields, cardBytes, fieldNumber, sampleBytes, stride}
 use Rattle.reel.specs.Meaning.{otherThan}
 use Rattle.record.specs.Record.{numberBytes, withCode, binaryBytes}

@@ -15,8 +15,8 @@ use Rattle.numbers.specs.BigEndian.{number}
 use Rattle.numbers.specs.TwosComplement.{signedOf}
 use Rattle.numbers.proofs.WalkLaws.{flat-length, flat-more, flat-none, four-bytes, both}
 use Rattle.numbers.proofs.Filling.{Filling, finish, again, lend}
-use Rattle.sample.specs.Value.{denominatorPower, ibmValue, wholeValue, gainValue}
-use Rattle.sample.specs.Reading.{isCode, pairTaken, readWord}
+use Rattle.value.specs.Value.{denominatorPower, ibmValue, wholeValue, gainValue, isCode}
+use Rattle.sample.specs.Reading.{pairTaken, readWord}
 use Rattle.sample.specs.declared.Sample.{Sample}
 use Rattle.sample.specs.declared.Sample.the-variants.{Taken, Refused}
 use Rattle.reel.specs.Layout.{sampleBytes}

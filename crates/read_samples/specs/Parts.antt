@@ -7,8 +7,8 @@ use lib.IntN.{pos}
 use Rattle.numbers.specs.Walk.{pick}
 use Rattle.numbers.specs.BigEndian.{bytesOf}
 use Rattle.numbers.specs.TwosComplement.{signedOf, bitsOf}
-use Rattle.sample.specs.Value.{gainValue}
-use Rattle.sample.specs.Pair.{mantissaBits}
+use Rattle.value.specs.Value.{gainValue}
+use Rattle.value.specs.Pair.{mantissaBits}
 use Rattle.sample.specs.Reading.{pairTaken}
 use Rattle.sample.specs.declared.Sample.{Sample}
 use Rattle.sample.specs.declared.Sample.the-variants.{Taken, Refused}

@@ -5,8 +5,9 @@ use mathlib.Core.List.{List, map}
 use lib.ListN.{length, replicate}
 use lib.Dec.{leb, eqb}
 use Rattle.numbers.specs.Walk.{pick, walk, flat, bytesAt}
-use Rattle.sample.specs.Reading.{isCode, readWord}
-use Rattle.sample.specs.Calls.{pairLength, pairBytes}
+use Rattle.value.specs.Value.{isCode}
+use Rattle.value.specs.Pair.{pairLength, pairBytes}
+use Rattle.sample.specs.Reading.{readWord}
 use Rattle.sample.specs.declared.Sample.{Sample}
 use Rattle.sample.specs.declared.Sample.the-variants.{Taken, Refused}
 use Rattle.reel.specs.Layout.{sampleBytes}

@@ -18,14 +18,12 @@ use Rattle.numbers.proofs.CauseLaws.{then-assoc, not-fine, passed, then-fine}
 use Rattle.numbers.proofs.WalkLaws.{walk-more}
 use lib.IntN.{ℤ, natAbs}
 use Rattle.numbers.specs.TwosComplement.{bitsOf}
-use Rattle.sample.specs.Value.{denominatorPower}
-use Rattle.sample.specs.Pair.{valueOf, isCanonical}
-use Rattle.sample.specs.Reading.{isCode}
-use Rattle.sample.specs.Writing.{first, isNegative, ibmFits, ibmBits, ibmWord, numberOf, holds, wholeWord, gainFits, gainWord, wordOf, writePair}
-use Rattle.sample.specs.Calls.{pairLength, pairIn}
-use Rattle.sample.specs.declared.Pair.{Pair}
-use Rattle.sample.specs.declared.Written.{Written}
-use Rattle.sample.specs.declared.Written.the-variants as written
+use Rattle.value.specs.Value.{denominatorPower, isCode}
+use Rattle.value.specs.Pair.{valueOf, isCanonical, pairLength, pairIn}
+use Rattle.value.specs.Writing.{first, isNegative, ibmFits, ibmBits, ibmWord, numberOf, holds, wholeWord, gainFits, gainWord, wordOf, writePair}
+use Rattle.value.specs.declared.Pair.{Pair}
+use Rattle.value.specs.declared.Written.{Written}
+use Rattle.value.specs.declared.Written.the-variants as written
 use Rattle.reel.specs.Layout.{word}
 use Rattle.reel.specs.Causes.{mostSamples, mostTraces, mostInterval, within}
 use Rattle.reel.proofs.CheckLaws.{both-true, in-limits}

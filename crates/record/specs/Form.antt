@@ -9,8 +9,7 @@ use Rattle.numbers.specs.Walk.{pick, walk, bytesAt}
 use Rattle.numbers.specs.BigEndian.{number}
 use Rattle.numbers.specs.Cause.{refuseIf, then, firstOf}
 use Rattle.numbers.specs.declared.Check.{Check}
-use Rattle.sample.specs.Pair.{isCanonical}
-use Rattle.sample.specs.Calls.{pairLength, pairIn}
+use Rattle.value.specs.Pair.{isCanonical, pairLength, pairIn}
 use Rattle.reel.specs.Layout.{cardBytes, word}
 use Rattle.reel.specs.Causes.{mostSamples, mostTraces, mostInterval, within}
 

@@ -3,8 +3,7 @@ use Prim.Native.Nat.{ℕ, _+_}
 use mathlib.Core.List.{List, map}
 use lib.IntN.{ℤ}
 use Rattle.numbers.specs.Walk.{walk, bytesAt}
-use Rattle.sample.specs.Pair.{valueOf}
-use Rattle.sample.specs.Calls.{pairLength, pairIn}
+use Rattle.value.specs.Pair.{valueOf, pairLength, pairIn}
 use Rattle.reel.specs.Layout.{cardBytes, binaryFields, traceFields, fieldNumber}
 use Rattle.reel.specs.Meaning.{otherThan, Trace, Meaning}
 use Rattle.record.specs.Form.{heldSamples, heldStride, heldCount, tracesPlace}

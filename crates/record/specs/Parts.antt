@@ -4,7 +4,7 @@ use mathlib.Core.List.{List}
 use Rattle.numbers.specs.Walk.{walk}
 use Rattle.numbers.specs.Cause.{then, firstOf}
 use Rattle.numbers.specs.declared.Check.{Check}
-use Rattle.sample.specs.Calls.{pairLength}
+use Rattle.value.specs.Pair.{pairLength}
 use Rattle.write_samples.specs.Samples.{pairCheck}
 use Rattle.record.specs.Form.{fieldCause, headerCauses, heldStride, traceForm, tagsFrom, endCauses}
 use Rattle.record.specs.Target.{traceFit}

@@ -6,8 +6,7 @@ use lib.IntN.{ℤ, pos}
 use Rattle.numbers.specs.Walk.{flat}
 use Rattle.numbers.specs.BigEndian.{bytesOf}
 use Rattle.numbers.specs.TwosComplement.{bitsOf}
-use Rattle.sample.specs.Pair.{pairOf}
-use Rattle.sample.specs.Calls.{pairLength, pairBytes}
+use Rattle.value.specs.Pair.{pairOf, pairLength, pairBytes}
 use Rattle.reel.specs.Layout.{binaryWidths, traceWidths}
 use Rattle.reel.specs.Meaning.{Trace, Meaning, meaningOf}
 

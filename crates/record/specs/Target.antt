@@ -6,11 +6,11 @@ use Rattle.numbers.specs.Walk.{walk}
 use Rattle.numbers.specs.Cause.{refuseIf, then, firstOf}
 use Rattle.numbers.specs.declared.Check.{Check}
 use Rattle.numbers.specs.declared.Check.the-variants.{Fine, Refused}
-use Rattle.sample.specs.Reading.{isCode}
-use Rattle.sample.specs.Writing.{wordOf}
-use Rattle.sample.specs.Calls.{pairLength}
-use Rattle.sample.specs.declared.Written.{Written}
-use Rattle.sample.specs.declared.Written.the-variants as written
+use Rattle.value.specs.Value.{isCode}
+use Rattle.value.specs.Pair.{pairLength}
+use Rattle.value.specs.Writing.{wordOf}
+use Rattle.value.specs.declared.Written.{Written}
+use Rattle.value.specs.declared.Written.the-variants as written
 use Rattle.record.specs.Form.{heldSamples, heldStride, heldCount, tracesPlace, formCauses}
 use Rattle.record.specs.Held.{heldValue}
 use Rattle.record.specs.declared.Checked.{Checked}

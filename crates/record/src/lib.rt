@@ -9,8 +9,8 @@ ghost use Rattle.numbers.specs.BigEndian.{number};
 ghost use Rattle.numbers.specs.Cause.{refuseIf, then, firstOf};
 ghost use Rattle.numbers.specs.Places.{placeNo, byteNo};
 ghost use Rattle.numbers.specs.declared.Check.the-variants.{Fine};
-ghost use Rattle.sample.specs.Reading.{isCode};
-ghost use Rattle.sample.specs.Calls.{pairIn};
+ghost use Rattle.value.specs.Value.{isCode};
+ghost use Rattle.value.specs.Pair.{pairIn};
 ghost use Rattle.reel.specs.Layout.{word};
 ghost use Rattle.reel.specs.Causes.{mostSamples, mostTraces};
 ghost use Rattle.record.specs.Form.{fieldCause, cardCause, cardsCauses, numberCauses, binaryCauses, tracesPlace, pairCause, traceForm, endCauses, formCauses};
@@ -19,7 +19,7 @@ ghost use Rattle.record.specs.Parts.{headForm, traceCheck, formFrom, fit
 use numbers::ByteNo;
 use numbers::Check;
 use numbers::Place;
-use sample::Pair;
+use value::Pair;
 
 // What a call on a whole reel or record answers: taken with T, N and the length of what it wrote, or refused with number and place.
 pub enum Answer {
@@ -168,7 +168,7 @@ fn pair_at(record: &[u8], at: usize) -> Pair
     requires { ⌜ at + 6 ≤ length (now «record») ⌝ }
     ensures { λ r. ⌜ r ≡ pairIn (bytesAt (now («record» .entry)) at 6) ⌝ }
 {
-    sample::pair_in([
+    value::pair_in([
         record[at],
         record[at + 1],
         record[at + 2],

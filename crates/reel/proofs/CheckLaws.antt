@@ -15,8 +15,8 @@ use Rattle.numbers.specs.declared.Check.{Check}
 use Rattle.numbers.specs.declared.Check.the-variants.{Fine, Refused}
 use Rattle.numbers.specs.declared.Place.{Place}
 use Rattle.numbers.proofs.CauseLaws.{passed, then-fine}
-use Rattle.sample.specs.Reading.{isCode, badGain, readWord, pairTaken}
-use Rattle.sample.specs.Value.{exactValue}
+use Rattle.value.specs.Value.{isCode, exactValue}
+use Rattle.sample.specs.Reading.{badGain, readWord, pairTaken}
 use Rattle.sample.specs.declared.Sample.{Sample}
 use Rattle.sample.specs.declared.Sample.the-variants as sample
 use Rattle.reel.specs.Layout.{firstTrace, word, samplesOf, codeOf, intervalOf, sampleBytes, stride, strideOf, overIn, tracesOf}

@@ -10,7 +10,8 @@ use Rattle.numbers.specs.declared.Check.{Check}
 use Rattle.numbers.specs.declared.Check.the-variants.{Fine, Refused}
 use Rattle.reel.specs.declared.Checked.{Checked}
 use Rattle.reel.specs.declared.Checked.the-variants as variant
-use Rattle.sample.specs.Reading.{isCode, badGain}
+use Rattle.value.specs.Value.{isCode}
+use Rattle.sample.specs.Reading.{badGain}
 use Rattle.reel.specs.Layout.{firstTrace, traceHeader, word, intervalOf, samplesOf, codeOf, sampleBytes, strideOf, wholeIn, overIn, tracesOf}
 
 -- The most samples of a trace, and the most traces of a reel.

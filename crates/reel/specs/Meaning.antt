@@ -5,7 +5,7 @@ use mathlib.Core.List.{List, [], _∷_, _++_, map}
 use lib.Dec.{eqb}
 use lib.IntN.{ℤ, pos, natAbs}
 use Rattle.numbers.specs.Walk.{pick, walk, bytesAt}
-use Rattle.sample.specs.Value.{exactValue}
+use Rattle.value.specs.Value.{exactValue}
 use Rattle.reel.specs.Layout.{Field, cardBytes, firstTrace, traceHeader, binaryFields, traceFields, fieldNumber, intervalOf, samplesOf, codeOf, sampleBytes, strideOf, tracesOf}
 
 -- A card byte 00 is taken as the EBCDIC blank 40, which is 64.

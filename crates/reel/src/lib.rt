@@ -7,7 +7,7 @@ ghost use mathlib.Core.Bool.{not};
 ghost use Rattle.numbers.specs.Cause.{refuseIf, then, firstOf};
 ghost use Rattle.numbers.specs.declared.Check.the-variants.{Fine};
 ghost use Rattle.numbers.specs.Places.{placeNo, byteNo};
-ghost use Rattle.sample.specs.Reading.{isCode};
+ghost use Rattle.value.specs.Value.{isCode};
 ghost use Rattle.reel.specs.Layout.{firstTrace, word, sampleBytes, stride};
 ghost use Rattle.reel.specs.Causes.{within, neither, headerCauses, sizeCauses, wordCause, traceCauses, behindCauses, causesOf, checkedOf};
 ghost use Rattle.reel.specs.Parts.{wordRefused};

@@ -18,7 +18,7 @@ use Rattle.numbers.specs.Cause.{refuseIf}
 use Rattle.numbers.specs.declared.Check.{Check}
 use Rattle.numbers.specs.declared.Check.the-variants.{Fine, Refused}
 use Rattle.numbers.proofs.CauseLaws.{not-fine, then-fine}
-use Rattle.sample.specs.Reading.{isCode}
+use Rattle.value.specs.Value.{isCode}
 use Rattle.sample_theorems.proofs.Pairs.{Iff}
 use Rattle.reel.specs.Layout.{firstTrace, traceHeader, word, samplesOf, intervalOf, codeOf, sampleBytes, strideOf, overIn, tracesOf}
 use Rattle.reel.specs.Causes.{mostSamples, mostTraces, mostInterval, within, neither, headerCauses, sizeCauses, wordCause, traceCauses, behindCauses, causesOf}

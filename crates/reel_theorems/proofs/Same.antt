@@ -20,10 +20,9 @@ use Rattle.numbers.specs.declared.Check.the-variants.{Fine}
 use Rattle.numbers.proofs.WalkLaws.{All, all-at, split, cons-eq, flat-size, flat-inj, size-walk}
 use Rattle.numbers.proofs.ByteLaws.{Bytes, bytes-at, number-at}
 use Rattle.numbers.proofs.SignLaws.{bits-signed}
-use Rattle.sample.specs.Value.{exactValue}
-use Rattle.sample.specs.Pair.{pairOf, valueOf, isCanonical}
-use Rattle.sample.specs.Calls.{pairIn}
-use Rattle.sample.specs.declared.Pair.{Pair}
+use Rattle.value.specs.Value.{exactValue}
+use Rattle.value.specs.Pair.{pairOf, valueOf, isCanonical, pairIn}
+use Rattle.value.specs.declared.Pair.{Pair}
 use Rattle.sample_theorems.proofs.Held.{and-true}
 use Rattle.sample_theorems.proofs.Pairs.{Iff, pair-value, bytes-pair, value-canonical}
 use Rattle.reel.specs.Layout.{Field, fieldsFrom, binaryWidths, binaryFields, traceWidths, traceFields, fieldNumber, firstTrace, traceHeader, word, samplesOf, intervalOf, codeOf, sampleBytes, strideOf, tracesOf}

@@ -1,11 +1,1 @@
-pub mod Twos
-pub mod Magnitudes
-pub mod Pairs
-pub mod First
-pub mod Exact
-pub mod IbmLaws
-pub mod WholeLaws
-pub mod Apart
-pub mod PartsLaws
-pub mod PairBytes
-pub mod Codes
+pub mod Taken

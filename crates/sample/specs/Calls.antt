@@ -1,41 +1,21 @@
--- The single-sample calls: a pair's six bytes, and the complete outcome of each call.
-use Prim.Native.Nat.{ℕ, _+_, _/_}
-use mathlib.Core.List.{List, [], _++_}
+-- The single-sample calls: the complete outcome of each.
+use Prim.Native.Nat.{ℕ}
+use mathlib.Core.List.{List, []}
 use lib.ListN.{replicate}
-use lib.IntN.{ℤ}
-use Rattle.numbers.specs.Walk.{bytesAt}
-use Rattle.numbers.specs.BigEndian.{number, bytesOf}
-use Rattle.numbers.specs.TwosComplement.{signedOf, bitsOf}
+use Rattle.numbers.specs.BigEndian.{bytesOf}
 use Rattle.numbers.specs.Places.{placeNo}
 use Rattle.numbers.specs.Outcome.{Said, taken, refused, Outcome}
-use Rattle.sample.specs.Pair.{mantissaBits}
+use Rattle.value.specs.Pair.{pairLength, pairBytes, pairIn}
+use Rattle.value.specs.Writing.{writePair}
+use Rattle.value.specs.declared.Written.{Written}
+use Rattle.value.specs.declared.Written.the-variants as written
 use Rattle.sample.specs.Reading.{readWord}
-use Rattle.sample.specs.Writing.{writePair}
-use Rattle.sample.specs.declared.Pair.{Pair}
 use Rattle.sample.specs.declared.Sample.{Sample}
 use Rattle.sample.specs.declared.Sample.the-variants as sample
-use Rattle.sample.specs.declared.Written.{Written}
-use Rattle.sample.specs.declared.Written.the-variants as written
 use Rattle.sample.specs.declared.Answer.{Answer}
 use Rattle.sample.specs.declared.Answer.the-variants as answer
 use Rattle.sample.specs.declared.WordRead.{WordRead}
 use Rattle.sample.specs.declared.PairWritten.{PairWritten}
-
--- The bytes of a pair: e in two, m in four.
-abbrev pub pairLength : ℕ
-pairLength = 2 + mantissaBits / 8
-
--- A pair in its bytes, both numbers in two's complement.
-abbrev pub pairBytes : ℤ → ℤ → List ℕ
-pairBytes e m = bytesOf 2 (bitsOf 16 e) ++ bytesOf (mantissaBits / 8) (bitsOf mantissaBits m)
-
--- The pair of the bits of e and m, both in two's complement.
-abbrev pub pairOfBits : ℕ → ℕ → Pair
-pairOfBits e m = record { e = signedOf 16 e; m = signedOf mantissaBits m }
-
--- The pair of six bytes.
-abbrev pub pairIn : List ℕ → Pair
-pairIn b = pairOfBits (number (bytesAt b 0 2)) (number (bytesAt b 2 (mantissaBits / 8)))
 
 -- Document 01's number and place for each case of the answer.
 abbrev pub saidBy : Answer → Said

@@ -3,21 +3,17 @@ use Prim.Native.Nat.{ℕ}
 use mathlib.Core.Bool.{Bool, not, _&&_}
 use mathlib.Core.List.{List}
 use lib.ListN.{getD}
-use lib.Dec.{leb, eqb}
+use lib.Dec.{eqb}
 use lib.IntN.{ℤ}
 use Rattle.numbers.specs.Walk.{pick}
-use Rattle.sample.specs.Value.{exactValue}
-use Rattle.sample.specs.Pair.{pairOf}
+use Rattle.value.specs.Value.{isCode, exactValue}
+use Rattle.value.specs.Pair.{pairOf}
 use Rattle.sample.specs.declared.Sample.{Sample}
 use Rattle.sample.specs.declared.Sample.the-variants.{Taken, Refused}
 
 -- The canonical pair of a value, as its two numbers.
 abbrev pub pairTaken : ℤ → Sample
 pairTaken v = Taken (pairOf v .e) (pairOf v .m)
-
--- The codes are 1 to 4.
-abbrev pub isCode : ℕ → Bool
-isCode code = leb 1 code && leb code 4
 
 -- The first byte of a gain word must be 00.
 abbrev pub badGain : ℕ → List ℕ → Bool

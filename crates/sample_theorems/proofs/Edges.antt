@@ -9,16 +9,16 @@ use lib.IntN.{ℤ, pos, negsuc, negℤ}
 use lib.Dec.{lit<, lit≤}
 use Rattle.numbers.specs.Walk.{bytesAt}
 use Rattle.numbers.specs.Outcome.{taken, refused, Outcome}
-use Rattle.sample.specs.Value.{wholeValue}
-use Rattle.sample.specs.Pair.{twosIn, twos, oddPart, pairOf, isCanonical}
+use Rattle.value.specs.Value.{wholeValue}
+use Rattle.value.specs.Pair.{twosIn, twos, oddPart, pairOf, isCanonical}
+use Rattle.value.specs.Writing.{first, writePair}
+use Rattle.value.specs.declared.Pair.{Pair}
+use Rattle.value.specs.declared.Written.{Written}
+use Rattle.value.specs.declared.Written.the-variants.{Word, Refused}
 use Rattle.sample.specs.Reading.{readWord}
-use Rattle.sample.specs.Writing.{first, writePair}
 use Rattle.sample.specs.Calls.{readOutcome, writeOutcome}
-use Rattle.sample.specs.declared.Pair.{Pair}
 use Rattle.sample.specs.declared.Sample.{Sample}
 use Rattle.sample.specs.declared.Sample.the-variants.{Taken}
-use Rattle.sample.specs.declared.Written.{Written}
-use Rattle.sample.specs.declared.Written.the-variants.{Word, Refused}
 
 -- a word of code 1, and one of code 4, as they are read
 abbrev pub ibm : ℕ → ℕ → ℕ → ℕ → Sample

@@ -11,9 +11,9 @@ use lib.IntN.{ℤ, pos, negsuc, negℤ, natAbs, _*ℤ_}
 use lib.Signed.{mag, leZ, ltZ}
 use Rattle.numbers.specs.TwosComplement.{signedOf, bitsOf}
 use Rattle.numbers.proofs.SignLaws.{signed-bits, mag-signed}
-use Rattle.sample.specs.Value.{signMagnitude}
-use Rattle.sample.specs.Writing.{isNegative, isMultiple, numberOf, inBits, holds}
-use Rattle.sample.proofs.Magnitudes.{abs-signed, signed-back, signed-mul, signed-quot}
+use Rattle.value.specs.Value.{signMagnitude}
+use Rattle.value.specs.Writing.{isNegative, isMultiple, numberOf, inBits, holds}
+use Rattle.value.proofs.Magnitudes.{abs-signed, signed-back, signed-mul, signed-quot}
 
 pub and-true : (b c : Bool) → (b && c) ≡ true → (b ≡ true) × (c ≡ true)
 and-true true c e = (refl, e)

@@ -11,13 +11,13 @@ use lib.Pow.{pow-add}
 use lib.IntN.{ℤ, pos, negsuc, natAbs}
 use Rattle.numbers.specs.Walk.{pick}
 use Rattle.numbers.proofs.SignLaws.{below-or}
-use Rattle.sample.specs.Value.{signMagnitude, signBit, characteristic, fraction, ibmValue}
-use Rattle.sample.specs.Writing.{first, isNegative, isMultiple, isNormal, ibmFits, ibmBits, ibmAt, ibmWord}
-use Rattle.sample.specs.declared.Written.{Written}
-use Rattle.sample.specs.declared.Written.the-variants.{Word, Refused}
-use Rattle.sample.proofs.First.{Found, found}
-use Rattle.sample.proofs.Magnitudes.{abs-signed, neg-signed, signed-back}
-use Rattle.sample.proofs.IbmLaws.{normal-yes}
+use Rattle.value.specs.Value.{signMagnitude, signBit, characteristic, fraction, ibmValue}
+use Rattle.value.specs.Writing.{first, isNegative, isMultiple, isNormal, ibmFits, ibmBits, ibmAt, ibmWord}
+use Rattle.value.specs.declared.Written.{Written}
+use Rattle.value.specs.declared.Written.the-variants.{Word, Refused}
+use Rattle.value.proofs.First.{Found, found}
+use Rattle.value.proofs.Magnitudes.{abs-signed, neg-signed, signed-back}
+use Rattle.value.proofs.IbmLaws.{normal-yes}
 use Rattle.sample_theorems.proofs.Held.{and-true}
 
 some : (c : ℕ) → 0 < 16 ^ c

@@ -22,19 +22,18 @@ use Rattle.numbers.specs.TwosComplement.{signedOf, bitsOf}
 use Rattle.numbers.proofs.WalkLaws.{bytes-part}
 use Rattle.numbers.proofs.ByteLaws.{Bytes, number-bytes, number-at, bytes-again}
 use Rattle.numbers.proofs.SignLaws.{below-or, sub-below, sub-above, signed-bits, bits-signed, bits-lt, mag-signed}
-use Rattle.sample.specs.Value.{denominatorPower, signMagnitude, characteristic, fraction, signBit, ibmValue, wholeValue, gainValue, exactValue}
-use Rattle.sample.specs.Pair.{highestExponent, mantissaBits, pairOf, valueOf, isExponent, isMantissa, isCanonical}
-use Rattle.sample.specs.Reading.{pairTaken, isCode, badGain, readWord}
-use Rattle.sample.specs.Writing.{isNegative}
-use Rattle.sample.specs.Calls.{pairBytes, pairIn}
-use Rattle.sample.specs.declared.Pair.{Pair}
+use Rattle.value.specs.Value.{denominatorPower, signMagnitude, signBit, characteristic, fraction, ibmValue, wholeValue, gainValue, isCode, exactValue}
+use Rattle.value.specs.Pair.{highestExponent, mantissaBits, pairOf, valueOf, isExponent, isMantissa, isCanonical, pairBytes, pairIn}
+use Rattle.value.specs.Writing.{isNegative}
+use Rattle.value.specs.declared.Pair.{Pair}
+use Rattle.value.proofs.Twos.{odd-pos, split}
+use Rattle.value.proofs.Magnitudes.{abs-signed, signed-mul, signed-back, signed-word, abs-high, abs-low}
+use Rattle.value.proofs.Pairs.{sub-add, pair-at, sixteens, value-pair}
+use Rattle.value.proofs.Apart.{highest, odd-yes}
+use Rattle.value.proofs.IbmLaws.{grow}
+use Rattle.sample.specs.Reading.{pairTaken, badGain, readWord}
 use Rattle.sample.specs.declared.Sample.{Sample}
 use Rattle.sample.specs.declared.Sample.the-variants.{Taken, Refused}
-use Rattle.sample.proofs.Twos.{odd-pos, split}
-use Rattle.sample.proofs.Magnitudes.{abs-signed, signed-mul, signed-back, signed-word, abs-high, abs-low}
-use Rattle.sample.proofs.Pairs.{sub-add, pair-at, sixteens, value-pair}
-use Rattle.sample.proofs.Apart.{highest, odd-yes}
-use Rattle.sample.proofs.IbmLaws.{grow}
 use Rattle.sample_theorems.proofs.Held.{and-true}
 
 -- A and B hold in the same cases.

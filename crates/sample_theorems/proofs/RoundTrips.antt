@@ -9,17 +9,17 @@ use lib.IntN.{ℤ}
 use Rattle.numbers.specs.BigEndian.{bytesOf}
 use Rattle.numbers.specs.Outcome.{taken, refused, Outcome}
 use Rattle.numbers.proofs.ByteLaws.{Bytes}
-use Rattle.sample.specs.Value.{exactValue}
-use Rattle.sample.specs.Pair.{pairOf, valueOf, isCanonical}
+use Rattle.value.specs.Value.{exactValue}
+use Rattle.value.specs.Pair.{pairOf, valueOf, isCanonical, pairIn}
+use Rattle.value.specs.Writing.{writePair}
+use Rattle.value.specs.declared.Pair.{Pair}
+use Rattle.value.specs.declared.Written.{Written}
+use Rattle.value.specs.declared.Written.the-variants.{Word, Refused}
 use Rattle.sample.specs.Reading.{readWord}
-use Rattle.sample.specs.Writing.{writePair}
-use Rattle.sample.specs.Calls.{pairIn, readSaid, readOutcome, writeSaid, writeOutcome}
-use Rattle.sample.specs.declared.Pair.{Pair}
+use Rattle.sample.specs.Calls.{readSaid, readOutcome, writeSaid, writeOutcome}
 use Rattle.sample.specs.declared.Sample.{Sample}
 use Rattle.sample.specs.declared.Sample.the-variants as sample
-use Rattle.sample.specs.declared.Written.{Written}
 use Rattle.sample.specs.declared.Sample.the-variants.{Taken}
-use Rattle.sample.specs.declared.Written.the-variants.{Word, Refused}
 use Rattle.sample_theorems.proofs.Pairs.{bytes-pair, pair-bytes, taken-code, value-pair-back, reading-value, reading-canonical, reading-takes}
 use Rattle.sample_theorems.proofs.Words.{Normal, Writes, written-is, writing-sound, writing-complete, writing-normal}
 

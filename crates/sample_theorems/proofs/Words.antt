@@ -18,15 +18,15 @@ use Rattle.numbers.specs.BigEndian.{number, bytesOf}
 use Rattle.numbers.specs.TwosComplement.{signedOf, bitsOf}
 use Rattle.numbers.proofs.ByteLaws.{Bytes, byte-at, number-at}
 use Rattle.numbers.proofs.SignLaws.{below-or, bits-lt, bits-signed}
-use Rattle.sample.specs.Value.{denominatorPower, signMagnitude, signBit, characteristic, fraction, ibmValue, wholeValue, gainValue, exactValue}
-use Rattle.sample.specs.Pair.{valueOf, isCanonical}
-use Rattle.sample.specs.Reading.{isCode, badGain}
-use Rattle.sample.specs.Writing.{first, isNegative, isMultiple, numberOf, holds, ibmBits, ibmWord, wholeWord, gainFits, gainAt, gainWord, wordOf, writePair}
-use Rattle.sample.specs.declared.Pair.{Pair}
-use Rattle.sample.specs.declared.Written.{Written}
-use Rattle.sample.specs.declared.Written.the-variants.{Word, Refused}
-use Rattle.sample.proofs.First.{Found, found}
-use Rattle.sample.proofs.Magnitudes.{abs-signed, neg-signed, signed-back}
+use Rattle.value.specs.Value.{denominatorPower, signMagnitude, signBit, characteristic, fraction, ibmValue, wholeValue, gainValue, isCode, exactValue}
+use Rattle.value.specs.Pair.{valueOf, isCanonical}
+use Rattle.value.specs.Writing.{first, isNegative, isMultiple, numberOf, holds, ibmBits, ibmWord, wholeWord, gainFits, gainAt, gainWord, wordOf, writePair}
+use Rattle.value.specs.declared.Pair.{Pair}
+use Rattle.value.specs.declared.Written.{Written}
+use Rattle.value.specs.declared.Written.the-variants.{Word, Refused}
+use Rattle.value.proofs.First.{Found, found}
+use Rattle.value.proofs.Magnitudes.{abs-signed, neg-signed, signed-back}
+use Rattle.sample.specs.Reading.{badGain}
 use Rattle.sample_theorems.proofs.Held.{and-true, mul-quot, in-mag, held-sound, held-complete}
 use Rattle.sample_theorems.proofs.NormalWords.{no-fraction, Parts, parts, bits-parts, value-parts, At, normalise, one-at, written, writes}
 use Rattle.sample_theorems.proofs.WordBytes.{word-number, half-bytes, first-half, gain-first, gain-byte, gain-half}

@@ -1,1 +1,1 @@
-// No code: theorems about single samples, over the definitions that the contracts of `sample` cite.
+// No code: theorems about single samples, over the definitions that the contracts of `value` and `sample` cite.

@@ -19,7 +19,7 @@ use Rattle.reel.specs.Causes.{mostSamples, mostTraces, causesOf, checked, check
 use Rattle.reel.specs.declared.Checked.{Checked}
 use Rattle.reel.specs.declared.Checked.the-variants as checked
 use Rattle.reel.proofs.CheckLaws.{Numbers, Sound, reel-fine, inside}
-use Rattle.sample.specs.Reading.{isCode}
+use Rattle.value.specs.Value.{isCode}
 use Rattle.record.specs.Record.{reelRecord, recordLength}
 use Rattle.record.specs.Answer.{outcome}
 use Rattle.transcribe.specs.Reading.{lengthOf, readCauses, readEnd, readOutcome}

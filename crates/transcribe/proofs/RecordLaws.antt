@@ -19,8 +19,8 @@ use Rattle.numbers.proofs.WalkLaws.{size-walk}
 use Rattle.numbers.proofs.CauseLaws.{passed, then-fine}
 use Rattle.numbers.proofs.ByteLaws.{Bytes, number-at}
 use Rattle.numbers.proofs.SignLaws.{bits-signed}
-use Rattle.sample.specs.Value.{exactValue}
-use Rattle.sample.specs.Reading.{isCode, badGain, readWord}
+use Rattle.value.specs.Value.{isCode, exactValue}
+use Rattle.sample.specs.Reading.{badGain, readWord}
 use Rattle.reel.specs.Layout.{Field, fieldsFrom, binaryWidths, binaryFields, traceWidths, traceFields, fieldNumber, firstTrace, traceHeader, word, samplesOf, intervalOf, codeOf, sampleBytes, strideOf, tracesOf}
 use Rattle.reel.specs.Causes.{mostSamples, neither, wordCause, traceCauses, causesOf}
 use Rattle.reel.specs.Meaning.{cardText, otherThan, binaryNumbers, filled, traceNumber, Trace, traceMeaning, meaningOf}

@@ -7,7 +7,7 @@ ghost use Prim.Native.Nat.{_+_, _*_, _<_, _≤_};
 ghost use lib.ListN.{length};
 ghost use Rattle.numbers.specs.Walk.{flat};
 ghost use Rattle.numbers.specs.BigEndian.{bytesOf};
-ghost use Rattle.sample.specs.Reading.{isCode};
+ghost use Rattle.value.specs.Value.{isCode};
 ghost use Rattle.reel.specs.Layout.{firstTrace, word, sampleBytes, stride};
 ghost use Rattle.reel.specs.Causes.{mostSamples, mostTraces, checkedOf};
 ghost use Rattle.reel.specs.Meaning.{blank};

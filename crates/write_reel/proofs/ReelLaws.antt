@@ -14,9 +14,8 @@ use Rattle.numbers.specs.Cause.{refuseIf, then, firstOf}
 use Rattle.numbers.specs.declared.Check.the-variants.{Fine}
 use Rattle.numbers.proofs.CauseLaws.{passed, then-fine}
 use Rattle.numbers.proofs.ByteLaws.{Bytes}
-use Rattle.sample.specs.Pair.{isCanonical}
-use Rattle.sample.specs.Reading.{isCode}
-use Rattle.sample.specs.Calls.{pairLength, pairIn}
+use Rattle.value.specs.Value.{isCode}
+use Rattle.value.specs.Pair.{isCanonical, pairLength, pairIn}
 use Rattle.reel.specs.Layout.{cardBytes, fieldsFrom, binaryWidths, binaryFields, traceWidths, traceFields, fieldNumber}
 use Rattle.reel.specs.Meaning.{otherThan, Trace, Meaning}
 use Rattle.record.specs.Record.{numberBytes, withCode, binaryBytes}

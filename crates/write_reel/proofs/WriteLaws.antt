@@ -14,7 +14,7 @@ use Rattle.numbers.specs.declared.Check.{Check}
 use Rattle.numbers.specs.declared.Check.the-variants as check
 use Rattle.numbers.proofs.CauseLaws.{passed, then-assoc, then-fine}
 use Rattle.numbers.proofs.ByteLaws.{Bytes}
-use Rattle.sample.specs.Reading.{isCode}
+use Rattle.value.specs.Value.{isCode}
 use Rattle.reel.specs.Layout.{firstTrace, stride, sampleBytes}
 use Rattle.reel.specs.Causes.{mostSamples, mostTraces}
 use Rattle.reel.proofs.CheckLaws.{stride-high}

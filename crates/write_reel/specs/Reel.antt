@@ -5,8 +5,8 @@ use lib.ListN.{replicate, take}
 use lib.IntN.{ℤ}
 use Rattle.numbers.specs.Walk.{flat}
 use Rattle.numbers.specs.BigEndian.{bytesOf}
-use Rattle.sample.specs.Writing.{wordOf, wordBits}
-use Rattle.sample.specs.declared.Written.{Written}
+use Rattle.value.specs.Writing.{wordOf, wordBits}
+use Rattle.value.specs.declared.Written.{Written}
 use Rattle.reel.specs.Layout.{firstTrace, stride, sampleBytes, traceWidths}
 use Rattle.reel.specs.Meaning.{Trace, Meaning}
 use Rattle.record.specs.Record.{numberBytes, binaryBytes}

@@ -10,10 +10,10 @@ use Rattle.numbers.specs.declared.Check.the-variants.{Fine, Refused}
 use Rattle.numbers.specs.declared.Place.{Place}
 use Rattle.numbers.proofs.CauseLaws.{first-none, first-more, first-stop, then-last}
 use Rattle.numbers.proofs.WalkLaws.{walk-more}
-use Rattle.sample.specs.Writing.{writePair}
-use Rattle.sample.specs.Calls.{pairOfBits}
-use Rattle.sample.specs.declared.Written.{Written}
-use Rattle.sample.proofs.PairBytes.{pair-fetched}
+use Rattle.value.specs.Writing.{writePair}
+use Rattle.value.specs.Pair.{pairOfBits}
+use Rattle.value.specs.declared.Written.{Written}
+use Rattle.value.proofs.PairBytes.{pair-fetched}
 use Rattle.write_samples.specs.Samples.{pairRefused, pairCheck}
 
 module _ (s : List ℕ) (code : ℕ) where

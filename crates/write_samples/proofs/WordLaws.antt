@@ -15,13 +15,13 @@ use Rattle.numbers.specs.declared.Check.{Check}
 use Rattle.numbers.specs.declared.Check.the-variants.{Fine}
 use Rattle.numbers.proofs.WalkLaws.{flat-length, flat-more, flat-none, both}
 use Rattle.numbers.proofs.Filling.{Filling, finish, again, lend}
-use Rattle.sample.specs.Reading.{isCode}
-use Rattle.sample.specs.Writing.{writePair, wordBits}
-use Rattle.sample.specs.Calls.{pairLength, pairOfBits}
-use Rattle.sample.specs.declared.Pair.{Pair}
-use Rattle.sample.specs.declared.Written.{Written}
-use Rattle.sample.specs.declared.Written.the-variants.{Word, Refused}
-use Rattle.sample.proofs.PairBytes.{pair-fetched}
+use Rattle.value.specs.Value.{isCode}
+use Rattle.value.specs.Writing.{writePair, wordBits}
+use Rattle.value.specs.Pair.{pairLength, pairOfBits}
+use Rattle.value.specs.declared.Pair.{Pair}
+use Rattle.value.specs.declared.Written.{Written}
+use Rattle.value.specs.declared.Written.the-variants.{Word, Refused}
+use Rattle.value.proofs.PairBytes.{pair-fetched}
 use Rattle.reel.specs.Layout.{sampleBytes}
 use Rattle.write_samples.specs.Samples.{wordBytes, writtenAt, pairCheck, pairsThere, samplesChecked, samplesCopied, samplesWritten}
 

@@ -9,11 +9,11 @@ use Rattle.numbers.specs.BigEndian.{bytesOf}
 use Rattle.numbers.specs.Cause.{firstOf}
 use Rattle.numbers.specs.declared.Check.{Check}
 use Rattle.numbers.specs.declared.Check.the-variants.{Fine, Refused}
-use Rattle.sample.specs.Reading.{isCode}
-use Rattle.sample.specs.Writing.{writePair, wordBits}
-use Rattle.sample.specs.Calls.{pairLength, pairIn}
-use Rattle.sample.specs.declared.Written.{Written}
-use Rattle.sample.specs.declared.Written.the-variants as written
+use Rattle.value.specs.Value.{isCode}
+use Rattle.value.specs.Writing.{writePair, wordBits}
+use Rattle.value.specs.Pair.{pairLength, pairIn}
+use Rattle.value.specs.declared.Written.{Written}
+use Rattle.value.specs.declared.Written.the-variants as written
 use Rattle.reel.specs.Layout.{sampleBytes}
 
 -- What writing the pair at a place gives.

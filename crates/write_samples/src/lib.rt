@@ -7,12 +7,12 @@ ghost use lib.ListN.{length, take};
 ghost use Rattle.numbers.specs.Walk.{walk, bytesAt};
 ghost use Rattle.numbers.specs.BigEndian.{number, bytesOf};
 ghost use Rattle.numbers.specs.Cause.{firstOf};
-ghost use Rattle.sample.specs.Reading.{isCode};
+ghost use Rattle.value.specs.Value.{isCode};
 ghost use Rattle.reel.specs.Layout.{sampleBytes};
 ghost use Rattle.write_samples.specs.Samples.{pairRefused, pairCheck, samplesCopied, samplesChecked, samplesWritten};
 use numbers::Check;
 use numbers::Place;
-use sample::Written;
+use value::Written;
 
 // The bits of the exponent and of the mantissa of the pair at a place.
 fn exponent_at(record: &[u8], at: usize) -> u16
@@ -57,7 +57,7 @@ fn check_ibm(record: &[u8], n: usize, start: usize) -> Check
     let mut e = exponent_at(record, start);
     let mut m = mantissa_at(record, start);
     while 0 < left {
-        let word = sample::pair_of_bits(e, m).ibm_word();
+        let word = value::pair_of_bits(e, m).ibm_word();
         let Written::Word { bits: _ } = word else {
             return refused(word, at);
         };
@@ -66,7 +66,7 @@ fn check_ibm(record: &[u8], n: usize, start: usize) -> Check
         m = mantissa_at(record, at);
         left -= 1;
     }
-    let word = sample::pair_of_bits(e, m).ibm_word();
+    let word = value::pair_of_bits(e, m).ibm_word();
     let Written::Word { bits: _ } = word else {
         return refused(word, at);
     };
@@ -85,7 +85,7 @@ fn check_whole32(record: &[u8], n: usize, start: usize) -> Check
     let mut e = exponent_at(record, start);
     let mut m = mantissa_at(record, start);
     while 0 < left {
-        let word = sample::pair_of_bits(e, m).whole32_word();
+        let word = value::pair_of_bits(e, m).whole32_word();
         let Written::Word { bits: _ } = word else {
             return refused(word, at);
         };
@@ -94,7 +94,7 @@ fn check_whole32(record: &[u8], n: usize, start: usize) -> Check
         m = mantissa_at(record, at);
         left -= 1;
     }
-    let word = sample::pair_of_bits(e, m).whole32_word();
+    let word = value::pair_of_bits(e, m).whole32_word();
     let Written::Word { bits: _ } = word else {
         return refused(word, at);
     };
@@ -113,7 +113,7 @@ fn check_whole16(record: &[u8], n: usize, start: usize) -> Check
     let mut e = exponent_at(record, start);
     let mut m = mantissa_at(record, start);
     while 0 < left {
-        let word = sample::pair_of_bits(e, m).whole16_word();
+        let word = value::pair_of_bits(e, m).whole16_word();
         let Written::Word { bits: _ } = word else {
             return refused(word, at);
         };
@@ -122,7 +122,7 @@ fn check_whole16(record: &[u8], n: usize, start: usize) -> Check
         m = mantissa_at(record, at);
         left -= 1;
     }
-    let word = sample::pair_of_bits(e, m).whole16_word();
+    let word = value::pair_of_bits(e, m).whole16_word();
     let Written::Word { bits: _ } = word else {
         return refused(word, at);
     };
@@ -141,7 +141,7 @@ fn check_gain(record: &[u8], n: usize, start: usize) -> Check
     let mut e = exponent_at(record, start);
     let mut m = mantissa_at(record, start);
     while 0 < left {
-        let word = sample::pair_of_bits(e, m).gain_word();
+        let word = value::pair_of_bits(e, m).gain_word();
         let Written::Word { bits: _ } = word else {
             return refused(word, at);
         };
@@ -150,7 +150,7 @@ fn check_gain(record: &[u8], n: usize, start: usize) -> Check
         m = mantissa_at(record, at);
         left -= 1;
     }
-    let word = sample::pair_of_bits(e, m).gain_word();
+    let word = value::pair_of_bits(e, m).gain_word();
     let Written::Word { bits: _ } = word else {
         return refused(word, at);
     };
@@ -197,14 +197,14 @@ fn put_ibm(record: &[u8], n: usize, start: usize, out: &mut [u8])
     let mut m = mantissa_at(record, start);
     while 0 < left {
         let next = o + 4;
-        numbers::put32(sample::pair_of_bits(e, m).ibm_bits(), &mut out[o..next]);
+        numbers::put32(value::pair_of_bits(e, m).ibm_bits(), &mut out[o..next]);
         at += 6;
         e = exponent_at(record, at);
         m = mantissa_at(record, at);
         o = next;
         left -= 1;
     }
-    numbers::put32(sample::pair_of_bits(e, m).ibm_bits(), &mut out[o..o + 4]);
+    numbers::put32(value::pair_of_bits(e, m).ibm_bits(), &mut out[o..o + 4]);
 }
 
 fn put_whole32(record: &[u8], n: usize, start: usize, out: &mut [u8])
@@ -221,17 +221,14 @@ fn put_whole32(record: &[u8], n: usize, start: usize, out: &mut [u8])
     let mut m = mantissa_at(record, start);
     while 0 < left {
         let next = o + 4;
-        numbers::put32(sample::pair_of_bits(e, m).whole32_bits(), &mut out[o..next]);
+        numbers::put32(value::pair_of_bits(e, m).whole32_bits(), &mut out[o..next]);
         at += 6;
         e = exponent_at(record, at);
         m = mantissa_at(record, at);
         o = next;
         left -= 1;
     }
-    numbers::put32(
-        sample::pair_of_bits(e, m).whole32_bits(),
-        &mut out[o..o + 4],
-    );
+    numbers::put32(value::pair_of_bits(e, m).whole32_bits(), &mut out[o..o + 4]);
 }
 
 fn put_whole16(record: &[u8], n: usize, start: usize, out: &mut [u8])
@@ -248,17 +245,14 @@ fn put_whole16(record: &[u8], n: usize, start: usize, out: &mut [u8])
     let mut m = mantissa_at(record, start);
     while 0 < left {
         let next = o + 2;
-        put_half(sample::pair_of_bits(e, m).whole16_bits(), &mut out[o..next]);
+        put_half(value::pair_of_bits(e, m).whole16_bits(), &mut out[o..next]);
         at += 6;
         e = exponent_at(record, at);
         m = mantissa_at(record, at);
         o = next;
         left -= 1;
     }
-    put_half(
-        sample::pair_of_bits(e, m).whole16_bits(),
-        &mut out[o..o + 2],
-    );
+    put_half(value::pair_of_bits(e, m).whole16_bits(), &mut out[o..o + 2]);
 }
 
 fn put_gain(record: &[u8], n: usize, start: usize, out: &mut [u8])
@@ -275,14 +269,14 @@ fn put_gain(record: &[u8], n: usize, start: usize, out: &mut [u8])
     let mut m = mantissa_at(record, start);
     while 0 < left {
         let next = o + 4;
-        numbers::put32(sample::pair_of_bits(e, m).gain_bits(), &mut out[o..next]);
+        numbers::put32(value::pair_of_bits(e, m).gain_bits(), &mut out[o..next]);
         at += 6;
         e = exponent_at(record, at);
         m = mantissa_at(record, at);
         o = next;
         left -= 1;
     }
-    numbers::put32(sample::pair_of_bits(e, m).gain_bits(), &mut out[o..o + 4]);
+    numbers::put32(value::pair_of_bits(e, m).gain_bits(), &mut out[o..o + 4]);
 }
 
 // The samples of a trace under a code, which is 1 to 4.

@@ -1,5 +1,5 @@
 -- `read_samples::do_fit` meets its contract. Assumes nothing.
-use Rattle.sample.specs.Reading.{isCode}
+use Rattle.value.specs.Value.{isCode}
 use Rattle.reel.specs.Layout.{sampleBytes}
 use borrow.Author.Tests.{leb-true, leb-false, not-true, not-false, ne-eqb}
 use lib.Dec.{leb}

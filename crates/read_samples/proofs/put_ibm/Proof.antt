@@ -1,7 +1,7 @@
 -- `read_samples::put_ibm` meets its contract. Assumes nothing.
 use Rattle.read_samples.proofs.SampleLaws.{size-samples, samples-none, next-put, last-put, ibm-copied}
 use Rattle.read_samples.specs.Samples.{sampleContent, sampleCopied, samplesCopied}
-use Rattle.sample.specs.Value.{ibmValue}
+use Rattle.value.specs.Value.{ibmValue}
 use Rattle.sample.specs.Reading.{pairTaken}
 use Rattle.numbers.proofs.Filling.{Filling, start as begin, finish, again}
 use Rattle.numbers.proofs.WalkLaws.{times-more}

@@ -1,5 +1,5 @@
 -- `read_samples::put_ibm_word` meets its contract. Assumes nothing.
-use Rattle.sample.specs.Value.{ibmValue}
+use Rattle.value.specs.Value.{ibmValue}
 use Rattle.sample.specs.Reading.{pairTaken}
 use lib.ListN.{length}
 use native.Mathlib.Omega.{arith}

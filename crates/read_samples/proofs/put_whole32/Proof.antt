@@ -1,7 +1,7 @@
 -- `read_samples::put_whole32` meets its contract. Assumes nothing.
 use Rattle.read_samples.proofs.SampleLaws.{size-samples, samples-none, next-put, last-put, whole32-copied}
 use Rattle.read_samples.specs.Samples.{sampleContent, sampleCopied, samplesCopied}
-use Rattle.sample.specs.Value.{wholeValue}
+use Rattle.value.specs.Value.{wholeValue}
 use Rattle.sample.specs.Reading.{pairTaken}
 use Rattle.numbers.proofs.Filling.{Filling, start as begin, finish, again}
 use Rattle.numbers.proofs.WalkLaws.{times-more}

@@ -1,6 +1,6 @@
 -- `read_samples::put_whole32_word` meets its contract. Assumes nothing.
 use Rattle.numbers.specs.TwosComplement.{signedOf}
-use Rattle.sample.specs.Value.{wholeValue}
+use Rattle.value.specs.Value.{wholeValue}
 use Rattle.sample.specs.Reading.{pairTaken}
 use lib.ListN.{length}
 use native.Mathlib.Omega.{arith}

@@ -6,8 +6,7 @@ use Rattle.numbers.specs.Walk.{walk}
 use Rattle.record.specs.Form.{pairCause}
 use Rattle.numbers.specs.Cause.{refuseIf}
 use Rattle.numbers.specs.Walk.{bytesAt}
-use Rattle.sample.specs.Pair.{isCanonical}
-use Rattle.sample.specs.Calls.{pairIn}
+use Rattle.value.specs.Pair.{isCanonical, pairIn}
 use mathlib.Core.Bool.{not}
 use borrow.Author.Tests.{not-true, not-false}
 use lib.ListN.{length}

@@ -4,7 +4,7 @@ use Rattle.record.specs.Form.{cardsCauses, binaryCauses, heldSamples, he
 use Rattle.record.specs.Target.{targetCauses}
 use Rattle.record.specs.Parts.{formFrom, fitFrom}
 use Rattle.reel.specs.Causes.{mostTraces}
-use Rattle.sample.specs.Reading.{isCode}
+use Rattle.value.specs.Value.{isCode}
 use Rattle.numbers.proofs.CauseLaws.{then-stop, passed}
 use Rattle.numbers.specs.Cause.{then}
 use Rattle.numbers.specs.declared.Check.the-variants.{Fine}

@@ -1,6 +1,6 @@
 -- `record::pair_at` meets its contract. Assumes nothing.
 use Rattle.numbers.specs.Walk.{bytesAt}
-use Rattle.sample.specs.Calls.{pairIn}
+use Rattle.value.specs.Pair.{pairIn}
 use lib.ListN.{getD}
 use Prim.Native.Nat.{ℕ, _+_}
 use mathlib.Core.List.{List, [], _∷_}

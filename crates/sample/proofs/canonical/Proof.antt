@@ -1,5 +1,5 @@
 -- `sample::canonical` meets its contract. Assumes nothing.
-use Rattle.sample.proofs.Pairs.{taken-any, shifted-lt}
+use Rattle.sample.proofs.Taken.{taken-any, shifted-lt}
 use mir.Facts.{toZ-ofZ}
 use mir.Syntax.{w16, w32}
 use lib.Count.{trailing-le}

@@ -1,6 +1,6 @@
 -- `sample::exponent` meets its contract. Assumes nothing.
-use Rattle.sample.proofs.Pairs.{sfits-sub}
-use Rattle.sample.specs.Value.{denominatorPower}
+use Rattle.value.specs.Value.{denominatorPower}
+use Rattle.value.proofs.Pairs.{sfits-sub}
 use mir.Facts.{toZ-pos, toZ-ofZ}
 use mir.Syntax.{w16}
 use native.Mathlib.Omega.{arith}

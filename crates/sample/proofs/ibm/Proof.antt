@@ -1,5 +1,5 @@
 -- `sample::ibm` meets its contract. Assumes nothing.
-use Rattle.sample.proofs.Pairs.{sixteens}
+use Rattle.value.proofs.Pairs.{sixteens}
 use Prim.Native.Nat.{_/_, _%_, _^_}
 use borrow.Author.Needs.{needs}
 use Rattle.sample.proofs.ibm.Statement.{statement}

@@ -1,5 +1,5 @@
 -- `sample::read` meets its contract. Assumes nothing.
-use Rattle.sample.proofs.Codes.{no-code}
+use Rattle.value.proofs.Codes.{no-code}
 use Rattle.numbers.specs.Walk.{pick, bytesAt}
 use mathlib.Core.Bool.{Bool, true, false, not}
 use mathlib.Core.Path.{_≡_, refl}

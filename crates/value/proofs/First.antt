@@ -1,0 +1,47 @@
+-- What `first` finds. Assumes nothing.
+use mathlib.Core.Path.{_≡_, refl, sym, ap, _∙_, subst}
+use mathlib.Core.Logic.{_⊎_, inl, inr, ⊎-elim}
+use mathlib.Core.Bool.{Bool, true, false}
+use Rattle.numbers.specs.Walk.{pick}
+use Prim.Native.Nat.{ℕ, zero, suc, _+_, _≤_, _<_}
+use native.Mathlib.Nat.{add-zero, add-suc, suc-add, eq-or-lt-of-le}
+use native.Mathlib.Omega.{arith}
+use Rattle.value.specs.Writing.{first}
+
+-- the first number at which the test holds
+pub first-at : (t : ℕ → Bool) (n i c : ℕ) → i ≤ c → c < i + n → t c ≡ true → ((x : ℕ) → i ≤ x → x < c → t x ≡ false) → first t n i ≡ c
+unfolding first
+first-at t zero i c l h e f = omega arith
+first-at t (suc n) i c l h e f =
+    ⊎-elim (λ (q : i ≡ c). rw (ap t q ∙ e) q)
+    (λ (q : i < c). rw (f i (omega arith) q) (first-at t n (suc i) c q (omega arith) e (λ x p. f x (omega arith)))) (eq-or-lt-of-le l)
+
+-- there is none
+pub first-none : (t : ℕ → Bool) (n i : ℕ) → ((x : ℕ) → i ≤ x → x < i + n → t x ≡ false) → first t n i ≡ i + n
+unfolding first
+first-none t zero i f = sym (add-zero i)
+first-none t (suc n) i f = rw (f i (omega arith) (omega arith)) (first-none t n (suc i) (λ x p q. f x (omega arith) (omega arith)) ∙ omega arith)
+
+-- what is found passes, and nothing before it does
+pub record Found (t : ℕ → Bool) (n i r : ℕ) : Type 0 where
+  pub from : i ≤ r
+  pub passes : r < i + n → t r ≡ true
+  pub before : (x : ℕ) → i ≤ x → x < r → t x ≡ false
+
+pub found : (t : ℕ → Bool) (n i : ℕ) → Found t n i (first t n i)
+unfolding first
+found t zero i = record { from = omega arith; passes = λ h. absurd (none h); before = λ x p q. absurd (no x p q) }
+  where
+    none : i < i + 0 → ⊥
+    none h = omega arith
+
+    no : (x : ℕ) → i ≤ x → x < i → ⊥
+    no x p q = omega arith
+found t (suc n) i = go (t i) refl (found t n (suc i))
+  where
+    go : (b : Bool) → t i ≡ b → Found t n (suc i) (first t n (suc i)) → Found t (suc n) i (pick b i (first t n (suc i)))
+    go true e r = record { from = omega arith; passes = λ h. e; before = λ x p q. absurd (no x p q) }
+      where
+        no : (x : ℕ) → i ≤ x → x < i → ⊥
+        no x p q = omega arith
+    go false e r = record { from = omega (arith, r .from); passes = λ h. r .passes (omega arith); before = λ x p q. ⊎-elim (λ (s : i ≡ x). sym (ap t s) ∙ e) (λ (s : i < x). r .before x s q) (eq-or-lt-of-le p) }

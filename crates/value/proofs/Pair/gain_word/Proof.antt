@@ -1,0 +1,49 @@
+-- `value::Pair::gain_word` meets its contract. Assumes nothing.
+use Rattle.value.proofs.PartsLaws.{not-canonical, zero-pair, odd-pair, zero-gain}
+use Rattle.value.specs.declared.Parts.the-variants.{Odd}
+use Rattle.value.specs.Parts.{PartsOf}
+use mathlib.Core.Path.{_≡_, refl, sym, subst, _∙_}
+use borrow.Author.Needs.{needs}
+use Rattle.value.proofs.Pair.gain_word.Statement.{statement}
+use Rattle.value.proofs.Pair.gain_word.Tie as tie
+
+-- the pair taken apart
+apart : (c : tie.After-neg) → PartsOf (c .before .before .before .args .self) (Odd (c .neg .given .0 .0) (c .neg .given .0 .1 .0) (c .neg .given .0 .1 .1 .0))
+apart c = subst (PartsOf (c .before .before .before .args .self)) (c .neg .given .1) (c .before .before .parts .ensures)
+
+parts-requires : tie.Need-parts-requires
+parts-requires c κs = search needs
+
+enum-told : tie.Need-enum-told
+enum-told c = search needs
+
+enum-told-2 : tie.Need-enum-told-2
+enum-told-2 c = search needs
+
+enum-known-neg : tie.Need-enum-known-neg
+enum-known-neg c = search needs
+
+gain-of-requires : tie.Need-gain-of-requires
+gain-of-requires c κs = let a = apart (c .before) .1 in (a .odd, a .low)
+
+returns : tie.Need-returns
+returns c = let p = c .before .before .before .args .self in sym (not-canonical 4 p refl (subst (PartsOf p) (c .enum-told .given .1) (c .before .before .parts .ensures)))
+
+returns-2 : tie.Need-returns-2
+returns-2 c = let p = c .before .before .before .args .self in sym (zero-pair 4 p refl zero-gain (subst (PartsOf p) (c .enum-told2 .given .1) (c .before .before .parts .ensures)))
+
+returns-3 : tie.Need-returns-3
+returns-3 c = c .gain-of .ensures ∙ sym (odd-pair 4 (c .before .before .before .before .before .args .self) refl _ _ _ (apart (c .before .before)))
+
+pub gain-word-spec : {M : Type 1} → statement M
+gain-word-spec =
+    tie.close
+    (tie.spec
+    parts-requires
+    enum-told
+    enum-told-2
+    enum-known-neg
+    gain-of-requires
+    returns
+    returns-2
+    returns-3)

@@ -1,0 +1,108 @@
+-- `value::Pair::parts` meets its contract. Assumes nothing.
+use Rattle.value.proofs.Apart.{highest, shift-is, is-mantissa, zero-bits, bits-zero, zero-yes, zero-no, even-no, high-no, zero-value, apart}
+use Rattle.value.specs.declared.Pair.{Pair}
+use Rattle.value.specs.Value.{denominatorPower}
+use Rattle.numbers.specs.TwosComplement.{bitsOf}
+use mir.Facts.{toZ-ofZ}
+use mir.Val.{SFits}
+use mir.Syntax.{w16, w32}
+use lib.Signed.{mag}
+use lib.IntN.{natAbs}
+use borrow.Author.Tests.{lt-leb}
+use Prim.Native.Nat.{ℕ, _+_, _%_, _^_, _≤_, _<_}
+use mathlib.Core.Path.{_≡_, sym, ap, _∙_}
+use native.Mathlib.Omega.{arith}
+use borrow.Author.Needs.{needs}
+use Rattle.value.proofs.Pair.parts.Statement.{statement}
+use Rattle.value.proofs.Pair.parts.Tie as tie
+
+-- the pair's numbers fit their types; n has the bits of m and o its magnitude
+record Known (p : Pair) (n o : ℕ) : Type 0 where
+  se : SFits w16 (p .e)
+  fe : mag (p .e) < 2 ^ 15
+  fm : mag (p .m) < 2 ^ 31
+  bits : n ≡ bitsOf 32 (p .m)
+  abs : o ≡ natAbs (p .m)
+  most : o ≤ 2 ^ 31
+
+known : (c : tie.After-magnitude32) → Known (c .before .before .before .args .self) (c .before .bits32 .result) (c .magnitude32 .result)
+known c =
+    let p = c .before .before .before .args .self in
+    let x : SFits w16 (p .e) = search needs in
+    let y : SFits w32 (p .m) = search needs in
+    let b : c .before .bits32 .result ≡ bitsOf 32 (p .m) = c .before .bits32 .ensures ∙ ap (bitsOf 32) (toZ-ofZ y) in
+    record {
+      se = x;
+      fe = x .sfits;
+      fm = y .sfits;
+      bits = b;
+      abs = c .magnitude32 .ensures .0 ∙ ap natAbs (is-mantissa _ (p .m) (y .sfits) b);
+      most = c .magnitude32 .ensures .1;
+    }
+
+shifted : (c : tie.After-shift) → c .shift .result ≡ (bitsOf 16 (c .before .before .before .before .before .before .args .self .e) + denominatorPower) % 2 ^ 16
+shifted c =
+    c .shift .ensures ∙ ap (λ z. (bitsOf 16 z + denominatorPower) % 2 ^ 16) (toZ-ofZ (known (c .before .before .before) .se))
+
+odd : (c : tie.Else4) → c .before .before .before .before .before .magnitude32 .result % 2 ≡ 1
+odd c = omega (arith, c .before .if3 .left)
+
+bits32-requires : tie.Need-bits32-requires
+bits32-requires c κs = search needs
+
+magnitude32-requires : tie.Need-magnitude32-requires
+magnitude32-requires c κs = search needs
+
+bits16-requires : tie.Need-bits16-requires
+bits16-requires c κs = search needs
+
+returns : tie.Need-returns
+returns c =
+    let k = known (c .before .before .before .before) in
+    let p = c .before .before .before .before .before .before .before .args .self in
+    let m : natAbs (p .m) ≡ 0 = sym (k .abs) ∙ c .before .before .before .if1 .taken in
+    let e : natAbs (p .e) ≡ 0 = zero-bits (p .e) (k .fe) (sym (c .before .bits16 .ensures ∙ ap (bitsOf 16) (toZ-ofZ (k .se))) ∙ c .if2 .taken) in
+    (zero-yes p m e, zero-value p m)
+
+returns-2 : tie.Need-returns-2
+returns-2 c =
+    let k = known (c .before .before .before .before) in
+    let p = c .before .before .before .before .before .before .before .args .self in
+    let m : natAbs (p .m) ≡ 0 = sym (k .abs) ∙ c .before .before .before .if1 .taken in
+    zero-no p m (λ h. c .if2 .left (c .before .bits16 .ensures ∙ ap (bitsOf 16) (toZ-ofZ (k .se)) ∙ bits-zero (p .e) h))
+
+shift-requires : tie.Need-shift-requires
+shift-requires c κs = search needs
+
+returns-3 : tie.Need-returns-3
+returns-3 c =
+    let k = known (c .before .before .before .before) in
+    let p = c .before .before .before .before .before .before .before .args .self in
+    even-no p (λ h. c .before .before .before .if1 .left (k .abs ∙ h)) (sym (ap (λ (x : ℕ). x % 2) (k .abs)) ∙ c .if3 .taken)
+
+returns-4 : tie.Need-returns-4
+returns-4 c =
+    let k = known (c .before .before .before .before .before) in
+    let p = c .before .before .before .before .before .before .before .before .args .self in
+    high-no p (λ h. c .before .before .before .before .if1 .left (k .abs ∙ h))
+    (sym (shift-is (p .e) (k .fe)) ∙ rw (← (shifted (c .before .before))) (lt-leb _ highest (c .if4 .taken)))
+
+returns-5 : tie.Need-returns-5
+returns-5 c =
+    let k = known (c .before .before .before .before .before) in
+    let p = c .before .before .before .before .before .before .before .before .args .self in
+    rw (k .abs) (apart p _ _ (k .fe) (k .fm) (k .bits) (shifted (c .before .before)) (rw (k .abs) at (odd c)) (rw (k .abs) at (k .most)) (c .if4 .left))
+
+pub parts-spec : {M : Type 1} → statement M
+parts-spec =
+    tie.close
+    (tie.spec
+    bits32-requires
+    magnitude32-requires
+    bits16-requires
+    returns
+    returns-2
+    shift-requires
+    returns-3
+    returns-4
+    returns-5)

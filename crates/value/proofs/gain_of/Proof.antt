@@ -1,0 +1,102 @@
+-- `value::gain_of` meets its contract. Assumes nothing.
+use Rattle.value.proofs.WholeLaws.{gain-low, gain-beyond, gain-word}
+use Rattle.value.proofs.Twos.{odd-shl}
+use Rattle.value.specs.declared.Whole.the-variants.{Below}
+use Rattle.value.specs.Parts.{WholeBelow}
+use Rattle.value.specs.Value.{denominatorPower}
+use Rattle.numbers.specs.Walk.{pick}
+use Prim.Native.Nat.{ℕ, _+_, _-_, _^_, min}
+use mathlib.Core.Path.{_≡_, sym, ap, _∙_, subst}
+use native.Mathlib.Omega.{arith}
+use borrow.Author.Needs.{needs}
+use Rattle.value.proofs.gain_of.Statement.{statement}
+use Rattle.value.proofs.gain_of.Tie as tie
+
+-- the smallest gain
+least : (c : tie.Else1) → denominatorPower - c .before .lesser .result ≡ denominatorPower - min (c .before .before .args .k) denominatorPower
+least c = ap (λ (x : ℕ). denominatorPower - x) (c .before .lesser .ensures)
+
+below : (c : tie.After-q)
+    → let s = c .before .before .before .before in
+    let a = s .before .before .args in
+    WholeBelow (a .o) (a .k + (denominatorPower - s .before .lesser .result)) (2 ^ 15 + pick (a .neg) 1 0) (Below (c .q .given .0 .0))
+below c =
+    let s = c .before .before .before .before in
+    let a = s .before .before .args in
+    let l = c .before .before .before .limit16 in
+    let b = subst (WholeBelow (a .o) (a .k + (denominatorPower - s .before .lesser .result)) (l .result)) (c .q .given .1) (c .before .before .whole-below .ensures) in
+    rw (l .ensures .0) at b
+
+lesser-requires : tie.Need-lesser-requires
+lesser-requires c κs = search needs
+
+sub-g : tie.Need-sub-g
+sub-g c = search needs
+
+returns : tie.Need-returns
+returns c =
+    let a = c .before .before .args in
+    sym (gain-low (a .neg) (a .o) (a .k) (c .before .before .pre .0) (rw (c .before .lesser .ensures) at (c .if1 .taken)))
+
+add-whole-below : tie.Need-add-whole-below
+add-whole-below c = search needs
+
+limit16-requires : tie.Need-limit16-requires
+limit16-requires c κs = search needs
+
+whole-below-requires : tie.Need-whole-below-requires
+whole-below-requires c κs = search needs
+
+enum-known-q : tie.Need-enum-known-q
+enum-known-q c = search needs
+
+mul-t11 : tie.Need-mul-t11
+mul-t11 c = search needs
+
+complement16-requires : tie.Need-complement16-requires
+complement16-requires c κs =
+    let b = below (c .before) in
+    let s = c .before .before .before .before .before .before .before in
+    let g = denominatorPower - c .before .before .before .before .before .before .lesser .result in
+    (omega (arith, b .1, odd-shl (s .args .o) (s .args .k + g - denominatorPower) (s .pre .0)), b .2)
+
+add-t13 : tie.Need-add-t13
+add-t13 c = search needs
+
+enum-told : tie.Need-enum-told
+enum-told c = search needs
+
+returns-2 : tie.Need-returns-2
+returns-2 c =
+    let b = below (c .before .before) in
+    let s = c .before .before .before .before .before .before .before .before in
+    let a = s .args in
+    let e = c .before .before .before .before .before .before in
+    rw (c .complement16 .ensures .0) (sym (gain-word (a .neg) (a .o) (a .k) (s .pre .0) _ _ (least e) (e .if1 .left) (b .1) (b .2)))
+
+returns-3 : tie.Need-returns-3
+returns-3 c =
+    let s = c .before .before .before .before .before .before in
+    let a = s .args in
+    let e = c .before .before .before .before in
+    let l = c .before .before .before .limit16 in
+    let b = subst (WholeBelow (a .o) (a .k + (denominatorPower - e .before .lesser .result)) (l .result)) (c .enum-told .given .1) (c .before .before .whole-below .ensures) in
+    sym (gain-beyond (a .neg) (a .o) (a .k) (s .pre .0) _ 0 (least e) (e .if1 .left) (rw (l .ensures .0) at b))
+
+pub gain-of-spec : {M : Type 1} → statement M
+gain-of-spec =
+    tie.close
+    (tie.spec
+    lesser-requires
+    sub-g
+    returns
+    add-whole-below
+    limit16-requires
+    whole-below-requires
+    enum-known-q
+    mul-t11
+    complement16-requires
+    add-t13
+    enum-told
+    returns-2
+    returns-3)

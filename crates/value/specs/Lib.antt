@@ -1,0 +1,4 @@
+pub mod Value
+pub mod Pair
+pub mod Writing
+pub mod Parts
