@@ -1,8 +1,9 @@
 /* Aukpocket: SEG-Y revision 0 reels and their canonical records.
  *
  * Link with libaukpocket.a (`rt staticlib aukpocket` makes target/staticlib/libaukpocket.a, for x86-64 Linux). Nothing is allocated
- * and nothing is kept: each call works on the buffers that it is lent, takes every input, and ends. A refused call changes no byte of
- * its output, and the rest of a longer output keeps its content. Calls on different buffers may run at the same time.
+ * and nothing is kept: each call works on the buffers that it is lent, takes every input, and ends. A refused call on a reel or record
+ * changes no byte of its output, and the rest of a longer output keeps its content; a refused single-sample call sets its output to 00.
+ * Calls on different buffers may run at the same time.
  *
  * A buffer is a pointer and a length. The pointer must be valid for that many bytes, and not null, even where the length is 0; an
  * output must not overlap an input.

@@ -48,10 +48,10 @@ def with_bytes(data, place, other):
 
 
 def limited(kind, most):
-    """What a child does first: takes a limit on its file sizes or memory, and ignores the signal that goes with it."""
+    """What a child does first: takes a limit on its file sizes or memory. The signal that goes with it is as a shell leaves it."""
 
     def first():
-        signal.signal(signal.SIGXFSZ, signal.SIG_IGN)
+        signal.signal(signal.SIGXFSZ, signal.SIG_DFL)
         resource.setrlimit(kind, (most, most))
 
     return first
@@ -191,6 +191,26 @@ class Sample(Case):
         self.assertEqual(self.fine("check", stdin=example()), "taken 1 2 3471\n")
 
 
+class Readme(Case):
+    """The session that the README shows: what is typed there says what it shows there."""
+
+    def test_the_session(self):
+        shutil.copytree(TOP / "examples", self.folder / "examples")
+        (self.folder / "target").mkdir()
+        part = (TOP / "README.md").read_text().split("\n## The command\n")[1].split("\n## ")[0]
+        session = "\n".join(line[4:] for line in part.splitlines() if line.startswith("    "))
+        typed = re.findall(r"^\$ (.*)\n((?:(?!\$ ).*\n?)*)", session + "\n", re.M)
+        self.assertGreater(len(typed), 5)
+        first = re.search(r"^    target/cli/release/(aukpocket read .*)$", (TOP / "README.md").read_text(), re.M).group(1)
+        path = {**os.environ, "PATH": f"{COMMAND.parent}:{os.environ['PATH']}"}
+        for line, shown in [(first, None), *typed]:
+            run = subprocess.run(line, shell=True, cwd=self.folder, env=path, stdout=subprocess.PIPE, stderr=subprocess.STDOUT, text=True)
+            if shown is not None:
+                self.assertEqual(run.stdout, shown, line)
+            else:
+                self.assertEqual(run.returncode, 0, run.stdout)
+
+
 class Help(Case):
     def test_help(self):
         whole = self.fine("--help")
@@ -204,6 +224,9 @@ class Help(Case):
             self.assertTrue(said.startswith(f"aukpocket {command}"), said)
             self.assertIn("Exit status", said)
             self.assertEqual(said, self.fine(command, "some", "words", "-h"))
+            self.assertEqual(said, self.fine("help", command))
+        self.assertEqual(whole, self.fine("help"))
+        self.assertEqual(whole, self.fine("help", "fetch"))
 
     def test_wrong_words(self):
         for words in (
@@ -482,8 +505,14 @@ class Files(Case):
         reel.chmod(0o644)
         self.folder.chmod(0o555)
         said = self.trouble(1, "read", reel, self.folder / "output", **other)
-        self.folder.chmod(0o777)
         self.assertIn("output: can't be written: Permission denied", said)
+        # It is said before the work: nobody feeds this pipe, so the command would wait for ever.
+        pipe = Path(ROOM) / "pipe"
+        os.mkfifo(pipe)
+        pipe.chmod(0o644)
+        self.assertEqual(self.trouble(1, "read", pipe, self.folder / "output", **other), said)
+        pipe.unlink()
+        self.folder.chmod(0o777)
         self.assertEqual(self.names(), ["sample.sgy"])
         self.fine("read", reel, self.folder / "output", **other)
 
@@ -561,8 +590,13 @@ class Files(Case):
         ours, theirs = os.pipe()
         os.close(ours)
         run = self.run_command("look", "--help", stdout=theirs)
-        os.close(theirs)
         self.assertEqual((run.returncode, run.stderr), (1, b""))
+        # The work is done by then, so that nobody reads of it is no trouble.
+        output = self.folder / "output"
+        run = self.run_command("read", SAMPLE, output, stdout=theirs)
+        os.close(theirs)
+        self.assertEqual((run.returncode, run.stderr), (0, b""))
+        self.assertEqual(output.read_bytes(), reels.record_of(SAMPLE.read_bytes()))
 
     def test_names_that_are_no_text(self):
         strange = os.fsencode(self.folder) + b"/\xff\xfe.sgy"
@@ -651,6 +685,24 @@ class Large(Case):
             else:
                 self.assertEqual(output.stat().st_size, self.length)
         self.assertGreater(halves, 0, "no run was killed while it wrote")
+
+    def test_told_to_end_while_it_writes(self):
+        """Unlike a kill, a signal that asks for the end leaves no temporary file either."""
+        output = self.folder / "output"
+        for number in (signal.SIGINT, signal.SIGTERM, signal.SIGHUP):
+            ended = False
+            for _ in range(8):
+                run = subprocess.Popen([str(COMMAND), "read", str(self.reel), str(output)], stdout=subprocess.DEVNULL)
+                while run.poll() is None and not list(self.folder.glob("*.partial")):
+                    pass
+                time.sleep(0.001)
+                run.send_signal(number)
+                ended |= run.wait() == -number
+                self.assertLessEqual(set(self.names()), {"output"})
+                if output.exists():
+                    self.assertEqual(output.stat().st_size, self.length)
+                    output.unlink()
+            self.assertTrue(ended, "no run was ended while it wrote")
 
     def test_killed_at_any_time(self):
         output = self.folder / "output"
@@ -765,6 +817,101 @@ class Wrong(Built):
         self.assertIn("is missing: run `rt staticlib aukpocket` in the repository's root, which makes it.", run.stderr)
 
 
+# Notes each sync, link and rename of a run.
+NOTES = r"""
+#define _GNU_SOURCE
+#include <dlfcn.h>
+#include <stdio.h>
+#include <stdlib.h>
+#include <sys/stat.h>
+#include <unistd.h>
+static void note(const char *what)
+{
+    FILE *file = fopen(getenv("NOTES"), "a");
+    fprintf(file, "%s\n", what);
+    fclose(file);
+}
+int fsync(int fd)
+{
+    struct stat about;
+    fstat(fd, &about);
+    note(S_ISDIR(about.st_mode) ? "sync folder" : about.st_size == 13029 ? "sync file" : "sync part");
+    return ((int (*)(int))dlsym(RTLD_NEXT, "fsync"))(fd);
+}
+int linkat(int a, const char *from, int b, const char *to, int flags)
+{
+    note("link");
+    if (getenv("NO_LINKS") != NULL)
+        return ((int (*)(int, const char *, int, const char *, int))dlsym(RTLD_NEXT, "linkat"))(-1, "", -1, "", -1);
+    return ((int (*)(int, const char *, int, const char *, int))dlsym(RTLD_NEXT, "linkat"))(a, from, b, to, flags);
+}
+int rename(const char *from, const char *to)
+{
+    note("rename");
+    return ((int (*)(const char *, const char *))dlsym(RTLD_NEXT, "rename"))(from, to);
+}
+"""
+
+
+class Synced(Built):
+    def test_order(self):
+        """The whole file is synced before it has its name, and the folder after; where there are no links it is renamed."""
+        library, notes, output = self.folder / "notes.so", self.folder / "notes", self.folder / "output"
+        self.built("cc", "-shared", "-fPIC", "-o", library, self.file("notes.c", NOTES.encode()), "-ldl")
+        for more, force, steps in (
+            ({}, (), ["sync file", "link", "sync folder"]), ({}, ("--force",), ["sync file", "rename", "sync folder"]),
+            ({"NO_LINKS": "1"}, (), ["sync file", "link", "rename", "sync folder"]),
+        ):
+            if not force:
+                output.unlink(missing_ok=True)
+            self.fine("read", SAMPLE, output, *force, env={"LD_PRELOAD": str(library), "NOTES": str(notes), **more})
+            self.assertEqual(notes.read_text().splitlines(), steps)
+            self.assertEqual(output.read_bytes(), reels.record_of(SAMPLE.read_bytes()))
+            notes.unlink()
+
+
+# Every call by its declaration in the header.
+EVERY_CALL = r"""
+#include <string.h>
+static unsigned char reel[3848], record[3471], again[3848];
+int main(void)
+{
+    const unsigned char word[4] = {0xC2, 0x76, 0xA0, 0x00}, pair[6] = {0xFF, 0xFD, 0xFF, 0xFF, 0xFC, 0x4B};
+    unsigned char word_out[4], pair_out[6];
+    struct aukpocket_reel_answer read, written;
+    struct aukpocket_field_answer field, none;
+    struct aukpocket_sample_answer sample;
+
+    memset(reel, 0x40, 3200);
+    reel[3216] = 0x07, reel[3217] = 0xD0, reel[3221] = 2, reel[3225] = 1;
+    reel[3714] = 0, reel[3715] = 2, reel[3716] = 0x07, reel[3717] = 0xD0;
+    reel[3840] = 0x41, reel[3841] = 0x10;
+    memcpy(reel + 3844, word, 4);
+    read = aukpocket_read_reel(reel, 3848, record, 3471);
+    if (read.number != 0 || read.traces != 1 || read.samples != 2 || read.length != 3471 || read.beside != 0)
+        return 1;
+    written = aukpocket_write_reel(record, 3471, 1, again, 3848);
+    if (written.number != 0 || written.length != 3848 || memcmp(reel, again, 3848) != 0)
+        return 2;
+    written = aukpocket_write_reel(record, 3471, 2, again, 3848);
+    if (written.number != 14 || written.traces != 0 || written.beside != 3458)
+        return 3;
+    field = aukpocket_look_up(reel, 3848, 1, 117);
+    none = aukpocket_look_up(reel, 3848, ((size_t)1 << 32) + 1, 117);
+    if (field.number != 0 || field.value != 2000 || none.number != 15 || none.value != 0)
+        return 4;
+    sample = aukpocket_read_word(1, word, pair_out);
+    if (sample.number != 0 || memcmp(pair, pair_out, 6) != 0)
+        return 5;
+    sample = aukpocket_write_pair(1, pair, word_out);
+    if (sample.number != 0 || memcmp(word, word_out, 4) != 0)
+        return 6;
+    sample = aukpocket_write_pair(3, pair, word_out);
+    return sample.number == 14 && memcmp("\0\0\0", word_out, 4) == 0 ? 0 : 7;
+}
+"""
+
+
 class Examples(Built):
     """The examples as their own comments say to build and run them."""
 
@@ -800,7 +947,7 @@ class Examples(Built):
             f"typedef char {kind}_size[sizeof(struct aukpocket_{kind}_answer) == {size} ? 1 : -1];\n"
             f"typedef char {kind}_place[offsetof(struct aukpocket_{kind}_answer, {member}) == {place} ? 1 : -1];\n"
             for kind, member, size, place in sizes)
-        source += "int main(void) { unsigned char none[1]; return aukpocket_read_reel(none, 0, none, 0).number == 1 ? 0 : 1; }\n"
+        source += EVERY_CALL
         for compiler, name in (("cc", "sizes.c"), ("c++", "sizes.cpp")):
             if compiler == "c++" and shutil.which(compiler) is None:
                 continue

@@ -1,12 +1,15 @@
 //! Files in, files out, memory for them, and steps shown of long work.
 
+use crate::system;
 use crate::trouble::Trouble;
 use std::fmt::Display;
 use std::fs::{self, File, Metadata, OpenOptions};
 use std::io::{self, ErrorKind, IsTerminal, Read, Write};
+use std::mem;
 use std::os::unix::fs::MetadataExt;
 use std::path::{Path, PathBuf};
 use std::process;
+use std::time::{SystemTime, UNIX_EPOCH};
 
 /// Work on as many bytes is long enough to show its steps.
 const LONG: u64 = 16_000_000;
@@ -142,7 +145,7 @@ impl Target {
                     replaced: None,
                 };
                 match fs::metadata(target.folder()) {
-                    Ok(folder) if folder.is_dir() => Ok(target),
+                    Ok(folder) if folder.is_dir() => target.writable(),
                     _ => Err(Trouble::file(format!("{name}: its folder isn't there"))),
                 }
             }
@@ -167,11 +170,22 @@ impl Target {
                         "{name}: is the input, which is never replaced"
                     )));
                 }
-                Ok(Target {
+                Target {
                     path,
                     replaced: Some(about),
-                })
+                }
+                .writable()
             }
+        }
+    }
+
+    fn writable(self) -> Result<Target, Trouble> {
+        match system::may_write(self.folder()) {
+            Ok(()) => Ok(self),
+            Err(e) => Err(Trouble::file(format!(
+                "{}: can't be written: {e}",
+                self.path.display()
+            ))),
         }
     }
 
@@ -238,14 +252,27 @@ struct Temporary(PathBuf);
 
 impl Temporary {
     fn new(folder: &Path) -> io::Result<(Temporary, File)> {
-        let mut tried = 0;
+        // The time makes a name that nobody else has, so that it can be given to the signals before there is a file.
+        let time = SystemTime::now().duration_since(UNIX_EPOCH);
+        let mut number = time.map_or(0, |time| time.as_nanos());
         loop {
-            let path = folder.join(format!("aukpocket-{}-{tried}.partial", process::id()));
-            match OpenOptions::new().write(true).create_new(true).open(&path) {
-                Ok(file) => return Ok((Temporary(path), file)),
-                // Left by a run that was killed.
-                Err(e) if e.kind() == ErrorKind::AlreadyExists && tried < 1000 => tried += 1,
-                Err(e) => return Err(e),
+            let path = folder.join(format!("aukpocket-{}-{number}.partial", process::id()));
+            let temporary = Temporary(path);
+            system::remove_at_end(&temporary.0);
+            match OpenOptions::new()
+                .write(true)
+                .create_new(true)
+                .open(&temporary.0)
+            {
+                Ok(file) => return Ok((temporary, file)),
+                Err(e) => {
+                    system::removed();
+                    mem::forget(temporary);
+                    if e.kind() != ErrorKind::AlreadyExists {
+                        return Err(e);
+                    }
+                    number += 1;
+                }
             }
         }
     }
@@ -254,5 +281,6 @@ impl Temporary {
 impl Drop for Temporary {
     fn drop(&mut self) {
         let _ = fs::remove_file(&self.0);
+        system::removed();
     }
 }

@@ -28,7 +28,8 @@ to fit in memory.
 const OUTPUT: &str = "
 The output is written under a temporary name in the same folder (aukpocket-NUMBER-NUMBER.partial),
 synced to the disk and then given its name. So a run that fails or is killed leaves nothing half-written
-under that name, and a failing run removes the temporary file too. A file that is there already is kept.
+under that name, and a run that fails or is interrupted removes the temporary file too. A file that is
+there already is kept.
 
   --force   replace a file that is there already; the input is never replaced
 ";
@@ -118,11 +119,13 @@ pub fn check() -> String {
         "\
 aukpocket check < REEL
 
-Reads a reel of any size from standard input and prints one line, as document 01 has it:
+Reads a reel of any size from standard input and prints one line:
 
   taken T N LENGTH         T traces of N samples, and the length of the record
   refused NUMBER BESIDE    the number of the cause, and the place or length beside it
 
+It is the line of the program check_reel without that program's limits: there is neither `too long` nor
+a refusal by 10.
 Beside a refusal the sentence stands on standard error. Writes no file.
 {STATUS}"
     )

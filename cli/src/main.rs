@@ -6,6 +6,7 @@ mod files;
 mod help;
 mod layout;
 mod refusals;
+mod system;
 mod trouble;
 
 use aukpocket::{look_up, read_reel, write_reel, Refusal, Taken};
@@ -58,7 +59,7 @@ struct Command {
     run: fn(&Words) -> Result<(), Trouble>,
 }
 
-const COMMANDS: [Command; 6] = [
+static COMMANDS: [Command; 6] = [
     Command {
         name: "read",
         words: &["REEL", "RECORD"],
@@ -110,6 +111,7 @@ const COMMANDS: [Command; 6] = [
 ];
 
 fn main() -> ExitCode {
+    system::prepare();
     match run(env::args_os().skip(1).collect()) {
         Ok(()) => ExitCode::SUCCESS,
         Err(trouble) => {
@@ -128,11 +130,17 @@ fn run(arguments: Vec<OsString>) -> Result<(), Trouble> {
         ));
     };
     match first.to_str() {
-        Some("--help" | "-h" | "help") => return print(help::ALL),
+        Some("--help" | "-h" | "help") => {
+            let named = rest.first().and_then(|word| found(word));
+            return match named {
+                Some(command) => print(&(command.help)()),
+                None => print(help::ALL),
+            };
+        }
         Some("--version") => return print(concat!("aukpocket ", env!("CARGO_PKG_VERSION"), "\n")),
         _ => {}
     }
-    let Some(command) = COMMANDS.iter().find(|command| first == command.name) else {
+    let Some(command) = found(first) else {
         return Err(Trouble::usage(format!(
             "there is no command `{}`; see `aukpocket --help`",
             first.to_string_lossy()
@@ -142,6 +150,11 @@ fn run(arguments: Vec<OsString>) -> Result<(), Trouble> {
         Some(words) => (command.run)(&words),
         None => print(&(command.help)()),
     }
+}
+
+/// The command of that name.
+fn found(word: &OsStr) -> Option<&'static Command> {
+    COMMANDS.iter().find(|command| word == command.name)
 }
 
 /// Takes a command's words and options apart. None where its help is asked for.
@@ -191,6 +204,21 @@ fn parse<T: FromStr>(word: &OsStr) -> Option<T> {
         return None;
     }
     word.parse().ok()
+}
+
+/// Whether a word looks like a number, though it may be none that can be had: -1, or one that is too large.
+fn is_number(word: &OsStr) -> bool {
+    let word = word.to_string_lossy();
+    let digits = word.trim_start_matches(['-', '+']);
+    !digits.is_empty() && digits.bytes().all(|byte| byte.is_ascii_digit())
+}
+
+/// Says what was done, once it is done: that nobody reads it is no trouble then.
+fn tell(text: &str) -> Result<(), Trouble> {
+    match print(text) {
+        Err(trouble) if trouble.sentence.is_empty() => Ok(()),
+        told => told,
+    }
 }
 
 /// Prints to standard output. Where its reader has gone there is nobody left to tell.
@@ -272,7 +300,7 @@ fn read(words: &Words) -> Result<(), Trouble> {
     let reel = files::load(from)?;
     let (record, taken) = record_of(&reel, &from.display().to_string())?;
     target.put(&record)?;
-    print(&format!(
+    tell(&format!(
         "{}: {}; {}: its record, {} bytes\n",
         from.display(),
         extent(taken.traces, taken.samples),
@@ -290,7 +318,7 @@ fn write(words: &Words) -> Result<(), Trouble> {
     let (reel, taken) = reel_of(&record, code, &name)?
         .map_err(|refusal| Trouble::refused(&name, refusals::of_record(&record, code, refusal)))?;
     target.put(&reel)?;
-    print(&format!(
+    tell(&format!(
         "{name}: {}; {}: its reel in code {code}, {} bytes\n",
         extent(taken.traces, taken.samples),
         to.display(),
@@ -303,6 +331,7 @@ fn look(words: &Words) -> Result<(), Trouble> {
     let trace: usize = words.number(1, "TRACE")?;
     let byte_number = match parse(&words.words[2]) {
         Some(byte_number) => byte_number,
+        None if is_number(&words.words[2]) => words.number(2, "BYTE")?,
         None => named(trace, &words.words[2].to_string_lossy())?,
     };
     let reel = files::load(path)?;

@@ -260,7 +260,12 @@ fn wrong_form(record: &[u8], place: usize) -> String {
                 Some(tag) => format!("tag {tag:02X} stands"),
                 None => "the record ends".to_string(),
             };
-            format!("{found} where tag 03 of trace {trace} or tag 05 should stand (place {place})")
+            let wanted = if trace > MOST_TRACES {
+                String::new()
+            } else {
+                format!("tag 03 of trace {trace} or ")
+            };
+            format!("{found} where {wanted}tag 05 should stand (place {place})")
         }
         _ => format!(
             "{} bytes follow the record's end (place {place})",

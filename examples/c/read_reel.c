@@ -4,7 +4,7 @@
  *     refused NUMBER BESIDE  the number of the cause, and what stands beside it (see aukpocket.h)
  *
  *     cc -I include examples/c/read_reel.c target/staticlib/libaukpocket.a -o read_reel
- *     ./read_reel examples/sample.sgy sample.record
+ *     ./read_reel examples/sample.sgy c.record
  */
 #include "aukpocket.h"
 

@@ -8,6 +8,8 @@ use std::process;
 
 /// Bytes before and after each output, which must stay as they are.
 const GUARD: usize = 32;
+/// Inputs and outputs begin at any of as many addresses: a caller may lend any.
+const ALIGNMENTS: usize = 16;
 /// The longest output that a call is lent.
 const MOST_ROOM: usize = 26_000_000;
 
@@ -42,6 +44,8 @@ pub struct Comparison {
     theirs: Vec<u8>,
     ours: Vec<u8>,
     input: Vec<u8>,
+    /// Where the latest output begins.
+    front: usize,
     stage: &'static str,
     stage_calls: u64,
 }
@@ -49,7 +53,7 @@ pub struct Comparison {
 impl Comparison {
     pub fn new() -> Comparison {
         let mut random = Random::seeded(1);
-        let mut pattern = vec![0; MOST_ROOM + 2 * GUARD + 256];
+        let mut pattern = vec![0; MOST_ROOM + 2 * GUARD + ALIGNMENTS + 256];
         random.fill(&mut pattern);
         Comparison {
             counts: [[0; 17]; 5],
@@ -58,6 +62,7 @@ impl Comparison {
             theirs: Vec::new(),
             ours: Vec::new(),
             input: Vec::new(),
+            front: GUARD,
             stage: "",
             stage_calls: 0,
         }
@@ -197,7 +202,7 @@ impl Comparison {
 
     /// The bytes that the latest taken call on a reel or record wrote.
     pub fn written(&self, answer: ReelAnswer) -> &[u8] {
-        &self.theirs[GUARD..][..answer.length as usize]
+        &self.theirs[self.front..][..answer.length as usize]
     }
 
     fn reel_call(
@@ -208,30 +213,33 @@ impl Comparison {
         room: usize,
         both: impl Fn(&[u8], &mut [u8], &mut [u8]) -> (ReelAnswer, ReelAnswer),
     ) -> ReelAnswer {
-        let whole = room + 2 * GUARD;
+        let shift = self.random.below(ALIGNMENTS);
+        self.front = GUARD + self.random.below(ALIGNMENTS);
+        let whole = self.front + room + GUARD;
         let start = self.random.below(self.pattern.len() - whole);
         let before = &self.pattern[start..start + whole];
         self.input.clear();
+        self.input.resize(shift, 0);
         self.input.extend_from_slice(input);
         self.theirs.clear();
         self.theirs.extend_from_slice(before);
         self.ours.clear();
         self.ours.extend_from_slice(before);
 
-        let lent = GUARD..GUARD + room;
+        let lent = self.front..self.front + room;
         let (theirs, ours) = both(
-            &self.input,
+            &self.input[shift..],
             &mut self.theirs[lent.clone()],
             &mut self.ours[lent.clone()],
         );
 
         // Only the first bytes of the output may change, as many as the length, and no others.
-        let kept = GUARD + ours.length as usize;
+        let kept = self.front + ours.length as usize;
         let fault = if theirs != ours {
             Some("the answers differ")
-        } else if self.input != input {
+        } else if self.input[shift..] != *input {
             Some("the library changed its input")
-        } else if self.theirs[..GUARD] != before[..GUARD] {
+        } else if self.theirs[..lent.start] != before[..lent.start] {
             Some("the library changed bytes before its output")
         } else if self.theirs[lent.end..] != before[lent.end..] {
             Some("the library changed bytes after its output")
@@ -253,7 +261,7 @@ impl Comparison {
                     if let Some(place) = place {
                         println!(
                         "place {} of the output: library {:02X}, independent {:02X}, before {:02X}",
-                        place - GUARD, self.theirs[place], self.ours[place], before[place]
+                        place - lent.start, self.theirs[place], self.ours[place], before[place]
                     );
                     }
                     print_input(input, &[theirs.beside, ours.beside]);
