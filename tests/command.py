@@ -549,8 +549,8 @@ class Files(Case):
         (self.folder / "link").symlink_to("target")
         (self.folder / "nowhere").symlink_to("missing")
         os.mkfifo(self.folder / "pipe")
-        self.assertIn("is there already", self.trouble(1, "read", SAMPLE, self.folder / "nowhere"))
-        self.trouble(1, "read", SAMPLE, self.folder / "nowhere", "--force")
+        for force in ((), ("--force",)):
+            self.assertIn("is a link that leads nowhere", self.trouble(1, "read", SAMPLE, self.folder / "nowhere", *force))
         self.assertIn("is no regular file", self.trouble(1, "read", SAMPLE, self.folder / "pipe", "--force"))
         self.assertIn("is no regular file", self.trouble(1, "read", SAMPLE, "/dev/null", "--force"))
         self.fine("read", SAMPLE, self.folder / "link", "--force")

@@ -151,6 +151,9 @@ impl Target {
             }
             Err(e) => Err(Trouble::file(format!("{name}: can't be looked at: {e}"))),
             Ok(about) if about.is_dir() => Err(Trouble::file(format!("{name}: is a folder"))),
+            Ok(about) if about.is_symlink() && !path.exists() => Err(Trouble::file(format!(
+                "{name}: is a link that leads nowhere, and is kept"
+            ))),
             Ok(_) if !force => Err(Trouble::file(format!(
                 "{name}: is there already and is kept; --force replaces it"
             ))),
