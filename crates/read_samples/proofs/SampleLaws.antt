@@ -103,10 +103,11 @@ next-put s code k at o some w is =
     let j : k + 1 - 1 ≡ k - 1 + 1 = omega arith in
     again (sample-put s code (k + 1) at o (omega arith) w is) (ap (λ (x : ℕ). samplesCopied s code x (at + sampleBytes code)) j)
 
-pub last-put : (s : List ℕ) (code k at o : ℕ) {all out ys : List ℕ} → k ≤ 0 → Filling all out o (samplesCopied s code (k + 1) at) → ys ≡ sampleCopied s code at
-    → putMid o (o + 6 - o) out ys ≡ all
-last-put s code k at o none w is =
-    finish (sample-put s code (k + 1) at o (omega arith) w is) (samples-none s code (k + 1 - 1) (at + sampleBytes code) (omega arith))
+pub last-put : (s : List ℕ) (code k at o p : ℕ) {all out ys : List ℕ} → k ≤ 0 → p ≡ o → Filling all out o (samplesCopied s code (k + 1) at) → ys ≡ sampleCopied s code at
+    → putMid p (p + 6 - p) out ys ≡ all
+last-put s code k at o p {all} {out} {ys} none there w is =
+    ap (λ (x : ℕ). putMid x (x + 6 - x) out ys) there
+    ∙ finish (sample-put s code (k + 1) at o (omega arith) w is) (samples-none s code (k + 1 - 1) (at + sampleBytes code) (omega arith))
 
 -- ## The call
 

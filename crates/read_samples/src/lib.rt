@@ -122,7 +122,8 @@ fn put_gain_word(reel: &[u8], at: usize, d: u16, out: &mut [u8]) -> u16
     w
 }
 
-// The samples of a trace, a loop for each code.
+// The samples of a trace, a loop for each code. The last sample's place in the output is worked out before the loop: the
+// loop's own is then not wanted behind it, which makes the loop shorter.
 fn put_ibm(reel: &[u8], n: usize, start: usize, out: &mut [u8])
     requires { ⌜ (start + n * 4 ≤ length (now reel)) × (length (now out) ≡ n * 6) ⌝ }
     ensures { λ _. ⌜ now (out .exit) ≡ samplesCopied (now (reel .entry)) 1 n start ⌝ }
@@ -133,6 +134,7 @@ fn put_ibm(reel: &[u8], n: usize, start: usize, out: &mut [u8])
     let mut at = start;
     let mut o = 0;
     let mut left = n - 1;
+    let last = left * 6;
     let mut w = word32_at(reel, start);
     while 0 < left {
         let e = o + 6;
@@ -141,7 +143,7 @@ fn put_ibm(reel: &[u8], n: usize, start: usize, out: &mut [u8])
         o = e;
         left -= 1;
     }
-    put_sample(sample::ibm(w), &mut out[o..o + 6]);
+    put_sample(sample::ibm(w), &mut out[last..last + 6]);
 }
 
 fn put_whole32(reel: &[u8], n: usize, start: usize, out: &mut [u8])
@@ -154,6 +156,7 @@ fn put_whole32(reel: &[u8], n: usize, start: usize, out: &mut [u8])
     let mut at = start;
     let mut o = 0;
     let mut left = n - 1;
+    let last = left * 6;
     let mut w = word32_at(reel, start);
     while 0 < left {
         let e = o + 6;
@@ -162,7 +165,7 @@ fn put_whole32(reel: &[u8], n: usize, start: usize, out: &mut [u8])
         o = e;
         left -= 1;
     }
-    put_sample(sample::whole32(w), &mut out[o..o + 6]);
+    put_sample(sample::whole32(w), &mut out[last..last + 6]);
 }
 
 fn put_whole16(reel: &[u8], n: usize, start: usize, out: &mut [u8])
@@ -175,6 +178,7 @@ fn put_whole16(reel: &[u8], n: usize, start: usize, out: &mut [u8])
     let mut at = start;
     let mut o = 0;
     let mut left = n - 1;
+    let last = left * 6;
     let mut w = word16_at(reel, start);
     while 0 < left {
         let e = o + 6;
@@ -183,7 +187,7 @@ fn put_whole16(reel: &[u8], n: usize, start: usize, out: &mut [u8])
         o = e;
         left -= 1;
     }
-    put_sample(sample::whole16(w), &mut out[o..o + 6]);
+    put_sample(sample::whole16(w), &mut out[last..last + 6]);
 }
 
 fn put_gain(reel: &[u8], n: usize, start: usize, out: &mut [u8])
@@ -196,6 +200,7 @@ fn put_gain(reel: &[u8], n: usize, start: usize, out: &mut [u8])
     let mut at = start;
     let mut o = 0;
     let mut left = n - 1;
+    let last = left * 6;
     let mut d = word16_at(reel, start + 2);
     while 0 < left {
         let e = o + 6;
@@ -204,7 +209,10 @@ fn put_gain(reel: &[u8], n: usize, start: usize, out: &mut [u8])
         o = e;
         left -= 1;
     }
-    put_sample(gain_or_zero(reel[at], reel[at + 1], d), &mut out[o..o + 6]);
+    put_sample(
+        gain_or_zero(reel[at], reel[at + 1], d),
+        &mut out[last..last + 6],
+    );
 }
 
 // The samples of a trace under the reel's code, which is 1 to 4.

@@ -14,18 +14,21 @@ use Rattle.read_samples.proofs.put_gain.Statement.{statement}
 use Rattle.read_samples.proofs.put_gain.Tie as tie
 
 abbrev Inv-loop : tie.InvT-loop
-Inv-loop reel n start out₀ at₀ o₀ left₀ d₀ out at o left d =
+Inv-loop reel n start out₀ at₀ o₀ left₀ last d₀ out at o left d =
     (at + left * 4 + 4 ≤ length reel) × (length out ≡ n * 6) × (o + left * 6 + 6 ≡ n * 6) × (d ≡ number (bytesAt reel (at + 2) 2))
     × Filling (samplesCopied reel 4 n start) out o (samplesCopied reel 4 (left + 1) at)
 
 abbrev μ-loop : tie.MeasureT-loop
-μ-loop reel n start out₀ at₀ o₀ left₀ d₀ out at o left d = left
+μ-loop reel n start out₀ at₀ o₀ left₀ last d₀ out at o left d = left
 
 returns : tie.Need-returns Inv-loop μ-loop
 returns c =
     let a = c .before .before .before .args in
     let s = a .reel .now in
     finish (begin _ _ (c .before .before .before .pre .1 ∙ sym (size-samples s 4 (a .n) (a .start)))) (samples-none s 4 (a .n) (a .start) (omega (arith, c .if1 .taken)))
+
+mul-last : tie.Need-mul-last Inv-loop μ-loop
+mul-last c = omega (arith, c .before .before .before .pre .1)
 
 add-word16-at : tie.Need-add-word16-at Inv-loop μ-loop
 add-word16-at c = omega (arith, times-more (c .before .before .before .args .n) 4 (omega (arith, c .if1 .left)), c .before .before .before .pre .0)
@@ -110,8 +113,10 @@ put-sample-requires c κs = c .put-sample-arg .given .2 ∙ omega arith
 returns-2 : tie.Need-returns-2 Inv-loop μ-loop
 returns-2 c =
     let s = c .before .before .before .before .before .before .before .before .before .before .before .before .before .args .reel .now in
+    let n = c .before .before .before .before .before .before .before .before .before .before .before .before .before .args .n in
     let l = c .before .before .before .before .before .before .before .before .loop in
-    last-put s 4 (l .left) (l .at) (l .o) (c .before .before .before .before .before .before .before .loop-test .left) (l .inv .4) (c .before .before .put-sample .ensures ∙ ap sampleContent (c .before .before .before .before .gain-or-zero .ensures) ∙ gain-copied s (l .at) (l .d) (l .inv .3))
+    let none = c .before .before .before .before .before .before .before .loop-test .left in
+    last-put s 4 (l .left) (l .at) (l .o) ((n - 1) * 6) none (omega (arith, none, l .inv .2)) (l .inv .4) (c .before .before .put-sample .ensures ∙ ap sampleContent (c .before .before .before .before .gain-or-zero .ensures) ∙ gain-copied s (l .at) (l .d) (l .inv .3))
 
 same-length : tie.Need-same-length Inv-loop μ-loop
 same-length c = ap length (returns-2 c) ∙ size-samples (c .before .before .before .before .before .before .before .before .before .before .before .before .before .args .reel .now) 4 (c .before .before .before .before .before .before .before .before .before .before .before .before .before .args .n) (c .before .before .before .before .before .before .before .before .before .before .before .before .before .args .start) ∙ sym (c .before .before .before .before .before .before .before .before .before .before .before .before .before .pre .1)
@@ -123,6 +128,7 @@ put-gain-spec =
     Inv-loop
     μ-loop
     returns
+    mul-last
     add-word16-at
     word16-at-requires
     loop-holds

@@ -21,18 +21,21 @@ content : (s : List ℕ) (at w : ℕ) → w ≡ number (bytesAt s at 4) → samp
 content s at w e = ap (λ (w : ℕ). sampleContent (pairTaken (ibmValue w))) e ∙ ap sampleContent (ibm-copied s at)
 
 abbrev Inv-loop : tie.InvT-loop
-Inv-loop reel n start out₀ at₀ o₀ left₀ w₀ out at o left w =
+Inv-loop reel n start out₀ at₀ o₀ left₀ last w₀ out at o left w =
     (at + left * 4 + 4 ≤ length reel) × (length out ≡ n * 6) × (o + left * 6 + 6 ≡ n * 6) × (w ≡ number (bytesAt reel at 4))
     × Filling (samplesCopied reel 1 n start) out o (samplesCopied reel 1 (left + 1) at)
 
 abbrev μ-loop : tie.MeasureT-loop
-μ-loop reel n start out₀ at₀ o₀ left₀ w₀ out at o left w = left
+μ-loop reel n start out₀ at₀ o₀ left₀ last w₀ out at o left w = left
 
 returns : tie.Need-returns Inv-loop μ-loop
 returns c =
     let a = c .before .before .before .args in
     let s = a .reel .now in
     finish (begin _ _ (c .before .before .before .pre .1 ∙ sym (size-samples s 1 (a .n) (a .start)))) (samples-none s 1 (a .n) (a .start) (omega (arith, c .if1 .taken)))
+
+mul-last : tie.Need-mul-last Inv-loop μ-loop
+mul-last c = omega (arith, c .before .before .before .pre .1)
 
 word32-at-requires : tie.Need-word32-at-requires Inv-loop μ-loop
 word32-at-requires c κs = omega (arith, times-more (c .before .before .before .args .n) 4 (omega (arith, c .if1 .left)), c .before .before .before .pre .0)
@@ -104,8 +107,10 @@ put-sample-requires c κs = c .put-sample-arg .given .2 ∙ omega arith
 returns-2 : tie.Need-returns-2 Inv-loop μ-loop
 returns-2 c =
     let s = c .before .before .before .before .before .before .before .before .before .before .before .args .reel .now in
+    let n = c .before .before .before .before .before .before .before .before .before .before .before .args .n in
     let l = c .before .before .before .before .before .before .loop in
-    last-put s 1 (l .left) (l .at) (l .o) (c .before .before .before .before .before .loop-test .left) (l .inv .4) (c .before .before .put-sample .ensures ∙ ap sampleContent (c .before .before .before .before .ibm .ensures) ∙ content s (l .at) (l .w) (l .inv .3))
+    let none = c .before .before .before .before .before .loop-test .left in
+    last-put s 1 (l .left) (l .at) (l .o) ((n - 1) * 6) none (omega (arith, none, l .inv .2)) (l .inv .4) (c .before .before .put-sample .ensures ∙ ap sampleContent (c .before .before .before .before .ibm .ensures) ∙ content s (l .at) (l .w) (l .inv .3))
 
 same-length : tie.Need-same-length Inv-loop μ-loop
 same-length c = ap length (returns-2 c) ∙ size-samples (c .before .before .before .before .before .before .before .before .before .before .before .args .reel .now) 1 (c .before .before .before .before .before .before .before .before .before .before .before .args .n) (c .before .before .before .before .before .before .before .before .before .before .before .args .start) ∙ sym (c .before .before .before .before .before .before .before .before .before .before .before .pre .1)
@@ -117,6 +122,7 @@ put-ibm-spec =
     Inv-loop
     μ-loop
     returns
+    mul-last
     word32-at-requires
     loop-holds
     add-e
