@@ -266,12 +266,15 @@ fn agree(what: Call, code: u32, input: &[u8], given: &mut [u8], out: &mut [u8]) 
     }
 }
 
+/// The best of each contender's runs. Every run begins with another of them: who comes first may find the processor slow from waiting for
+/// segyio, and who comes next what the one before left in the caches.
 fn best(runs: usize, mut seconds_of: impl FnMut(Who) -> Option<f64>) -> [Option<f64>; ALL.len()] {
     let mut best = [None; ALL.len()];
-    for _ in 0..runs {
-        for (best, who) in best.iter_mut().zip(ALL) {
-            let seconds = seconds_of(who);
-            *best = match (*best, seconds) {
+    for run in 0..runs {
+        for turn in 0..ALL.len() {
+            let who = (run + turn) % ALL.len();
+            let seconds = seconds_of(ALL[who]);
+            best[who] = match (best[who], seconds) {
                 (Some(before), Some(now)) => Some(f64::min(before, now)),
                 _ => seconds,
             };

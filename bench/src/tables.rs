@@ -31,7 +31,7 @@ pub fn name(who: Who, call: Call) -> &'static str {
 
 pub fn preface(megabytes: usize, runs: usize, segyio: Option<String>) {
     println!(
-        "A reel of {megabytes} MB for each code, N = {}; best of {runs} runs, all contenders in turn in each run.",
+        "A reel of {megabytes} MB for each code, N = {}; best of {runs} runs, all contenders in turn in each run, each run beginning with another.",
         crate::SAMPLES
     );
     println!(
