@@ -266,8 +266,7 @@ fn agree(what: Call, code: u32, input: &[u8], given: &mut [u8], out: &mut [u8]) 
     }
 }
 
-/// The best of each contender's runs. Every run begins with another of them: who comes first may find the processor slow from waiting for
-/// segyio, and who comes next what the one before left in the caches.
+/// The best of each contender's runs. Every run begins with another of them, so that none always comes first, after the wait for segyio.
 fn best(runs: usize, mut seconds_of: impl FnMut(Who) -> Option<f64>) -> [Option<f64>; ALL.len()] {
     let mut best = [None; ALL.len()];
     for run in 0..runs {
