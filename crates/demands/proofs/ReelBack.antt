@@ -38,7 +38,9 @@ use Rattle.record.specs.Target.{isUnfit}
 use Rattle.record.proofs.HeaderLaws.{trace-numbers, countField, intervalField}
 use Rattle.reel_theorems.proofs.Ranges.{length-bytes}
 use Rattle.reel_theorems.proofs.Same.{trace-eq}
-use Rattle.write_reel.specs.Reel.{wordContent, sampleWritten, traceWritten, reelOf, reelLength}
+use Rattle.write_samples.specs.Samples.{wordContent}
+use Rattle.write_samples.proofs.WordLaws.{size-word}
+use Rattle.write_reel.specs.Reel.{sampleWritten, traceWritten, reelOf, reelLength}
 use Rattle.demands.proofs.Proper.{ProperTrace, Proper}
 use Rattle.demands.proofs.Fitting.{Fitting}
 use Rattle.demands.proofs.From.{From, from-start, from-at, from-next, from-bytes, from-walk, from-fine}
@@ -63,23 +65,16 @@ word-of code v c h = go (wordOf code v) refl (h .0)
     go (Word k) e q = (k, e, says k e)
     go (Refused number) e q = absurd (subst T q tt)
 
--- The content of a word has four bytes.
-size-content : (w : Written) → length (wordContent w) ≡ 4
-size-content (Word k) = refl
-size-content (Refused number) = refl
-
--- They are bytes.
+-- The content of a word is bytes.
 bytes-content : (w : Written) → Bytes (wordContent w)
 bytes-content (Word k) = bytes-of 4 k
 bytes-content (Refused number) = bytes-zeros 4
 
 -- A sample has as many bytes as the code sets.
 size-sample : (code : ℕ) (v : ℤ) → length (sampleWritten code v) ≡ sampleBytes code
-size-sample code v =
-    let w = wordOf code v in
-    length-take-le (sampleBytes code) (wordContent w) (omega (arith, size-content w, width-high code))
+size-sample code v = size-word code (wordOf code v)
 
--- They are bytes too.
+-- They are bytes.
 bytes-sample : (code : ℕ) (v : ℤ) → Bytes (sampleWritten code v)
 bytes-sample code v = all-take (λ b. b < 256) (sampleBytes code) (wordContent (wordOf code v)) (bytes-content (wordOf code v))
 

@@ -23,7 +23,8 @@ use Rattle.record.specs.Held.{heldValue, heldTrace, heldBy}
 use Rattle.record.proofs.NumberLaws.{total}
 use Rattle.record.proofs.HeaderLaws.{counts}
 use Rattle.reel_theorems.proofs.Ranges.{length-bytes}
-use Rattle.write_reel.specs.Reel.{wordContent, sampleWritten, traceWritten, reelOf}
+use Rattle.write_samples.proofs.WordLaws.{size-word}
+use Rattle.write_reel.specs.Reel.{sampleWritten, traceWritten, reelOf}
 use Rattle.write_reel.specs.Writing.{lengthOf}
 
 -- As many numbers as there are fields take the bytes of the fields.
@@ -55,13 +56,7 @@ fields-size s at = numbers-size traceWidths _ (fields-count s at) ∙ counts .3
 
 -- A sample takes the bytes of a sample under the code.
 sample-size : (code : ℕ) (v : ℤ) → length (sampleWritten code v) ≡ sampleBytes code
-sample-size code v = go (eqb code 3) (wordOf code v)
-  where
-    go : (b : Bool) (w : Written) → length (take (pick b 2 4) (wordContent w)) ≡ pick b 2 4
-    go true (Word n) = refl
-    go true (Refused number) = refl
-    go false (Word n) = refl
-    go false (Refused number) = refl
+sample-size code v = size-word code (wordOf code v)
 
 -- A trace takes 240 bytes and those of its n samples.
 trace-size : (s : List ℕ) (code n at : ℕ) → length (traceWritten code (heldTrace s n at)) ≡ stride n (sampleBytes code)

@@ -169,6 +169,10 @@ pub copied : (src out : List ℕ) {ys : List ℕ} → ys ≡ copyOf src out → 
 unfolding copyOf
 copied src out p e = p ∙ rw (eq-eqb (length out) (length src) e)
 
+-- values stored one by one in a slice as long as they are
+pub stored-copy : (vs out : List ℕ) → length out ≡ length vs → sets out 0 vs ≡ copyOf vs out
+stored-copy vs out h = stored vs out h ∙ sym (copied vs out refl h)
+
 -- two tests that pass together pass each
 pub both : (a b : Bool) → (a && b) ≡ true → (a ≡ true) × (b ≡ true)
 both true b e = (refl, e)

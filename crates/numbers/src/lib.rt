@@ -2,7 +2,7 @@
 ghost use mathlib.Core.Path.{_≡_};
 ghost use mathlib.Core.List.{[], _∷_};
 ghost use Prim.Native.Nat.{_+_, _*_};
-ghost use lib.Dec.{leb};
+ghost use lib.Dec.{leb, eqb};
 ghost use Rattle.numbers.specs.Walk.{copyOf};
 ghost use Rattle.numbers.specs.BigEndian.{number, bytesOf};
 ghost use Rattle.numbers.specs.TwosComplement.{signedOf, bitsOf};
@@ -184,4 +184,14 @@ pub fn are_within(bytes: usize, n: usize, w: usize, start: usize) -> bool
         return true;
     }
     n <= (bytes - start) / w
+}
+
+// Whether n parts of w bytes each make up so many bytes.
+pub fn make_up(bytes: usize, n: usize, w: usize) -> bool
+    ensures { λ r. ⌜ r ≡ eqb bytes (n * w) ⌝ }
+{
+    if !are_within(bytes, n, w, 0) {
+        return false;
+    }
+    bytes == n * w
 }

@@ -238,10 +238,7 @@ fn do_fit(bytes: usize, code: usize, n: usize, start: usize, size: usize) -> boo
     if !numbers::are_within(bytes, n, reel::width_of(code), start) {
         return false;
     }
-    if !numbers::are_within(size, n, 6, 0) {
-        return false;
-    }
-    size == n * 6
+    numbers::make_up(size, n, 6)
 }
 
 // The samples of a trace: the pairs of n words from a place on. Where the code isn't 1 to 4, the words aren't all there or the output isn't as

@@ -1,23 +1,18 @@
 -- The reel of a meaning under a code.
 use Prim.Native.Nat.{ℕ, _+_, _*_}
 use mathlib.Core.List.{List, _++_, map}
-use lib.ListN.{replicate, take}
+use lib.ListN.{replicate}
 use lib.IntN.{ℤ}
 use Rattle.numbers.specs.Walk.{flat}
-use Rattle.numbers.specs.BigEndian.{bytesOf}
-use Rattle.value.specs.Writing.{wordOf, wordBits}
-use Rattle.value.specs.declared.Written.{Written}
+use Rattle.value.specs.Writing.{wordOf}
 use Rattle.reel.specs.Layout.{firstTrace, stride, sampleBytes, traceWidths}
 use Rattle.reel.specs.Meaning.{Trace, Meaning}
+use Rattle.write_samples.specs.Samples.{wordBytes}
 use Rattle.record.specs.Record.{numberBytes, binaryBytes}
-
--- The four bytes of a word. Where there is none, 14 refuses the call; the bytes are then given as 00.
-abbrev pub wordContent : Written → List ℕ
-wordContent w = bytesOf 4 (wordBits w)
 
 -- A sample under a code: the bytes of its value's word, of which code 3 has the first two.
 abbrev pub sampleWritten : ℕ → ℤ → List ℕ
-sampleWritten code v = take (sampleBytes code) (wordContent (wordOf code v))
+sampleWritten code v = wordBytes code (wordOf code v)
 
 -- A trace: its 71 fields, the unassigned bytes of its header, which are 0, and its samples.
 unfoldable pub traceWritten : ℕ → Trace → List ℕ

@@ -23,12 +23,12 @@ use Rattle.value.specs.declared.Written.{Written}
 use Rattle.value.specs.declared.Written.the-variants.{Word, Refused}
 use Rattle.value.proofs.PairBytes.{pair-fetched}
 use Rattle.reel.specs.Layout.{sampleBytes}
-use Rattle.write_samples.specs.Samples.{wordBytes, writtenAt, pairCheck, pairsThere, samplesChecked, samplesCopied, samplesWritten}
+use Rattle.write_samples.specs.Samples.{wordContent, wordBytes, writtenAt, pairCheck, pairsThere, samplesChecked, samplesCopied, samplesWritten}
 
 pub size-word : (code : ℕ) (w : Written) → length (wordBytes code w) ≡ sampleBytes code
 size-word code w = go (eqb code 3) w
   where
-    go : (b : Bool) (w : Written) → length (take (pick b 2 4) (bytesOf 4 (wordBits w))) ≡ pick b 2 4
+    go : (b : Bool) (w : Written) → length (take (pick b 2 4) (wordContent w)) ≡ pick b 2 4
     go true (Word n) = refl
     go true (Refused number) = refl
     go false (Word n) = refl

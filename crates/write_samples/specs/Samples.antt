@@ -41,9 +41,13 @@ samplesChecked s code n at = pick (pairsThere s code n at) (firstOf (walk (pairC
 
 -- ## Words
 
--- The bytes of a word under a code, of which code 3 has the first two; 00 where there is no word.
+-- The four bytes of a word. Where there is none, 14 refuses the call; the bytes are then given as 00.
+abbrev pub wordContent : Written → List ℕ
+wordContent w = bytesOf 4 (wordBits w)
+
+-- The bytes of a word under a code, of which code 3 has the first two.
 abbrev pub wordBytes : ℕ → Written → List ℕ
-wordBytes code w = take (sampleBytes code) (bytesOf 4 (wordBits w))
+wordBytes code w = take (sampleBytes code) (wordContent w)
 
 -- n samples from a place on.
 unfoldable pub samplesCopied : List ℕ → ℕ → ℕ → ℕ → List ℕ

@@ -2,7 +2,7 @@
 ghost use mathlib.Core.Path.{_≡_};
 ghost use mathlib.Core.Bool.{true, _&&_};
 ghost use Prim.Native.Nat.{_+_, _*_, _≤_};
-ghost use lib.Dec.{leb, eqb};
+ghost use lib.Dec.{leb};
 ghost use lib.ListN.{length, take};
 ghost use Rattle.numbers.specs.Walk.{walk, bytesAt};
 ghost use Rattle.numbers.specs.BigEndian.{number, bytesOf};
@@ -302,17 +302,6 @@ fn are_there(bytes: usize, code: u32, n: usize, start: usize) -> bool
     numbers::are_within(bytes, n, 6, start)
 }
 
-// Whether n words of a code are as long as the output.
-fn fill(size: usize, code: u32, n: usize) -> bool
-    ensures { λ r. ⌜ r ≡ eqb size (n * sampleBytes code) ⌝ }
-{
-    let v = reel::width_of(code as usize);
-    if !numbers::are_within(size, n, v, 0) {
-        return false;
-    }
-    size == n * v
-}
-
 // The first of a trace's samples that can't be written under a code: the cause 13 or 14 against its pair, of n pairs from a place on. Where the
 // code isn't 1 to 4 or the pairs aren't all there, nothing is found.
 pub fn check_samples(record: &[u8], code: u32, n: usize, start: usize) -> Check
@@ -332,7 +321,7 @@ pub fn write_samples(record: &[u8], code: u32, n: usize, start: usize, out: &mut
     if !are_there(record.len(), code, n, start) {
         return;
     }
-    if !fill(out.len(), code, n) {
+    if !numbers::make_up(out.len(), n, reel::width_of(code as usize)) {
         return;
     }
     put_samples(record, code, n, start, out);

@@ -1,7 +1,7 @@
 -- `numbers::put16` meets its contract. Assumes nothing.
 use Rattle.numbers.specs.Walk.{copyOf}
 use Rattle.numbers.specs.BigEndian.{bytesOf}
-use Rattle.numbers.proofs.WalkLaws.{stored, copied}
+use Rattle.numbers.proofs.WalkLaws.{stored-copy, copied}
 use borrow.Author.Tests.{ne-eqb}
 use lib.Dec.{lit<}
 use lib.ListN.{length, getD}
@@ -36,8 +36,7 @@ slice-write-out-2 c =
 stores : tie.Need-returns-2
 stores c =
     let s = c .before .before .before in
-    let w = bytesOf 2 (s .args .n) in
-    rw (c .bytes16 .ensures) (stored w (s .args .out .now) (c .before .if1 .left) ∙ sym (copied w (s .args .out .now) refl (c .before .if1 .left)))
+    rw (c .bytes16 .ensures) (stored-copy (bytesOf 2 (s .args .n)) (s .args .out .now) (c .before .if1 .left))
 
 same-length : tie.Need-same-length
 same-length c =

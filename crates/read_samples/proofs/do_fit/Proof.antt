@@ -1,12 +1,11 @@
 -- `read_samples::do_fit` meets its contract. Assumes nothing.
 use Rattle.value.specs.Value.{isCode}
 use Rattle.reel.specs.Layout.{sampleBytes}
-use borrow.Author.Tests.{leb-true, leb-false, not-true, not-false, ne-eqb}
+use borrow.Author.Tests.{not-true, not-false}
 use lib.Dec.{leb}
-use Prim.Native.Nat.{ℕ, _+_, _*_, _≤_, _<_}
+use Prim.Native.Nat.{ℕ, _+_, _*_}
 use mathlib.Core.Bool.{Bool, true, false}
 use mathlib.Core.Path.{_≡_, sym, ap, _∙_}
-use native.Mathlib.Omega.{arith}
 use Rattle.read_samples.proofs.do_fit.Statement.{statement}
 use Rattle.read_samples.proofs.do_fit.Tie as tie
 
@@ -38,24 +37,11 @@ returns-2 c =
     ap (λ (v : ℕ). leb (a .start + a .n * v) (a .bytes)) (sym (c .before .before .width-of .ensures .0)) ∙ sym (c .before .are-within .ensures) ∙ not-true (c .before .are-within .result) (c .if2 .taken) in
     rw (code (c .before .before .before), w)
 
-are-within-requires-2 : tie.Need-are-within-requires-2
-are-within-requires-2 c κs = tt
+make-up-requires : tie.Need-make-up-requires
+make-up-requires c κs = tt
 
 returns-3 : tie.Need-returns-3
-returns-3 c =
-    let a = c .before .before .before .before .before .before .before .args in
-    let l : a .size < 0 + a .n * 6 = leb-false (0 + a .n * 6) (a .size) (sym (c .before .are-within2 .ensures) ∙ not-true (c .before .are-within2 .result) (c .if3 .taken)) in
-    let n : a .size ≡ a .n * 6 → ⊥ = λ e. omega (arith, l, e) in
-    rw (code (c .before .before .before .before .before), words (c .before .before), ne-eqb (a .size) (a .n * 6) n)
-
-mul-result : tie.Need-mul-result
-mul-result c =
-    let a = c .before .before .before .before .before .before .before in
-    let l : 0 + a .args .n * 6 ≤ a .args .size = leb-true (0 + a .args .n * 6) (a .args .size) (sym (c .before .are-within2 .ensures) ∙ not-false (c .before .are-within2 .result) (c .if3 .left)) in
-    omega (arith, l, a .fits .size .fits)
-
-returns-4 : tie.Need-returns-4
-returns-4 c = rw (code (c .before .before .before .before .before), words (c .before .before))
+returns-3 c = rw (code (c .before .before .before .before), words (c .before)) (c .make-up .ensures)
 
 pub do-fit-spec : {M : Type 1} → statement M
 do-fit-spec =
@@ -66,7 +52,5 @@ do-fit-spec =
     width-of-requires
     are-within-requires
     returns-2
-    are-within-requires-2
-    returns-3
-    mul-result
-    returns-4)
+    make-up-requires
+    returns-3)

@@ -5,9 +5,9 @@ use Rattle.reel.specs.Layout.{sampleBytes}
 use borrow.Author.Tests.{not-true, not-false, eqb-true}
 use lib.Dec.{eqb}
 use lib.ListN.{length}
-use Prim.Native.Nat.{_*_}
+use Prim.Native.Nat.{ℕ, _*_}
 use mathlib.Core.Bool.{true, false}
-use mathlib.Core.Path.{_≡_, sym, _∙_}
+use mathlib.Core.Path.{_≡_, sym, ap, _∙_}
 use Rattle.write_samples.proofs.write_samples.Statement.{statement}
 use Rattle.write_samples.proofs.write_samples.Tie as tie
 
@@ -22,28 +22,35 @@ returns c =
 are : (c : tie.Else1) → let a = c .before .before .before .before .args in pairsThere (a .«record» .now) (a .code) (a .n) (a .start) ≡ true
 are c = sym (c .before .are-there .ensures) ∙ not-false (c .before .are-there .result) (c .if1 .left)
 
-fill-requires : tie.Need-fill-requires
-fill-requires c κs = tt
+width-of-requires : tie.Need-width-of-requires
+width-of-requires c κs = tt
+
+make-up-requires : tie.Need-make-up-requires
+make-up-requires c κs = tt
 
 returns-2 : tie.Need-returns-2
 returns-2 c =
-    let a = c .before .before .before .before .before .before .args in
-    sym (unfit-kept (a .«record» .now) (a .code) (a .n) (a .start) (a .out .now) (are (c .before .before)) (sym (c .before .fill .ensures) ∙ not-true (c .before .fill .result) (c .if2 .taken)))
+    let a = c .before .before .before .before .before .before .before .args in
+    let n : eqb (length (a .out .now)) (a .n * sampleBytes (a .code)) ≡ false =
+    ap (λ (v : ℕ). eqb (length (a .out .now)) (a .n * v)) (sym (c .before .before .width-of .ensures .0)) ∙ sym (c .before .make-up .ensures) ∙ not-true (c .before .make-up .result) (c .if2 .taken) in
+    sym (unfit-kept (a .«record» .now) (a .code) (a .n) (a .start) (a .out .now) (are (c .before .before .before)) n)
 
-fits : (c : tie.Else2) → let a = c .before .before .before .before .before .before .args in eqb (length (a .out .now)) (a .n * sampleBytes (a .code)) ≡ true
-fits c = sym (c .before .fill .ensures) ∙ not-false (c .before .fill .result) (c .if2 .left)
+fits : (c : tie.Else2) → let a = c .before .before .before .before .before .before .before .args in eqb (length (a .out .now)) (a .n * sampleBytes (a .code)) ≡ true
+fits c =
+    let a = c .before .before .before .before .before .before .before .args in
+    ap (λ (v : ℕ). eqb (length (a .out .now)) (a .n * v)) (sym (c .before .before .width-of .ensures .0)) ∙ sym (c .before .make-up .ensures) ∙ not-false (c .before .make-up .result) (c .if2 .left)
 
 put-samples-requires : tie.Need-put-samples-requires
 put-samples-requires c κs =
-    let a = c .before .before .before .before .before .before .before .args in
-    let t = they-are-there (a .«record» .now) (a .code) (a .n) (a .start) (are (c .before .before .before)) in
+    let a = c .before .before .before .before .before .before .before .before .args in
+    let t = they-are-there (a .«record» .now) (a .code) (a .n) (a .start) (are (c .before .before .before .before)) in
     (t .0, t .1, eqb-true (length (a .out .now)) (a .n * sampleBytes (a .code)) (fits (c .before)))
 
 returns-3 : tie.Need-returns-3
 returns-3 c =
     let d = c .before .before .before .before in
-    let a = d .before .before .before .before .before .before .args in
-    c .before .before .put-samples .ensures ∙ sym (fit-written (a .«record» .now) (a .code) (a .n) (a .start) (a .out .now) (are (d .before .before)) (fits d))
+    let a = d .before .before .before .before .before .before .before .args in
+    c .before .before .put-samples .ensures ∙ sym (fit-written (a .«record» .now) (a .code) (a .n) (a .start) (a .out .now) (are (d .before .before .before)) (fits d))
 
 same-length : tie.Need-same-length
 same-length c = c .before .before .put-samples .kept .1 .1 .1 .1 .0
@@ -51,4 +58,4 @@ same-length c = c .before .before .put-samples .kept .1 .1 .1 .1 .0
 pub write-samples-spec : {M : Type 1} → statement M
 write-samples-spec =
     tie.close
-    (tie.spec are-there-requires returns fill-requires returns-2 put-samples-requires same-length returns-3)
+    (tie.spec are-there-requires returns width-of-requires make-up-requires returns-2 put-samples-requires same-length returns-3)

@@ -1,0 +1,29 @@
+-- `numbers::make_up` meets its contract. Assumes nothing.
+use borrow.Author.Tests.{leb-true, leb-false, not-true, not-false, ne-eqb}
+use Prim.Native.Nat.{_+_, _*_, _≤_, _<_}
+use mathlib.Core.Path.{_≡_, refl, sym, _∙_}
+use native.Mathlib.Omega.{arith}
+use Rattle.numbers.proofs.make_up.Statement.{statement}
+use Rattle.numbers.proofs.make_up.Tie as tie
+
+are-within-requires : tie.Need-are-within-requires
+are-within-requires c κs = tt
+
+returns : tie.Need-returns
+returns c =
+    let a = c .before .before .args in
+    let l : a .bytes < 0 + a .n * a .w = leb-false (0 + a .n * a .w) (a .bytes) (sym (c .before .are-within .ensures) ∙ not-true (c .before .are-within .result) (c .if1 .taken)) in
+    let n : a .bytes ≡ a .n * a .w → ⊥ = λ e. omega (arith, l, e) in
+    sym (ne-eqb (a .bytes) (a .n * a .w) n)
+
+mul-result : tie.Need-mul-result
+mul-result c =
+    let s = c .before .before in
+    let l : 0 + s .args .n * s .args .w ≤ s .args .bytes = leb-true (0 + s .args .n * s .args .w) (s .args .bytes) (sym (c .before .are-within .ensures) ∙ not-false (c .before .are-within .result) (c .if1 .left)) in
+    omega (arith, l, s .fits .bytes .fits)
+
+returns-2 : tie.Need-returns-2
+returns-2 c = refl
+
+pub make-up-spec : {M : Type 1} → statement M
+make-up-spec = tie.close (tie.spec are-within-requires returns mul-result returns-2)
