@@ -21,7 +21,7 @@ use Rattle.sample.specs.declared.Sample.{Sample}
 use Rattle.sample.specs.declared.Sample.the-variants.{Taken, Refused}
 use Rattle.reel.specs.Layout.{sampleBytes}
 use Rattle.read_samples.specs.Samples.{sampleContent, sampleCopied, samplesCopied, samplesFit, samplesRead}
-use Rattle.read_samples.specs.Parts.{exponentContent, mantissaContent, gainOrZero}
+use Rattle.read_samples.specs.Parts.{exponentContent, mantissaContent, gainOrZero, WordAt}
 
 pub size-content : (q : Sample) → length (sampleContent q) ≡ 6
 size-content (Taken e m) = refl
@@ -80,6 +80,26 @@ module _ (s : List ℕ) (at : ℕ) where
       go : (b : Bool) → sampleContent (pick b (pairTaken v) (Taken (pos 0) (pos 0))) ≡ sampleContent (pick (not b) (Refused 9) (pairTaken v))
       go true = refl
       go false = refl
+
+-- a code of four bytes isn't 3
+pub not-three : (code : ℕ) → sampleBytes code ≡ 4 → code ≡ 3 → ⊥
+not-three code h e = let z : _≡_ {A = ℕ} 2 4 = ap sampleBytes (sym e) ∙ h in omega arith
+
+two-bytes : (s : List ℕ) (at : ℕ) → number (bytesAt s (at + 2) 2) ≡ getD s (at + 2) 0 * 256 + getD s (at + 3) 0
+unfolding bytesAt
+two-bytes s at = let b : at + 2 + 1 ≡ at + 3 = omega arith in rw b (omega arith)
+
+-- the number in four bytes, the last two of which are below 256
+pub word-at : (s : List ℕ) (at w : ℕ) → w ≡ number (bytesAt s at 4) → getD s (at + 2) 0 < 256 → getD s (at + 3) 0 < 256 → WordAt s at w
+word-at s at w e h i = record { whole = e; low = omega (arith, e ∙ ap number (four-bytes s at), two-bytes s at) }
+
+module _ (s : List ℕ) (at w : ℕ) (h : WordAt s at w) where
+  -- what the code writes under each code
+  pub ibm-content : sampleContent (pairTaken (ibmValue w)) ≡ sampleCopied s 1 at
+  ibm-content = ap (λ (w : ℕ). sampleContent (pairTaken (ibmValue w))) (h .whole) ∙ ap sampleContent (ibm-copied s at)
+
+  pub whole32-content : sampleContent (pairTaken (wholeValue (signedOf 32 w))) ≡ sampleCopied s 2 at
+  whole32-content = ap (λ (w : ℕ). sampleContent (pairTaken (wholeValue (signedOf 32 w)))) (h .whole) ∙ ap sampleContent (whole32-copied s at)
 
 -- samples, one more and none
 pub samples-more : (s : List ℕ) (code k at : ℕ) → 0 < k → samplesCopied s code k at ≡ sampleCopied s code at ++ samplesCopied s code (k - 1) (at + sampleBytes code)

@@ -1,11 +1,12 @@
 -- What the functions inside this crate hand to each other: a sample in two parts, and a gain word by its parts.
-use Prim.Native.Nat.{ℕ, _/_}
+use Prim.Native.Nat.{ℕ, _+_, _/_, _%_, _^_}
+use mathlib.Core.Path.{_≡_}
 use mathlib.Core.List.{List}
 use lib.ListN.{replicate}
 use lib.Dec.{eqb}
 use lib.IntN.{pos}
-use Rattle.numbers.specs.Walk.{pick}
-use Rattle.numbers.specs.BigEndian.{bytesOf}
+use Rattle.numbers.specs.Walk.{pick, bytesAt}
+use Rattle.numbers.specs.BigEndian.{number, bytesOf}
 use Rattle.numbers.specs.TwosComplement.{signedOf, bitsOf}
 use Rattle.value.specs.Value.{gainValue}
 use Rattle.value.specs.Pair.{mantissaBits}
@@ -26,3 +27,8 @@ mantissaContent (Refused number) = replicate (mantissaBits / 8) 0
 -- six bytes.
 abbrev pub gainOrZero : ℕ → ℕ → ℕ → Sample
 gainOrZero first g d = pick (eqb first 0) (pairTaken (gainValue g (signedOf 16 d))) (Taken (pos 0) (pos 0))
+
+-- The number in the four bytes at a place, whose last 16 bits are the number in the last two.
+pub record WordAt (s : List ℕ) (at w : ℕ) : Type 0 where
+  pub whole : w ≡ number (bytesAt s at 4)
+  pub low : w % 2 ^ 16 ≡ number (bytesAt s (at + 2) 2)

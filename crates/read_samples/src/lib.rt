@@ -1,17 +1,17 @@
-// The samples of a trace, from words to pairs: a loop for each code. Each function that writes is lent exactly the bytes that it writes.
+// The samples of a trace, from words to pairs: a loop for words of four bytes and one for words of two. Each function that writes is lent exactly the bytes that it writes.
 ghost use mathlib.Core.Path.{_≡_};
 ghost use mathlib.Core.Bool.{true, _&&_};
-ghost use Prim.Native.Nat.{_+_, _*_, _≤_};
+ghost use Prim.Native.Nat.{_+_, _*_, _%_, _^_, _≤_};
 ghost use lib.Dec.{leb, eqb};
 ghost use lib.ListN.{length};
 ghost use Rattle.numbers.specs.Walk.{pick, bytesAt};
 ghost use Rattle.numbers.specs.BigEndian.{number};
 ghost use Rattle.numbers.specs.TwosComplement.{signedOf};
 ghost use Rattle.value.specs.Value.{ibmValue, wholeValue, isCode};
-ghost use Rattle.sample.specs.Reading.{pairTaken};
+ghost use Rattle.sample.specs.Reading.{pairTaken, readWord};
 ghost use Rattle.reel.specs.Layout.{sampleBytes};
 ghost use Rattle.read_samples.specs.Samples.{sampleContent, sampleCopied, samplesCopied, samplesRead};
-ghost use Rattle.read_samples.specs.Parts.{exponentContent, mantissaContent, gainOrZero};
+ghost use Rattle.read_samples.specs.Parts.{exponentContent, mantissaContent, gainOrZero, WordAt};
 use sample::Sample;
 
 // What reading a word gives: its exponent in two bytes, and its mantissa in four. The words of a reel that came through the causes 1 to 9 are
@@ -49,7 +49,7 @@ fn put_sample(word: Sample, out: &mut [u8])
 // The number in the four bytes at a place, and in two.
 fn word32_at(reel: &[u8], at: usize) -> u32
     requires { ⌜ at + 4 ≤ length (now reel) ⌝ }
-    ensures { λ r. ⌜ r ≡ number (bytesAt (now (reel .entry)) at 4) ⌝ }
+    ensures { λ r. ⌜ WordAt (now (reel .entry)) at r ⌝ }
 {
     numbers::be32(reel[at], reel[at + 1], reel[at + 2], reel[at + 3])
 }
@@ -65,7 +65,7 @@ fn word16_at(reel: &[u8], at: usize) -> u16
 // fetch of the word.
 fn put_ibm_word(reel: &[u8], word: u32, next: usize, out: &mut [u8]) -> u32
     requires { ⌜ (next + 4 ≤ length (now reel)) × (length (now out) ≡ 6) ⌝ }
-    ensures { λ r. ⌜ (r ≡ number (bytesAt (now (reel .entry)) next 4)) × (now (out .exit) ≡ sampleContent (pairTaken (ibmValue word))) ⌝ }
+    ensures { λ r. ⌜ (WordAt (now (reel .entry)) next r) × (now (out .exit) ≡ sampleContent (pairTaken (ibmValue word))) ⌝ }
 {
     let pair = sample::ibm(word);
     put_exponent(pair, &mut out[0..2]);
@@ -76,7 +76,7 @@ fn put_ibm_word(reel: &[u8], word: u32, next: usize, out: &mut [u8]) -> u32
 
 fn put_whole32_word(reel: &[u8], word: u32, next: usize, out: &mut [u8]) -> u32
     requires { ⌜ (next + 4 ≤ length (now reel)) × (length (now out) ≡ 6) ⌝ }
-    ensures { λ r. ⌜ (r ≡ number (bytesAt (now (reel .entry)) next 4)) × (now (out .exit) ≡ sampleContent (pairTaken (wholeValue (signedOf 32 word)))) ⌝ }
+    ensures { λ r. ⌜ (WordAt (now (reel .entry)) next r) × (now (out .exit) ≡ sampleContent (pairTaken (wholeValue (signedOf 32 word)))) ⌝ }
 {
     let pair = sample::whole32(word);
     put_exponent(pair, &mut out[0..2]);
@@ -110,23 +110,54 @@ fn gain_or_zero(first: u8, g: u8, d: u16) -> Sample
     sample::gain_number(g, number_or_zero(first, d))
 }
 
-// The same for a gain word, of which d is fetched early.
-fn put_gain_word(reel: &[u8], at: usize, d: u16, out: &mut [u8]) -> u16
-    requires { ⌜ (at + 8 ≤ length (now reel)) × (length (now out) ≡ 6) × (d ≡ number (bytesAt (now reel) (at + 2) 2)) ⌝ }
-    ensures { λ r. ⌜ (r ≡ number (bytesAt (now (reel .entry)) (at + 6) 2)) × (now (out .exit) ≡ sampleCopied (now (reel .entry)) 4 at) ⌝ }
+// The last two bytes of a word.
+fn low_half(word: u32) -> u16
+    ensures { λ r. ⌜ r ≡ word % 2 ^ 16 ⌝ }
 {
-    let pair = gain_or_zero(reel[at], reel[at + 1], d);
+    (word % 0x1_0000) as u16
+}
+
+// The same for a gain word, of which d is fetched early.
+fn put_gain_word(reel: &[u8], at: usize, word: u32, out: &mut [u8]) -> u32
+    requires { ⌜ (at + 8 ≤ length (now reel)) × (length (now out) ≡ 6) × WordAt (now reel) at word ⌝ }
+    ensures { λ r. ⌜ (WordAt (now (reel .entry)) (at + 4) r) × (now (out .exit) ≡ sampleCopied (now (reel .entry)) 4 at) ⌝ }
+{
+    let pair = gain_or_zero(reel[at], reel[at + 1], low_half(word));
     put_exponent(pair, &mut out[0..2]);
-    let w = word16_at(reel, at + 6);
+    let w = word32_at(reel, at + 4);
     put_mantissa(pair, &mut out[2..6]);
     w
 }
 
-// The samples of a trace, a loop for each code. The last sample's place in the output is worked out before the loop: the
-// loop's own is then not wanted behind it, which makes the loop shorter.
-fn put_ibm(reel: &[u8], n: usize, start: usize, out: &mut [u8])
-    requires { ⌜ (start + n * 4 ≤ length (now reel)) × (length (now out) ≡ n * 6) ⌝ }
-    ensures { λ _. ⌜ now (out .exit) ≡ samplesCopied (now (reel .entry)) 1 n start ⌝ }
+// A word of four bytes under a code that has them, and the fetch of the next. The tests are not of equality, which the compiler would make
+// a switch of: so it takes each out of the loop, which becomes a loop for each code.
+fn put_word(reel: &[u8], code: u32, at: usize, word: u32, out: &mut [u8]) -> u32
+    requires { ⌜ (isCode code ≡ true) × (sampleBytes code ≡ 4) × (at + 8 ≤ length (now reel)) × (length (now out) ≡ 6) × WordAt (now reel) at word ⌝ }
+    ensures { λ r. ⌜ (WordAt (now (reel .entry)) (at + 4) r) × (now (out .exit) ≡ sampleCopied (now (reel .entry)) code at) ⌝ }
+{
+    if code < 2 {
+        return put_ibm_word(reel, word, at + 4, out);
+    }
+    if code < 3 {
+        return put_whole32_word(reel, word, at + 4, out);
+    }
+    put_gain_word(reel, at, word, out)
+}
+
+// What reading the four bytes at a place gives.
+fn sample_at(reel: &[u8], code: u32, at: usize) -> Sample
+    requires { ⌜ at + 4 ≤ length (now reel) ⌝ }
+    ensures { λ r. ⌜ r ≡ readWord code (bytesAt (now (reel .entry)) at 4) ⌝ }
+{
+    let word = [reel[at], reel[at + 1], reel[at + 2], reel[at + 3]];
+    sample::read(code, word)
+}
+
+// The samples of a trace, words of four bytes. The last word's place, and its sample's in the output, are worked out before the loop: the
+// loop's own are then not wanted behind it, which makes the loop shorter.
+fn put_words(reel: &[u8], code: u32, n: usize, start: usize, out: &mut [u8])
+    requires { ⌜ (isCode code ≡ true) × (sampleBytes code ≡ 4) × (start + n * 4 ≤ length (now reel)) × (length (now out) ≡ n * 6) ⌝ }
+    ensures { λ _. ⌜ now (out .exit) ≡ samplesCopied (now (reel .entry)) code n start ⌝ }
 {
     if n < 1 {
         return;
@@ -135,39 +166,19 @@ fn put_ibm(reel: &[u8], n: usize, start: usize, out: &mut [u8])
     let mut o = 0;
     let mut left = n - 1;
     let last = left * 6;
+    let end = start + left * 4;
     let mut w = word32_at(reel, start);
     while 0 < left {
         let e = o + 6;
+        w = put_word(reel, code, at, w, &mut out[o..e]);
         at += 4;
-        w = put_ibm_word(reel, w, at, &mut out[o..e]);
         o = e;
         left -= 1;
     }
-    put_sample(sample::ibm(w), &mut out[last..last + 6]);
+    put_sample(sample_at(reel, code, end), &mut out[last..last + 6]);
 }
 
-fn put_whole32(reel: &[u8], n: usize, start: usize, out: &mut [u8])
-    requires { ⌜ (start + n * 4 ≤ length (now reel)) × (length (now out) ≡ n * 6) ⌝ }
-    ensures { λ _. ⌜ now (out .exit) ≡ samplesCopied (now (reel .entry)) 2 n start ⌝ }
-{
-    if n < 1 {
-        return;
-    }
-    let mut at = start;
-    let mut o = 0;
-    let mut left = n - 1;
-    let last = left * 6;
-    let mut w = word32_at(reel, start);
-    while 0 < left {
-        let e = o + 6;
-        at += 4;
-        w = put_whole32_word(reel, w, at, &mut out[o..e]);
-        o = e;
-        left -= 1;
-    }
-    put_sample(sample::whole32(w), &mut out[last..last + 6]);
-}
-
+// The same of words of two bytes, which code 3 has.
 fn put_whole16(reel: &[u8], n: usize, start: usize, out: &mut [u8])
     requires { ⌜ (start + n * 2 ≤ length (now reel)) × (length (now out) ≡ n * 6) ⌝ }
     ensures { λ _. ⌜ now (out .exit) ≡ samplesCopied (now (reel .entry)) 3 n start ⌝ }
@@ -190,42 +201,16 @@ fn put_whole16(reel: &[u8], n: usize, start: usize, out: &mut [u8])
     put_sample(sample::whole16(w), &mut out[last..last + 6]);
 }
 
-fn put_gain(reel: &[u8], n: usize, start: usize, out: &mut [u8])
-    requires { ⌜ (start + n * 4 ≤ length (now reel)) × (length (now out) ≡ n * 6) ⌝ }
-    ensures { λ _. ⌜ now (out .exit) ≡ samplesCopied (now (reel .entry)) 4 n start ⌝ }
-{
-    if n < 1 {
-        return;
-    }
-    let mut at = start;
-    let mut o = 0;
-    let mut left = n - 1;
-    let last = left * 6;
-    let mut d = word16_at(reel, start + 2);
-    while 0 < left {
-        let e = o + 6;
-        d = put_gain_word(reel, at, d, &mut out[o..e]);
-        at += 4;
-        o = e;
-        left -= 1;
-    }
-    put_sample(
-        gain_or_zero(reel[at], reel[at + 1], d),
-        &mut out[last..last + 6],
-    );
-}
-
 // The samples of a trace under the reel's code, which is 1 to 4.
 fn put_samples(reel: &[u8], code: usize, n: usize, start: usize, out: &mut [u8])
     requires { ⌜ (isCode code ≡ true) × (start + n * sampleBytes code ≤ length (now reel)) × (length (now out) ≡ n * 6) ⌝ }
     ensures { λ _. ⌜ now (out .exit) ≡ samplesCopied (now (reel .entry)) code n start ⌝ }
 {
-    match code {
-        1 => put_ibm(reel, n, start, out),
-        2 => put_whole32(reel, n, start, out),
-        3 => put_whole16(reel, n, start, out),
-        _ => put_gain(reel, n, start, out),
+    if code == 3 {
+        put_whole16(reel, n, start, out);
+        return;
     }
+    put_words(reel, code as u32, n, start, out);
 }
 
 // Whether n words of a code from a place on are within so many bytes, and n pairs are as long as the output.

@@ -1,5 +1,5 @@
 -- The words of a trace's samples as the code writes them: how long they are, and the loops' steps. Assumes nothing.
-use mathlib.Core.Path.{_≡_, refl, ap, _∙_}
+use mathlib.Core.Path.{_≡_, refl, sym, ap, _∙_}
 use mathlib.Core.Bool.{Bool, true, false, _&&_}
 use mathlib.Core.List.{List, [], _++_}
 use Prim.Native.Nat.{ℕ, _+_, _-_, _*_, _≤_, _<_}
@@ -38,6 +38,13 @@ pub size-samples : (s : List ℕ) (code n at : ℕ) → length (samplesCopied s 
 unfolding samplesCopied
 size-samples s code n at = flat-length (wordBytes code) (writtenAt s code) (sampleBytes code) (λ p. size-word code (writtenAt s code p)) pairLength n at
 
+-- a code of four bytes isn't 3, and has the four bytes of its word's bits
+pub not-three : (code : ℕ) → sampleBytes code ≡ 4 → code ≡ 3 → ⊥
+not-three code h e = let z : _≡_ {A = ℕ} 2 4 = ap sampleBytes (sym e) ∙ h in omega arith
+
+pub four-bytes-of : (code bits : ℕ) (w : Written) → sampleBytes code ≡ 4 → bits ≡ wordBits w → bytesOf 4 bits ≡ wordBytes code w
+four-bytes-of code bits w v e = ap (bytesOf 4) e ∙ ap (λ (k : ℕ). take k (wordContent w)) (sym v)
+
 -- ## Samples
 
 samples-more : (s : List ℕ) (code k at : ℕ) → 0 < k → samplesCopied s code k at ≡ wordBytes code (writtenAt s code at) ++ samplesCopied s code (k - 1) (at + pairLength)
@@ -62,6 +69,11 @@ module _ (s : List ℕ) (code : ℕ) where
       → take (sampleBytes code) (bytesOf 4 bits) ≡ wordBytes code (writtenAt s code at)
   sample-bytes at e m p bits h q i j =
       ap (λ (x : ℕ). take (sampleBytes code) (bytesOf 4 x)) (h ∙ ap (λ (x : Pair). wordBits (writePair code x)) (pair-fetched s at e m p q i j))
+
+  -- the bytes of the pair's word
+  pub fetched-bytes : (at e m : ℕ) (p : Pair) → p ≡ pairOfBits e m → e ≡ number (bytesAt s at 2) → m ≡ number (bytesAt s (at + 2) 4)
+      → wordBytes code (writePair code p) ≡ wordBytes code (writtenAt s code at)
+  fetched-bytes at e m p q i j = ap (λ (x : Pair). wordBytes code (writePair code x)) (pair-fetched s at e m p q i j)
 
   pub next-put : (k at o e : ℕ) {all out ys : List ℕ} → 0 < k → e ≡ o + sampleBytes code → Filling all out o (samplesCopied s code (k + 1) at) → ys ≡ wordBytes code (writtenAt s code at)
       → Filling all (putMid o (e - o) out ys) e (samplesCopied s code (k - 1 + 1) (at + pairLength))

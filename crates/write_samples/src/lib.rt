@@ -1,4 +1,5 @@
-// The samples of a trace, from pairs to words: whether they can be written under a code, and their words; a loop for each code.
+// The samples of a trace, from pairs to words: whether they can be written under a code, in one loop, and their words, in a loop
+// for words of four bytes and one for words of two.
 ghost use mathlib.Core.Path.{_≡_};
 ghost use mathlib.Core.Bool.{true, _&&_};
 ghost use Prim.Native.Nat.{_+_, _*_, _≤_};
@@ -8,10 +9,12 @@ ghost use Rattle.numbers.specs.Walk.{walk, bytesAt};
 ghost use Rattle.numbers.specs.BigEndian.{number, bytesOf};
 ghost use Rattle.numbers.specs.Cause.{firstOf};
 ghost use Rattle.value.specs.Value.{isCode};
+ghost use Rattle.value.specs.Writing.{writePair, wordBits};
 ghost use Rattle.reel.specs.Layout.{sampleBytes};
-ghost use Rattle.write_samples.specs.Samples.{pairRefused, pairCheck, samplesCopied, samplesChecked, samplesWritten};
+ghost use Rattle.write_samples.specs.Samples.{pairRefused, pairCheck, wordBytes, samplesCopied, samplesChecked, samplesWritten};
 use numbers::Check;
 use numbers::Place;
+use value::Pair;
 use value::Written;
 
 // The bits of the exponent and of the mantissa of the pair at a place.
@@ -43,131 +46,48 @@ fn refused(word: Written, at: usize) -> Check
     }
 }
 
-// The first of n pairs from start on that is refused by 13 or 14, a loop for each code. The bits of a pair are fetched a turn early: the
-// compiler then makes one fetch of each.
-fn check_ibm(record: &[u8], n: usize, start: usize) -> Check
-    requires { ⌜ start + n * 6 ≤ length (now «record») ⌝ }
-    ensures { λ r. ⌜ r ≡ firstOf (walk (pairCheck (now («record» .entry)) 1) 6 n start) ⌝ }
+// What writing a pair under a code gives, which is 1 to 4. The tests are not of equality, which the compiler would make a switch of: so it
+// takes each out of the loop that calls this, which becomes a loop for each code.
+fn word_of(code: u32, p: Pair) -> Written
+    requires { ⌜ isCode code ≡ true ⌝ }
+    ensures { λ r. ⌜ r ≡ writePair code p ⌝ }
 {
-    if n < 1 {
-        return Check::Fine;
+    if code < 2 {
+        return p.ibm_word();
     }
-    let mut at = start;
-    let mut left = n - 1;
-    let mut e = exponent_at(record, start);
-    let mut m = mantissa_at(record, start);
-    while 0 < left {
-        let word = value::pair_of_bits(e, m).ibm_word();
-        let Written::Word { bits: _ } = word else {
-            return refused(word, at);
-        };
-        at += 6;
-        e = exponent_at(record, at);
-        m = mantissa_at(record, at);
-        left -= 1;
+    if code < 3 {
+        return p.whole32_word();
     }
-    let word = value::pair_of_bits(e, m).ibm_word();
-    let Written::Word { bits: _ } = word else {
-        return refused(word, at);
-    };
-    Check::Fine
+    if code < 4 {
+        return p.whole16_word();
+    }
+    p.gain_word()
 }
 
-fn check_whole32(record: &[u8], n: usize, start: usize) -> Check
-    requires { ⌜ start + n * 6 ≤ length (now «record») ⌝ }
-    ensures { λ r. ⌜ r ≡ firstOf (walk (pairCheck (now («record» .entry)) 2) 6 n start) ⌝ }
-{
-    if n < 1 {
-        return Check::Fine;
-    }
-    let mut at = start;
-    let mut left = n - 1;
-    let mut e = exponent_at(record, start);
-    let mut m = mantissa_at(record, start);
-    while 0 < left {
-        let word = value::pair_of_bits(e, m).whole32_word();
-        let Written::Word { bits: _ } = word else {
-            return refused(word, at);
-        };
-        at += 6;
-        e = exponent_at(record, at);
-        m = mantissa_at(record, at);
-        left -= 1;
-    }
-    let word = value::pair_of_bits(e, m).whole32_word();
-    let Written::Word { bits: _ } = word else {
-        return refused(word, at);
-    };
-    Check::Fine
-}
-
-fn check_whole16(record: &[u8], n: usize, start: usize) -> Check
-    requires { ⌜ start + n * 6 ≤ length (now «record») ⌝ }
-    ensures { λ r. ⌜ r ≡ firstOf (walk (pairCheck (now («record» .entry)) 3) 6 n start) ⌝ }
-{
-    if n < 1 {
-        return Check::Fine;
-    }
-    let mut at = start;
-    let mut left = n - 1;
-    let mut e = exponent_at(record, start);
-    let mut m = mantissa_at(record, start);
-    while 0 < left {
-        let word = value::pair_of_bits(e, m).whole16_word();
-        let Written::Word { bits: _ } = word else {
-            return refused(word, at);
-        };
-        at += 6;
-        e = exponent_at(record, at);
-        m = mantissa_at(record, at);
-        left -= 1;
-    }
-    let word = value::pair_of_bits(e, m).whole16_word();
-    let Written::Word { bits: _ } = word else {
-        return refused(word, at);
-    };
-    Check::Fine
-}
-
-fn check_gain(record: &[u8], n: usize, start: usize) -> Check
-    requires { ⌜ start + n * 6 ≤ length (now «record») ⌝ }
-    ensures { λ r. ⌜ r ≡ firstOf (walk (pairCheck (now («record» .entry)) 4) 6 n start) ⌝ }
-{
-    if n < 1 {
-        return Check::Fine;
-    }
-    let mut at = start;
-    let mut left = n - 1;
-    let mut e = exponent_at(record, start);
-    let mut m = mantissa_at(record, start);
-    while 0 < left {
-        let word = value::pair_of_bits(e, m).gain_word();
-        let Written::Word { bits: _ } = word else {
-            return refused(word, at);
-        };
-        at += 6;
-        e = exponent_at(record, at);
-        m = mantissa_at(record, at);
-        left -= 1;
-    }
-    let word = value::pair_of_bits(e, m).gain_word();
-    let Written::Word { bits: _ } = word else {
-        return refused(word, at);
-    };
-    Check::Fine
-}
-
-// The same under a code, which is 1 to 4.
+// The first of n pairs from start on that is refused by 13 or 14 under a code. The bits of a pair are fetched a turn early: the compiler then
+// makes one fetch of each. A pair that is refused is written once more for the number of the refusal, which the loop then needn't keep.
 fn check_pairs(record: &[u8], code: u32, n: usize, start: usize) -> Check
     requires { ⌜ (isCode code ≡ true) × (start + n * 6 ≤ length (now «record»)) ⌝ }
     ensures { λ r. ⌜ r ≡ firstOf (walk (pairCheck (now («record» .entry)) code) 6 n start) ⌝ }
 {
-    match code {
-        1 => check_ibm(record, n, start),
-        2 => check_whole32(record, n, start),
-        3 => check_whole16(record, n, start),
-        _ => check_gain(record, n, start),
+    if n < 1 {
+        return Check::Fine;
     }
+    let mut at = start;
+    let mut left = n - 1;
+    let mut e = exponent_at(record, start);
+    let mut m = mantissa_at(record, start);
+    while 0 < left {
+        let word = word_of(code, value::pair_of_bits(e, m));
+        let Written::Word { bits: _ } = word else {
+            return refused(value::write(code, value::pair_of_bits(e, m)), at);
+        };
+        at += 6;
+        e = exponent_at(record, at);
+        m = mantissa_at(record, at);
+        left -= 1;
+    }
+    refused(value::write(code, value::pair_of_bits(e, m)), at)
 }
 
 // The two bytes that code 3 has of a word.
@@ -180,12 +100,37 @@ fn put_half(bits: u32, out: &mut [u8])
     out[1] = b[1];
 }
 
-// The samples of a trace, a loop for each code. The bits of a pair are fetched a turn early. The pairs of a record that came
-// through the causes 11 to 14 all have a word; for one without, which only the types allow here, the bits are 0, so that the loops need no
-// condition on each pair.
-fn put_ibm(record: &[u8], n: usize, start: usize, out: &mut [u8])
-    requires { ⌜ (start + n * 6 ≤ length (now «record»)) × (length (now out) ≡ n * 4) ⌝ }
-    ensures { λ _. ⌜ now (out .exit) ≡ samplesCopied (now («record» .entry)) 1 n start ⌝ }
+// The bits of a word, 0 where there is none. The pairs of a record that came through the causes 11 to 14 all have a word; for one without,
+// which only the types allow here, the bits are 0, so that the loops need no condition on each pair.
+fn bits_of(word: Written) -> u32
+    ensures { λ r. ⌜ r ≡ wordBits word ⌝ }
+{
+    match word {
+        Written::Word { bits } => bits,
+        Written::Refused { number: _ } => 0,
+    }
+}
+
+// The word of a pair under a code that has four bytes. The tests are as they are in `word_of`, and for the same reason.
+fn put_word(code: u32, p: Pair, out: &mut [u8])
+    requires { ⌜ (isCode code ≡ true) × (sampleBytes code ≡ 4) × (length (now out) ≡ 4) ⌝ }
+    ensures { λ _. ⌜ now (out .exit) ≡ wordBytes code (writePair code p) ⌝ }
+{
+    if code < 2 {
+        numbers::put32(p.ibm_bits(), out);
+        return;
+    }
+    if code < 3 {
+        numbers::put32(p.whole32_bits(), out);
+        return;
+    }
+    numbers::put32(p.gain_bits(), out);
+}
+
+// The samples of a trace, words of four bytes. The bits of a pair are fetched a turn early.
+fn put_words(record: &[u8], code: u32, n: usize, start: usize, out: &mut [u8])
+    requires { ⌜ (isCode code ≡ true) × (sampleBytes code ≡ 4) × (start + n * 6 ≤ length (now «record»)) × (length (now out) ≡ n * 4) ⌝ }
+    ensures { λ _. ⌜ now (out .exit) ≡ samplesCopied (now («record» .entry)) code n start ⌝ }
 {
     if n < 1 {
         return;
@@ -197,40 +142,18 @@ fn put_ibm(record: &[u8], n: usize, start: usize, out: &mut [u8])
     let mut m = mantissa_at(record, start);
     while 0 < left {
         let next = o + 4;
-        numbers::put32(value::pair_of_bits(e, m).ibm_bits(), &mut out[o..next]);
+        put_word(code, value::pair_of_bits(e, m), &mut out[o..next]);
         at += 6;
         e = exponent_at(record, at);
         m = mantissa_at(record, at);
         o = next;
         left -= 1;
     }
-    numbers::put32(value::pair_of_bits(e, m).ibm_bits(), &mut out[o..o + 4]);
+    let bits = bits_of(value::write(code, value::pair_of_bits(e, m)));
+    numbers::put32(bits, &mut out[o..o + 4]);
 }
 
-fn put_whole32(record: &[u8], n: usize, start: usize, out: &mut [u8])
-    requires { ⌜ (start + n * 6 ≤ length (now «record»)) × (length (now out) ≡ n * 4) ⌝ }
-    ensures { λ _. ⌜ now (out .exit) ≡ samplesCopied (now («record» .entry)) 2 n start ⌝ }
-{
-    if n < 1 {
-        return;
-    }
-    let mut at = start;
-    let mut o = 0;
-    let mut left = n - 1;
-    let mut e = exponent_at(record, start);
-    let mut m = mantissa_at(record, start);
-    while 0 < left {
-        let next = o + 4;
-        numbers::put32(value::pair_of_bits(e, m).whole32_bits(), &mut out[o..next]);
-        at += 6;
-        e = exponent_at(record, at);
-        m = mantissa_at(record, at);
-        o = next;
-        left -= 1;
-    }
-    numbers::put32(value::pair_of_bits(e, m).whole32_bits(), &mut out[o..o + 4]);
-}
-
+// The same of words of two bytes, which code 3 has.
 fn put_whole16(record: &[u8], n: usize, start: usize, out: &mut [u8])
     requires { ⌜ (start + n * 6 ≤ length (now «record»)) × (length (now out) ≡ n * 2) ⌝ }
     ensures { λ _. ⌜ now (out .exit) ≡ samplesCopied (now («record» .entry)) 3 n start ⌝ }
@@ -255,41 +178,16 @@ fn put_whole16(record: &[u8], n: usize, start: usize, out: &mut [u8])
     put_half(value::pair_of_bits(e, m).whole16_bits(), &mut out[o..o + 2]);
 }
 
-fn put_gain(record: &[u8], n: usize, start: usize, out: &mut [u8])
-    requires { ⌜ (start + n * 6 ≤ length (now «record»)) × (length (now out) ≡ n * 4) ⌝ }
-    ensures { λ _. ⌜ now (out .exit) ≡ samplesCopied (now («record» .entry)) 4 n start ⌝ }
-{
-    if n < 1 {
-        return;
-    }
-    let mut at = start;
-    let mut o = 0;
-    let mut left = n - 1;
-    let mut e = exponent_at(record, start);
-    let mut m = mantissa_at(record, start);
-    while 0 < left {
-        let next = o + 4;
-        numbers::put32(value::pair_of_bits(e, m).gain_bits(), &mut out[o..next]);
-        at += 6;
-        e = exponent_at(record, at);
-        m = mantissa_at(record, at);
-        o = next;
-        left -= 1;
-    }
-    numbers::put32(value::pair_of_bits(e, m).gain_bits(), &mut out[o..o + 4]);
-}
-
 // The samples of a trace under a code, which is 1 to 4.
 fn put_samples(record: &[u8], code: u32, n: usize, start: usize, out: &mut [u8])
     requires { ⌜ (isCode code ≡ true) × (start + n * 6 ≤ length (now «record»)) × (length (now out) ≡ n * sampleBytes code) ⌝ }
     ensures { λ _. ⌜ now (out .exit) ≡ samplesCopied (now («record» .entry)) code n start ⌝ }
 {
-    match code {
-        1 => put_ibm(record, n, start, out),
-        2 => put_whole32(record, n, start, out),
-        3 => put_whole16(record, n, start, out),
-        _ => put_gain(record, n, start, out),
+    if code == 3 {
+        put_whole16(record, n, start, out);
+        return;
     }
+    put_words(record, code, n, start, out);
 }
 
 // Whether the code is 1 to 4, and n pairs from a place on are within so many bytes.

@@ -19,6 +19,9 @@ add-gain-or-zero c = omega (arith, c .before .before .before .pre .0, c .before 
 shared-slice-read-gain-or-zero-2 : tie.Need-shared-slice-read-gain-or-zero-2
 shared-slice-read-gain-or-zero-2 c = omega (arith, c .before .before .before .before .pre .0)
 
+low-half-requires : tie.Need-low-half-requires
+low-half-requires c κs = tt
+
 gain-or-zero-requires : tie.Need-gain-or-zero-requires
 gain-or-zero-requires c κs = tt
 
@@ -29,16 +32,16 @@ part-put-exponent-start : tie.Need-part-put-exponent-start
 part-put-exponent-start c = omega arith
 
 part-put-exponent-end : tie.Need-part-put-exponent-end
-part-put-exponent-end c = omega (arith, c .before .before .before .before .before .pre .1)
+part-put-exponent-end c = omega (arith, c .before .before .before .before .before .before .pre .1)
 
 put-exponent-requires : tie.Need-put-exponent-requires
 put-exponent-requires c κs = c .put-exponent-arg .given .2
 
-add-word16-at : tie.Need-add-word16-at
-add-word16-at c = omega (arith, c .before .before .before .before .before .before .before .before .before .pre .0, c .before .before .before .before .before .before .before .before .before .good .0)
+add-word32-at : tie.Need-add-word32-at
+add-word32-at c = let s = c .before .before .before .before .before .before .before .before .before .before in omega (arith, s .pre .0, s .good .0)
 
-word16-at-requires : tie.Need-word16-at-requires
-word16-at-requires c κs = omega (arith, c .before .before .before .before .before .before .before .before .before .pre .0)
+word32-at-requires : tie.Need-word32-at-requires
+word32-at-requires c κs = omega (arith, c .before .before .before .before .before .before .before .before .before .before .pre .0)
 
 sub-put-mantissa : tie.Need-sub-put-mantissa
 sub-put-mantissa c = omega arith
@@ -47,7 +50,7 @@ part-put-mantissa-start : tie.Need-part-put-mantissa-start
 part-put-mantissa-start c = omega arith
 
 part-put-mantissa-end : tie.Need-part-put-mantissa-end
-part-put-mantissa-end c = omega (arith, c .before .before .before .before .before .before .before .before .before .before .pre .1, c .before .before .out .given .1)
+part-put-mantissa-end c = omega (arith, c .before .before .before .before .before .before .before .before .before .before .before .pre .1, c .before .before .out .given .1)
 
 put-mantissa-requires : tie.Need-put-mantissa-requires
 put-mantissa-requires c κs = c .put-mantissa-arg .given .2
@@ -55,14 +58,14 @@ put-mantissa-requires c κs = c .put-mantissa-arg .given .2
 returns : tie.Need-returns
 returns c =
     let p = (c .before .before .before .before .before .before .before .before .before) in
-    let s = (c .before .before .before .before .before .before .before .before .before .before .before .before .before .before) in (
-      c .before .before .before .before .word16-at .ensures,
+    let s = (c .before .before .before .before .before .before .before .before .before .before .before .before .before .before .before) in (
+      c .before .before .before .before .word32-at .ensures,
       in-turn 2 4 (s .args .out .now) (s .pre .1) (size-exponent (p .gain-or-zero .result)) (c .before .before .before .before .before .before .before .put-exponent .ensures) (c .before .before .put-mantissa .ensures) ∙ content-parts (p .gain-or-zero .result)
-          ∙ ap sampleContent (p .gain-or-zero .ensures) ∙ gain-copied (s .args .reel .now) (s .args .at) (s .args .d) (s .pre .2),
+          ∙ ap sampleContent (p .gain-or-zero .ensures) ∙ gain-copied (s .args .reel .now) (s .args .at) (p .before .low-half .result) (p .before .low-half .ensures ∙ s .pre .2 .low),
     )
 
 same-length : tie.Need-same-length
-same-length c = let s = (c .before .before .before .before .before .before .before .before .before .before .before .before .before .before) in ap length (returns c .1) ∙ size-content (readWord 4 (bytesAt (s .args .reel .now) (s .args .at) 4)) ∙ sym (s .pre .1)
+same-length c = let s = (c .before .before .before .before .before .before .before .before .before .before .before .before .before .before .before) in ap length (returns c .1) ∙ size-content (readWord 4 (bytesAt (s .args .reel .now) (s .args .at) 4)) ∙ sym (s .pre .1)
 
 pub put-gain-word-spec : {M : Type 1} → statement M
 put-gain-word-spec =
@@ -71,13 +74,14 @@ put-gain-word-spec =
     shared-slice-read-gain-or-zero
     add-gain-or-zero
     shared-slice-read-gain-or-zero-2
+    low-half-requires
     gain-or-zero-requires
     sub-put-exponent
     part-put-exponent-start
     part-put-exponent-end
     put-exponent-requires
-    add-word16-at
-    word16-at-requires
+    add-word32-at
+    word32-at-requires
     sub-put-mantissa
     part-put-mantissa-start
     part-put-mantissa-end

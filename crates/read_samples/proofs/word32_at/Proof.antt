@@ -1,6 +1,8 @@
 -- `read_samples::word32_at` meets its contract. Assumes nothing.
 use Rattle.numbers.proofs.WalkLaws.{four-bytes}
+use Rattle.read_samples.proofs.SampleLaws.{word-at}
 use Rattle.numbers.specs.BigEndian.{number}
+use Prim.Native.Nat.{_+_}
 use mathlib.Core.Path.{sym, ap, _∙_}
 use native.Mathlib.Omega.{arith}
 use Rattle.read_samples.proofs.word32_at.Statement.{statement}
@@ -33,7 +35,7 @@ be32-requires c κs = tt
 returns : tie.Need-returns
 returns c =
     let a = c .before .before .before .before .before .before .args in
-    c .be32 .ensures ∙ ap number (sym (four-bytes (a .reel .now) (a .at)))
+    word-at (a .reel .now) (a .at) (c .be32 .result) (c .be32 .ensures ∙ ap number (sym (four-bytes (a .reel .now) (a .at)))) (omega (arith, c .before .before .before .before .before .shared-slice-known .given (a .at + 2))) (omega (arith, c .before .before .before .before .before .shared-slice-known .given (a .at + 3)))
 
 pub word32-at-spec : {M : Type 1} → statement M
 word32-at-spec =

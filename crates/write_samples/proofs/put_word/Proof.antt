@@ -1,0 +1,76 @@
+-- `write_samples::put_word` meets its contract. Assumes nothing.
+use Rattle.reel.proofs.CheckLaws.{code-limits}
+use Rattle.write_samples.proofs.WordLaws.{not-three, four-bytes-of}
+use Rattle.numbers.proofs.WalkLaws.{copied}
+use Rattle.value.specs.Writing.{writePair, wordBits}
+use Prim.Native.Nat.{ℕ}
+use mathlib.Core.Path.{_≡_, ap, _∙_}
+use native.Mathlib.Omega.{arith}
+use borrow.Author.Needs.{needs}
+use Rattle.write_samples.proofs.put_word.Statement.{statement}
+use Rattle.write_samples.proofs.put_word.Tie as tie
+
+ibm-bits-requires : tie.Need-ibm-bits-requires
+ibm-bits-requires c κs = search needs
+
+put32-requires : tie.Need-put32-requires
+put32-requires c κs = search needs
+
+same-length : tie.Need-same-length
+same-length c = search needs
+
+returns : tie.Need-returns
+returns c =
+    let t = c .before .before .before .before .before in
+    let b = t .before .before in
+    let is : 1 ≡ b .args .code = omega (arith, code-limits (b .args .code) (b .pre .0), t .if1 .taken) in
+    copied _ _ (c .before .before .put32 .ensures) (b .pre .2) ∙ four-bytes-of (b .args .code) (c .before .before .before .before .ibm-bits .result) (writePair (b .args .code) (b .args .p)) (b .pre .1) (c .before .before .before .before .ibm-bits .ensures ∙ ap (λ (k : ℕ). wordBits (writePair k (b .args .p))) is)
+
+whole32-bits-requires : tie.Need-whole32-bits-requires
+whole32-bits-requires c κs = search needs
+
+put32-requires-2 : tie.Need-put32-requires-2
+put32-requires-2 c κs = search needs
+
+same-length-2 : tie.Need-same-length-2
+same-length-2 c = search needs
+
+returns-2 : tie.Need-returns-2
+returns-2 c =
+    let t = c .before .before .before .before .before in
+    let b = t .before .before .before in
+    let is : 2 ≡ b .args .code = omega (arith, t .if2 .taken, t .before .if1 .left) in
+    copied _ _ (c .before .before .put322 .ensures) (b .pre .2) ∙ four-bytes-of (b .args .code) (c .before .before .before .before .whole32-bits .result) (writePair (b .args .code) (b .args .p)) (b .pre .1) (c .before .before .before .before .whole32-bits .ensures ∙ ap (λ (k : ℕ). wordBits (writePair k (b .args .p))) is)
+
+gain-bits-requires : tie.Need-gain-bits-requires
+gain-bits-requires c κs = search needs
+
+put32-requires-3 : tie.Need-put32-requires-3
+put32-requires-3 c κs = search needs
+
+same-length-3 : tie.Need-same-length-3
+same-length-3 c = search needs
+
+returns-3 : tie.Need-returns-3
+returns-3 c =
+    let t = c .before .before .before .before .before in
+    let b = t .before .before .before in
+    let is : 4 ≡ b .args .code = omega (arith, code-limits (b .args .code) (b .pre .0), t .if2 .left, not-three (b .args .code) (b .pre .1)) in
+    copied _ _ (c .before .before .put323 .ensures) (b .pre .2) ∙ four-bytes-of (b .args .code) (c .before .before .before .before .gain-bits .result) (writePair (b .args .code) (b .args .p)) (b .pre .1) (c .before .before .before .before .gain-bits .ensures ∙ ap (λ (k : ℕ). wordBits (writePair k (b .args .p))) is)
+
+pub put-word-spec : {M : Type 1} → statement M
+put-word-spec =
+    tie.close
+    (tie.spec
+    ibm-bits-requires
+    put32-requires
+    same-length
+    returns
+    whole32-bits-requires
+    put32-requires-2
+    same-length-2
+    returns-2
+    gain-bits-requires
+    put32-requires-3
+    same-length-3
+    returns-3)

@@ -1,0 +1,182 @@
+-- `write_samples::put_words` meets its contract. Assumes nothing.
+use Rattle.write_samples.proofs.WordLaws.{size-samples, samples-none, fetched-bytes, four-bytes-of, next-put, last-put}
+use Rattle.write_samples.specs.Samples.{wordBytes, samplesCopied}
+use Rattle.numbers.proofs.Filling.{Filling, start as begin, finish, again}
+use Rattle.numbers.proofs.WalkLaws.{times-more, copied}
+use Rattle.numbers.specs.Walk.{bytesAt}
+use Rattle.numbers.specs.BigEndian.{number}
+use lib.ListN.{length}
+use Prim.Native.Nat.{ℕ, _+_, _-_, _*_, _≤_}
+use mathlib.Core.Path.{_≡_, sym, ap, _∙_}
+use native.Mathlib.Omega.{arith}
+use Rattle.write_samples.proofs.put_words.Statement.{statement}
+use Rattle.write_samples.proofs.put_words.Tie as tie
+
+abbrev Inv-loop : tie.InvT-loop
+Inv-loop «record» code n start out₀ at₀ o₀ left₀ e₀ m₀ out at o left e m =
+    (at + left * 6 + 6 ≤ length «record») × (length out ≡ n * 4) × (o + left * 4 + 4 ≡ n * 4) × (e ≡ number (bytesAt «record» at 2)) × (m ≡ number (bytesAt «record» (at + 2) 4))
+    × Filling (samplesCopied «record» code n start) out o (samplesCopied «record» code (left + 1) at)
+
+abbrev μ-loop : tie.MeasureT-loop
+μ-loop «record» code n start out₀ at₀ o₀ left₀ e₀ m₀ out at o left e m = left
+
+-- the samples' length
+size : (c : tie.Start Inv-loop μ-loop) → length (c .args .out .now) ≡ length (samplesCopied (c .args .«record» .now) (c .args .code) (c .args .n) (c .args .start))
+size c = c .pre .3 ∙ ap (λ (v : ℕ). c .args .n * v) (sym (c .pre .1)) ∙ sym (size-samples (c .args .«record» .now) (c .args .code) (c .args .n) (c .args .start))
+
+returns : tie.Need-returns Inv-loop μ-loop
+returns c =
+    let b = c .before .before .before in
+    finish (begin _ _ (size b)) (samples-none (b .args .«record» .now) (b .args .code) (b .args .n) (b .args .start) (omega (arith, c .if1 .taken)))
+
+exponent-at-requires : tie.Need-exponent-at-requires Inv-loop μ-loop
+exponent-at-requires c κs = omega (arith, times-more (c .before .before .before .args .n) 6 (omega (arith, c .if1 .left)), c .before .before .before .pre .2)
+
+mantissa-at-requires : tie.Need-mantissa-at-requires Inv-loop μ-loop
+mantissa-at-requires c κs = omega (arith, times-more (c .before .before .before .before .args .n) 6 (omega (arith, c .before .if1 .left)), c .before .before .before .before .pre .2)
+
+loop-holds : tie.Need-loop-holds Inv-loop μ-loop
+loop-holds c =
+    let b = c .before .before .before .before .before in
+    let a = b .args in
+    let some = c .before .before .if1 .left in
+    let e : a .n ≡ a .n - 1 + 1 = omega (arith, some) in (
+      omega (arith, times-more (a .n) 6 (omega (arith, some)), b .pre .2),
+      b .pre .3,
+      omega (arith, times-more (a .n) 4 (omega (arith, some))),
+      c .before .exponent-at .ensures,
+      c .mantissa-at .ensures,
+      again (begin _ _ (size b)) (ap (λ (j : ℕ). samplesCopied (a .«record» .now) (a .code) j (a .start)) e),
+    )
+
+add-next : tie.Need-add-next Inv-loop μ-loop
+add-next c = omega (arith, c .before .loop .inv .1, c .before .loop .inv .2)
+
+pair-of-bits-requires : tie.Need-pair-of-bits-requires Inv-loop μ-loop
+pair-of-bits-requires c κs = tt
+
+sub-put-word : tie.Need-sub-put-word Inv-loop μ-loop
+sub-put-word c = omega arith
+
+part-put-word-start : tie.Need-part-put-word-start Inv-loop μ-loop
+part-put-word-start c = omega arith
+
+part-put-word-end : tie.Need-part-put-word-end Inv-loop μ-loop
+part-put-word-end c = omega (arith, c .before .before .loop .inv .1, c .before .before .loop .inv .2)
+
+put-word-requires : tie.Need-put-word-requires Inv-loop μ-loop
+put-word-requires c κs =
+    let p = c .before .before .before .before .before .before .before .before .before .pre in
+    (p .0, p .1, c .put-word-arg .given .2 ∙ omega arith)
+
+add-at : tie.Need-add-at Inv-loop μ-loop
+add-at c =
+    let l = c .before .before .before .before .before .before .loop in
+    omega (arith, times-more (l .left) 6 (c .before .before .before .before .before .loop-test .taken), l .inv .0)
+
+exponent-at-requires-2 : tie.Need-exponent-at-requires-2 Inv-loop μ-loop
+exponent-at-requires-2 c κs =
+    let l = c .before .before .before .before .before .before .loop in
+    omega (arith, times-more (l .left) 6 (c .before .before .before .before .before .loop-test .taken), l .inv .0)
+
+mantissa-at-requires-2 : tie.Need-mantissa-at-requires-2 Inv-loop μ-loop
+mantissa-at-requires-2 c κs =
+    let l = c .before .before .before .before .before .before .before .loop in
+    omega (arith, times-more (l .left) 6 (c .before .before .before .before .before .before .loop-test .taken), l .inv .0)
+
+sub-left : tie.Need-sub-left Inv-loop μ-loop
+sub-left c = omega (arith, c .before .before .before .before .before .before .before .loop-test .taken)
+
+loop-less : tie.Need-loop-less Inv-loop μ-loop
+loop-less c = omega (arith, c .before .before .before .before .before .before .before .loop-test .taken)
+
+loop-again : tie.Need-loop-again Inv-loop μ-loop
+loop-again c =
+    let l = c .before .before .before .before .before .before .before .before .loop in
+    let b = c .before .before .before .before .before .before .before .before .before .before .before .before .before .before in
+    let s = b .args .«record» .now in
+    let some = c .before .before .before .before .before .before .before .loop-test .taken in
+    let p = c .before .before .before .before .before .before .pair-of-bits in
+    let new = c .before .before .before .before .put-word .ensures ∙ fetched-bytes s (b .args .code) (l .at) (l .e) (l .m) (p .result) (p .ensures) (l .inv .3) (l .inv .4) in
+    let f = next-put s (b .args .code) (l .left) (l .at) (l .o) (l .o + 4) some (ap (λ (v : ℕ). l .o + v) (sym (b .pre .1))) (l .inv .5) new in (
+      omega (arith, times-more (l .left) 6 some, l .inv .0),
+      f .size ∙ sym (l .inv .5 .size) ∙ l .inv .1,
+      omega (arith, times-more (l .left) 4 some, l .inv .2),
+      c .before .exponent-at2 .ensures,
+      c .mantissa-at2 .ensures,
+      f,
+    )
+
+pair-of-bits-requires-2 : tie.Need-pair-of-bits-requires-2 Inv-loop μ-loop
+pair-of-bits-requires-2 c κs = tt
+
+write-requires : tie.Need-write-requires Inv-loop μ-loop
+write-requires c κs = tt
+
+bits-of-requires : tie.Need-bits-of-requires Inv-loop μ-loop
+bits-of-requires c κs = tt
+
+add-put32 : tie.Need-add-put32 Inv-loop μ-loop
+add-put32 c = omega (arith, c .before .before .before .before .loop .inv .1, c .before .before .before .before .loop .inv .2)
+
+sub-put32 : tie.Need-sub-put32 Inv-loop μ-loop
+sub-put32 c = omega arith
+
+part-put32-start : tie.Need-part-put32-start Inv-loop μ-loop
+part-put32-start c = omega arith
+
+part-put32-end : tie.Need-part-put32-end Inv-loop μ-loop
+part-put32-end c = omega (arith, c .before .before .before .before .loop .inv .1, c .before .before .before .before .loop .inv .2)
+
+put32-requires : tie.Need-put32-requires Inv-loop μ-loop
+put32-requires c κs = tt
+
+returns-2 : tie.Need-returns-2 Inv-loop μ-loop
+returns-2 c =
+    let l = c .before .before .before .before .before .before .before .before .loop in
+    let b = c .before .before .before .before .before .before .before .before .before .before .before .before .before .before in
+    let s = b .args .«record» .now in
+    let p = c .before .before .before .before .before .before .pair-of-bits2 in
+    let w = c .before .before .before .before .before .write in
+    let bits = c .before .before .before .before .bits-of in
+    let new = copied _ _ (c .before .before .put32 .ensures) (c .before .before .before .put32-arg .given .2 ∙ omega arith) ∙ four-bytes-of (b .args .code) (bits .result) (w .result) (b .pre .1) (bits .ensures)
+    ∙ ap (wordBytes (b .args .code)) (w .ensures) ∙ fetched-bytes s (b .args .code) (l .at) (l .e) (l .m) (p .result) (p .ensures) (l .inv .3) (l .inv .4) in
+    last-put s (b .args .code) (l .left) (l .at) (l .o) (l .o + 4) (c .before .before .before .before .before .before .before .loop-test .left) (ap (λ (v : ℕ). l .o + v) (sym (b .pre .1))) (l .inv .5) new
+
+same-length : tie.Need-same-length Inv-loop μ-loop
+same-length c =
+    let b = c .before .before .before .before .before .before .before .before .before .before .before .before .before .before in
+    ap length (returns-2 c) ∙ sym (size b)
+
+pub put-words-spec : {M : Type 1} → statement M
+put-words-spec =
+    tie.close
+    (tie.spec
+    Inv-loop
+    μ-loop
+    returns
+    exponent-at-requires
+    mantissa-at-requires
+    loop-holds
+    add-next
+    pair-of-bits-requires
+    sub-put-word
+    part-put-word-start
+    part-put-word-end
+    put-word-requires
+    add-at
+    exponent-at-requires-2
+    mantissa-at-requires-2
+    sub-left
+    loop-less
+    loop-again
+    pair-of-bits-requires-2
+    write-requires
+    bits-of-requires
+    add-put32
+    sub-put32
+    part-put32-start
+    part-put32-end
+    put32-requires
+    same-length
+    returns-2)
