@@ -4,7 +4,7 @@ ghost use mathlib.Core.Path.{_≡_};
 ghost use Rattle.numbers.specs.Outcome.{Outcome};
 ghost use Rattle.sample.specs.Calls as single;
 ghost use Rattle.record.specs.Answer.{saidBy};
-ghost use Rattle.transcribe.specs.Reading.{readOutcome};
+ghost use Rattle.read_reel.specs.Reading.{readOutcome};
 ghost use Rattle.write_reel.specs.Writing.{writeOutcome};
 ghost use Rattle.look_up.specs.LookUp.{lookedUp, lookUpOutcome};
 ghost use Rattle.aukpocket.specs.Interface.{reelAnswer, reelIn, reelHanded, fieldHanded, sampleAnswer, sampleIn, sampleHanded};
@@ -68,7 +68,7 @@ fn reel_answer(answer: Answer) -> ReelAnswer
 pub extern "C" fn aukpocket_read_reel(reel: &[u8], out: &mut [u8]) -> ReelAnswer
     ensures { λ r. ⌜ reelIn r (now (out .exit)) ≡ reelHanded (readOutcome (now (reel .entry)) (now (out .entry))) ⌝ }
 {
-    reel_answer(transcribe::read_reel(reel, out))
+    reel_answer(read_reel::read_reel(reel, out))
 }
 
 // Writes a record under a target code as a reel, into the front of a reel buffer.

@@ -55,10 +55,9 @@ use Rattle.record.specs.Record.{reelRecord}
 use Rattle.record.specs.Form.{heldSamples, heldCount}
 use Rattle.record.specs.Held.{heldBy}
 use Rattle.record.specs.Target.{isUnfit, targetCauses}
-use Rattle.transcribe.specs.Reading as reading
-use Rattle.transcribe.specs.Reading.{readCauses, readEnd, readOutcome}
+use Rattle.read_reel.specs.Reading.{recordLengthOf, readCauses, readEnd, readOutcome}
 use Rattle.write_reel.specs.Reel.{reelOf}
-use Rattle.write_reel.specs.Writing.{lengthOf, writeCauses, writeEnd, writeOutcome}
+use Rattle.write_reel.specs.Writing.{reelLengthOf, writeCauses, writeEnd, writeOutcome}
 use Rattle.look_up.specs.LookUp.{Found, found, none, isNone, fieldIn, fieldAt, headerNumber, foundNumber, fieldCauses, lookUpCauses, numberSaid, lookUpOutcome}
 use Rattle.reel_theorems.proofs.TestLaws.{atPlace, Between, Tests, apart, fine-where, refused-where, holds-where, row-where, then-row, then-first, then-second, and-both, test-between, test-room, test-by, not-enough, too-short, fine-none}
 use Rattle.reel_theorems.proofs.Refusals.{Row, exact-causes, no-cause}
@@ -109,30 +108,30 @@ behind front out l e h = (omega (arith, length-append front (drop l out), length
 
 -- The numbers that reading returns: T, N and the record's length, 3273 + T × (186 + 6N).
 abbrev pub readNumbers : List ℕ → List ℕ
-readNumbers s = tracesOf s ∷ samplesOf s ∷ reading.lengthOf s ∷ []
+readNumbers s = tracesOf s ∷ samplesOf s ∷ recordLengthOf s ∷ []
 
 -- The rows of reading into an output of `room` bytes.
 pub data ReadRow (s : List ℕ) (room : ℕ) : ℕ → ℕ → Type 0 where
   -- 1 to 9: a row of their table applies to the reel
   by-reel : {number place : ℕ} → Row s number place → ReadRow s room number place
   -- 10: none of them applies, and the output is too short for the record, with the record's length, 3273 + T × (186 + 6N)
-  short-output : ((number place : ℕ) → ¬ (Row s number place)) → room < reading.lengthOf s → ReadRow s room 10 (reading.lengthOf s)
+  short-output : ((number place : ℕ) → ¬ (Row s number place)) → room < recordLengthOf s → ReadRow s room 10 (recordLengthOf s)
 
 -- The causes of reading are these rows.
 read-exact : (s : List ℕ) (room number place : ℕ) → Iff (readCauses s room ≡ Refused number (atPlace place)) (ReadRow s room number place)
 read-exact s room number place = (there, back)
   where
-    room-test : Tests (reading.lengthOf s ≤ room) 10 (reading.lengthOf s) (refuseIf (ltb room (reading.lengthOf s)) 10 (reading.lengthOf s))
-    room-test = test-room room (reading.lengthOf s) 10 (reading.lengthOf s)
+    room-test : Tests (recordLengthOf s ≤ room) 10 (recordLengthOf s) (refuseIf (ltb room (recordLengthOf s)) 10 (recordLengthOf s))
+    room-test = test-room room (recordLengthOf s) 10 (recordLengthOf s)
 
     there : readCauses s room ≡ Refused number (atPlace place) → ReadRow s room number place
     there =
         then-row (ReadRow s room) (causesOf s) _ (λ e. by-reel (exact-causes s number place .0 e))
-        (λ e. row-where room-test (ReadRow s room) (λ m. short-output (no-cause s .0 e) (not-enough room (reading.lengthOf s) m)))
+        (λ e. row-where room-test (ReadRow s room) (λ m. short-output (no-cause s .0 e) (not-enough room (recordLengthOf s) m)))
 
     back : {number place : ℕ} → ReadRow s room number place → readCauses s room ≡ Refused number (atPlace place)
     back {number} {place} (by-reel r) = then-first (causesOf s) _ (exact-causes s number place .1 r)
-    back (short-output h l) = then-second _ _ (no-cause s .1 h) (refused-where room-test (too-short room (reading.lengthOf s) l))
+    back (short-output h l) = then-second _ _ (no-cause s .1 h) (refused-where room-test (too-short room (recordLengthOf s) l))
 
 module _ (s out : List ℕ) where
   -- What reading says, by what its checks answer.
@@ -174,10 +173,10 @@ module _ (s out : List ℕ) where
       let q : readCauses s (length out) ≡ Fine = says-fine readSays (readNumbers s) refl (λ n p. refl) (readCauses s (length out)) (t ∷ n ∷ l ∷ []) e in
       let f = then-fine (causesOf s) _ q in
       let same : taken (readNumbers s) ≡ taken (t ∷ n ∷ l ∷ []) = sym (ap readSays q) ∙ e in
-      let size : reading.lengthOf s ≡ l = cc in
-      let r = behind (reelRecord s) out (reading.lengthOf s) (record-size s b (f .0)) (at-most (length out) (reading.lengthOf s) 10 (reading.lengthOf s) (f .1)) in
+      let size : recordLengthOf s ≡ l = cc in
+      let r = behind (reelRecord s) out (recordLengthOf s) (record-size s b (f .0)) (at-most (length out) (recordLengthOf s) 10 (recordLengthOf s) (f .1)) in
       subst (λ (x : ℕ). (length (readOutcome s out .bytes) ≡ length out) × (drop x (readOutcome s out .bytes) ≡ drop x out)) size
-      (subst (λ (c : Check). (length (readEnd s out c .bytes) ≡ length out) × (drop (reading.lengthOf s) (readEnd s out c .bytes) ≡ drop (reading.lengthOf s) out)) (sym q) r)
+      (subst (λ (c : Check). (length (readEnd s out c .bytes) ≡ length out) × (drop (recordLengthOf s) (readEnd s out c .bytes) ≡ drop (recordLengthOf s) out)) (sym q) r)
 
 -- Document 01's example: 3,200 bytes 40, a binary header all 0 but interval 2000, N 2, code 1, and one trace with a zero header and words
 -- 41100000 C276A000.
@@ -200,7 +199,7 @@ example-taken = refl
 
 -- The numbers that writing returns: T and N as the record holds them, and the reel's length, 3600 + T × (240 + N × the bytes of a sample).
 abbrev pub writtenNumbers : List ℕ → ℕ → List ℕ
-writtenNumbers r code = heldCount r (heldSamples r) ∷ heldSamples r ∷ lengthOf r code ∷ []
+writtenNumbers r code = heldCount r (heldSamples r) ∷ heldSamples r ∷ reelLengthOf r code ∷ []
 
 module _ (r : List ℕ) (code : ℕ) (out : List ℕ) where
   -- What writing says, by what its checks answer.
@@ -239,7 +238,7 @@ module _ (r : List ℕ) (code : ℕ) (out : List ℕ) where
       → (length (writeOutcome r code out .bytes) ≡ length out) × (drop l (writeOutcome r code out .bytes) ≡ drop l out)
   unfolding writeSays
   write-rest t n l e =
-      let size = lengthOf r code in
+      let size = reelLengthOf r code in
       let q : writeCauses r code (length out) ≡ Fine = says-fine writeSays (writtenNumbers r code) refl (λ n p. refl) (writeCauses r code (length out)) (t ∷ n ∷ l ∷ []) e in
       let f = then-fine (targetCauses r code) _ q in
       let same : taken (heldCount r (heldSamples r) ∷ heldSamples r ∷ size ∷ []) ≡ taken (t ∷ n ∷ l ∷ []) = sym (ap writeSays q) ∙ e in
@@ -256,7 +255,7 @@ headerFields k = pick (eqb k 0) binaryFields traceFields
 
 -- No assigned field of header k begins at byte number b.
 abbrev pub NoField : ℕ → ByteNo → Type 0
-NoField k b = All (λ f. ¬ (f .byteNo ≡ byteNo b)) (headerFields k)
+NoField k b = All (λ f. ¬ (f .begins ≡ byteNo b)) (headerFields k)
 
 -- The rows of looking up byte number b of header k.
 pub data LookUpRow (s : List ℕ) (k : ℕ) (b : ByteNo) : ℕ → ℕ → Type 0 where
@@ -268,31 +267,31 @@ pub data LookUpRow (s : List ℕ) (k : ℕ) (b : ByteNo) : ℕ → ℕ → Type 
   no-field : ((number place : ℕ) → ¬ (Row s number place)) → k ≤ tracesOf s → NoField k b → LookUpRow s k b 16 0
 
 -- No field is found exactly where none begins at the byte number.
-none-found : (b : ℕ) (fs : List Field) → Iff (isNone (fieldIn b fs) ≡ true) (All (λ f. ¬ (f .byteNo ≡ b)) fs)
+none-found : (b : ℕ) (fs : List Field) → Iff (isNone (fieldIn b fs) ≡ true) (All (λ f. ¬ (f .begins ≡ b)) fs)
 unfolding fieldIn
 none-found b [] = (λ e. tt, λ h. refl)
-none-found b (f ∷ fs) = go (eqb (f .byteNo) b) refl (none-found b fs)
+none-found b (f ∷ fs) = go (eqb (f .begins) b) refl (none-found b fs)
   where
-    go : (c : Bool) → eqb (f .byteNo) b ≡ c → Iff (isNone (fieldIn b fs) ≡ true) (All (λ g. ¬ (g .byteNo ≡ b)) fs)
-        → Iff (isNone (pick c (found f) (fieldIn b fs)) ≡ true) ((¬ (f .byteNo ≡ b)) × All (λ g. ¬ (g .byteNo ≡ b)) fs)
-    go true e r = (λ q. absurd (apart q), λ h. absurd (h .0 (eqb-true (f .byteNo) b e)))
-    go false e r = (λ q. (eqb-false (f .byteNo) b e, r .0 q), λ h. r .1 (h .1))
+    go : (c : Bool) → eqb (f .begins) b ≡ c → Iff (isNone (fieldIn b fs) ≡ true) (All (λ g. ¬ (g .begins ≡ b)) fs)
+        → Iff (isNone (pick c (found f) (fieldIn b fs)) ≡ true) ((¬ (f .begins ≡ b)) × All (λ g. ¬ (g .begins ≡ b)) fs)
+    go true e r = (λ q. absurd (apart q), λ h. absurd (h .0 (eqb-true (f .begins) b e)))
+    go false e r = (λ q. (eqb-false (f .begins) b e, r .0 q), λ h. r .1 (h .1))
 
 -- The field that is found begins there.
-found-begins : (b : ℕ) (fs : List Field) (f : Field) → fieldIn b fs ≡ found f → f .byteNo ≡ b
+found-begins : (b : ℕ) (fs : List Field) (f : Field) → fieldIn b fs ≡ found f → f .begins ≡ b
 unfolding fieldIn
 found-begins b [] f e = absurd (apart (sym (ap isNone e)))
-found-begins b (g ∷ fs) f e = go (λ h. found-begins b fs f h) (eqb (g .byteNo) b) refl e
+found-begins b (g ∷ fs) f e = go (λ h. found-begins b fs f h) (eqb (g .begins) b) refl e
   where
-    go : (fieldIn b fs ≡ found f → f .byteNo ≡ b) → (c : Bool) → eqb (g .byteNo) b ≡ c → pick c (found g) (fieldIn b fs) ≡ found f → f .byteNo ≡ b
-    go rest true q e = let h : g ≡ f = cc in ap (λ (x : Field). x .byteNo) (sym h) ∙ eqb-true (g .byteNo) b q
+    go : (fieldIn b fs ≡ found f → f .begins ≡ b) → (c : Bool) → eqb (g .begins) b ≡ c → pick c (found g) (fieldIn b fs) ≡ found f → f .begins ≡ b
+    go rest true q e = let h : g ≡ f = cc in ap (λ (x : Field). x .begins) (sym h) ∙ eqb-true (g .begins) b q
     go rest false q e = rest e
 
 -- z is the number of an assigned field of header k that begins at byte number b.
 pub record LookedUp (s : List ℕ) (k : ℕ) (b : ByteNo) (z : ℤ) : Type 0 where
   pub field : Field
   pub assigned : fieldAt k b ≡ found field
-  pub begins : field .byteNo ≡ byteNo b
+  pub begins : field .begins ≡ byteNo b
   pub number : z ≡ headerNumber s k field
 
 -- A test that refuses where a truth value is true.

@@ -35,7 +35,7 @@ use Rattle.reel.specs.Meaning.{meaningOf}
 use Rattle.record.specs.Record.{recordOf}
 use Rattle.record.specs.Form.{heldInterval, heldSamples, heldCount, formCauses}
 use Rattle.record.specs.Held.{heldBy}
-use Rattle.transcribe.specs.Reading.{readOutcome}
+use Rattle.read_reel.specs.Reading.{readOutcome}
 use Rattle.write_reel.specs.Reel.{reelOf, reelLength}
 use Rattle.write_reel.specs.Writing.{writeEnd, writeOutcome}
 use Rattle.reel_theorems.proofs.Same.{record-size}

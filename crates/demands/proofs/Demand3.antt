@@ -36,12 +36,12 @@ use Rattle.numbers.proofs.ByteLaws.{Bytes, bytes-at}
 use Rattle.numbers.proofs.CauseLaws.{passed, then-fine, first-all}
 use Rattle.value.specs.Value.{denominatorPower, isCode, exactValue}
 use Rattle.sample_theorems.proofs.Pairs.{Iff}
-use Rattle.reel.specs.Layout.{firstTrace, traceHeader, word, intervalOf, samplesOf, codeOf, sampleBytes, strideOf, tracesOf}
+use Rattle.reel.specs.Layout.{firstTrace, traceHeader, number16, intervalOf, samplesOf, codeOf, sampleBytes, strideOf, tracesOf}
 use Rattle.reel.specs.Causes.{neither, wordCause, traceCauses, causesOf}
 use Rattle.reel.specs.Meaning.{Trace, traceMeaning, Meaning, meaningOf, MeanTheSame}
 use Rattle.reel.proofs.CheckLaws.{reel-fine}
 use Rattle.record.specs.Record.{reelRecord}
-use Rattle.transcribe.specs.Reading.{readOutcome}
+use Rattle.read_reel.specs.Reading.{readOutcome}
 use Rattle.write_reel.specs.Reel.{reelLength}
 use Rattle.write_reel.specs.Writing.{writeOutcome}
 use Rattle.reel_theorems.proofs.TestLaws.{at-zero, at-suc}
@@ -179,8 +179,8 @@ written-in-each-code s out t n l code out₂ b e c f h =
 trace-words : (s : List ℕ) → Bytes s → (code n i at : ℕ) → traceCauses s code n i at ≡ Fine → All (HasWord code) (traceMeaning s code n i at .values)
 unfolding traceCauses traceMeaning
 trace-words s h code n i at e =
-    let a = then-fine (refuseIf (neither (word s (at + 114)) n) 7 (at + 114)) _ e in
-    let b = then-fine (refuseIf (neither (word s (at + 116)) i) 8 (at + 116)) _ (a .1) in
+    let a = then-fine (refuseIf (neither (number16 s (at + 114)) n) 7 (at + 114)) _ e in
+    let b = then-fine (refuseIf (neither (number16 s (at + 116)) i) 8 (at + 116)) _ (a .1) in
     first-all (wordCause s code) (λ p. exactValue code (bytesAt s p 4)) (HasWord code) own-word (sampleBytes code) n (at + traceHeader) (b .1)
   where
     own-word : (p : ℕ) → wordCause s code p ≡ Fine → HasWord code (exactValue code (bytesAt s p 4))

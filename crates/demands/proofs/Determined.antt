@@ -23,7 +23,7 @@ use Rattle.reel.specs.Meaning.{meaningOf}
 use Rattle.record.specs.Record.{recordOf}
 use Rattle.record.specs.Form.{heldSamples, heldCount, formCauses}
 use Rattle.record.specs.Held.{heldBy}
-use Rattle.transcribe.specs.Reading.{readOutcome}
+use Rattle.read_reel.specs.Reading.{readOutcome}
 use Rattle.sample_theorems.proofs.Pairs.{Iff}
 use Rattle.reel_theorems.proofs.Output.{taken-reel}
 use Rattle.demands.proofs.Again.{held-again}

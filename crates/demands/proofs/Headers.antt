@@ -12,7 +12,7 @@ use Rattle.numbers.specs.TwosComplement.{signedOf, bitsOf}
 use Rattle.numbers.proofs.WalkLaws.{All}
 use Rattle.numbers.proofs.ByteLaws.{Bytes, number-at}
 use Rattle.numbers.proofs.SignLaws.{bits-signed}
-use Rattle.reel.specs.Layout.{fieldsFrom, binaryWidths, binaryFields, traceWidths, traceFields, fieldNumber, word}
+use Rattle.reel.specs.Layout.{fieldsFrom, binaryWidths, binaryFields, traceWidths, traceFields, fieldNumber, number16}
 use Rattle.reel.specs.Meaning.{otherThan, Trace, Meaning}
 use Rattle.record.specs.Record.{numberBytes, binaryBytes}
 use Rattle.record.proofs.NumberLaws.{numbers-append}
@@ -60,8 +60,8 @@ bytes-cards [] h = tt
 bytes-cards (b ∷ l) h = (h .0 .1, bytes-cards l (h .1))
 
 -- Two bytes whose signed number is n hold n.
-pub word-is : (s : List ℕ) → Bytes s → (at n : ℕ) → signedOf 16 (word s at) ≡ pos n → word s at ≡ n
-word-is s h at n e = sym (bits-signed 16 (word s at) (omega arith) (number-at s h at 2)) ∙ ap (bitsOf 16) e
+pub word-is : (s : List ℕ) → Bytes s → (at n : ℕ) → signedOf 16 (number16 s at) ≡ pos n → number16 s at ≡ n
+word-is s h at n e = sym (bits-signed 16 (number16 s at) (omega arith) (number-at s h at 2)) ∙ ap (bitsOf 16) e
 
 -- ## A meaning
 
@@ -82,12 +82,12 @@ fit-length (w ∷ ws) [] h = absurd h
 fit-length (w ∷ ws) (z ∷ zs) h = ap suc (fit-length ws zs (h .2))
 
 -- The eighth of the 26 binary numbers is field 3221.
-eighth : (s : List ℕ) (start : ℕ) → getD (map (fieldNumber s start) (otherThan 3225 binaryFields)) 7 (pos 0) ≡ signedOf 16 (word s (start + 3220))
+eighth : (s : List ℕ) (start : ℕ) → getD (map (fieldNumber s start) (otherThan 3225 binaryFields)) 7 (pos 0) ≡ signedOf 16 (number16 s (start + 3220))
 unfolding binaryFields binaryWidths
 eighth s start = refl
 
 -- The sixth of them is field 3217.
-sixth : (s : List ℕ) (start : ℕ) → getD (map (fieldNumber s start) (otherThan 3225 binaryFields)) 5 (pos 0) ≡ signedOf 16 (word s (start + 3216))
+sixth : (s : List ℕ) (start : ℕ) → getD (map (fieldNumber s start) (otherThan 3225 binaryFields)) 5 (pos 0) ≡ signedOf 16 (number16 s (start + 3216))
 unfolding binaryFields binaryWidths
 sixth s start = refl
 
@@ -140,26 +140,26 @@ module _ (n i : ℕ) (m : Meaning) (p : Proper n i m) (code : ℕ) where
         binary-around s start ∙ ap₂ (λ (k l : List ℤ). k ++ l) x y ∙ take-append-drop 9 (m .binary)
 
     -- Its format code is the one that was put there.
-    pub code-again : code < 256 ^ 2 → word s (start + 3224) ≡ code
+    pub code-again : code < 256 ^ 2 → number16 s (start + 3224) ≡ code
     code-again h = from-number 2 code _ h from-code
 
     -- Field 3221 is N.
-    pub samples-again : word s (start + 3220) ≡ n
+    pub samples-again : number16 s (start + 3220) ≡ n
     samples-again = word-is s b (start + 3220) n (sym (eighth s start) ∙ ap (λ (l : List ℤ). getD l 7 (pos 0)) binary-again ∙ p .n-is)
 
     -- Field 3217 is the interval.
-    pub interval-again : word s (start + 3216) ≡ i
+    pub interval-again : number16 s (start + 3216) ≡ i
     interval-again = word-is s b (start + 3216) i (sym (sixth s start) ∙ ap (λ (l : List ℤ). getD l 5 (pos 0)) binary-again ∙ p .i-is)
 
 -- ## A trace's header
 
 -- The 39th of the 71 numbers is field 115.
-pub count-at : (s : List ℕ) (at : ℕ) → getD (map (fieldNumber s at) traceFields) 38 (pos 0) ≡ signedOf 16 (word s (at + 114))
+pub count-at : (s : List ℕ) (at : ℕ) → getD (map (fieldNumber s at) traceFields) 38 (pos 0) ≡ signedOf 16 (number16 s (at + 114))
 unfolding traceFields traceWidths
 count-at s at = refl
 
 -- The 40th of them is field 117.
-pub interval-at : (s : List ℕ) (at : ℕ) → getD (map (fieldNumber s at) traceFields) 39 (pos 0) ≡ signedOf 16 (word s (at + 116))
+pub interval-at : (s : List ℕ) (at : ℕ) → getD (map (fieldNumber s at) traceFields) 39 (pos 0) ≡ signedOf 16 (number16 s (at + 116))
 unfolding traceFields traceWidths
 interval-at s at = refl
 
@@ -184,9 +184,9 @@ module _ (n i : ℕ) (t : Trace) (p : ProperTrace n i t) where
     numbers-again = from-numbers at 1 traceWidths (t .numbers) rest (omega arith) (omega arith) (p .fit) f
 
     -- Field 115 is N.
-    pub count-again : word s (at + 114) ≡ n
+    pub count-again : number16 s (at + 114) ≡ n
     count-again = word-is s b (at + 114) n (sym (count-at s at) ∙ ap (λ (l : List ℤ). getD l 38 (pos 0)) numbers-again ∙ p .n-is)
 
     -- Field 117 is the interval.
-    pub spacing-again : word s (at + 116) ≡ i
+    pub spacing-again : number16 s (at + 116) ≡ i
     spacing-again = word-is s b (at + 116) i (sym (interval-at s at) ∙ ap (λ (l : List ℤ). getD l 39 (pos 0)) numbers-again ∙ p .i-is)

@@ -13,6 +13,7 @@ use lib.Dec.{eqb}
 use lib.ListN.{getD, take, drop}
 use lib.IntN.{pos}
 use Rattle.numbers.specs.Walk.{pick, bytesAt}
+use Rattle.numbers.specs.Places.{bytePlace}
 use Rattle.numbers.specs.TwosComplement.{signedOf}
 use Rattle.numbers.specs.Cause.{refuseIf}
 use Rattle.numbers.specs.declared.Check.the-variants.{Fine}
@@ -21,7 +22,7 @@ use Rattle.numbers.proofs.ByteLaws.{Bytes, bytes-at}
 use Rattle.numbers.proofs.CauseLaws.{passed, then-fine, first-all}
 use Rattle.value.specs.Pair.{pairOf, isCanonical, pairLength, pairIn}
 use Rattle.sample_theorems.proofs.Pairs.{value-pair-back}
-use Rattle.reel.specs.Layout.{cardBytes, binaryWidths, binaryFields, traceWidths, traceFields, fieldNumber, firstTrace, word, samplesOf, intervalOf, codeOf, strideOf, tracesOf}
+use Rattle.reel.specs.Layout.{cardBytes, binaryWidths, binaryFields, traceWidths, traceFields, fieldNumber, firstTrace, number16, samplesOf, intervalOf, codeOf, strideOf, tracesOf}
 use Rattle.reel.specs.Causes.{mostTraces, neither, traceCauses, causesOf}
 use Rattle.reel.specs.Meaning.{blank, cardText, binaryNumbers, filled, traceMeaning, meaningOf}
 use Rattle.reel.proofs.CheckLaws.{reel-fine}
@@ -64,13 +65,13 @@ pub value-held : (s : List ℕ) (at : ℕ) → CanonicalAt s at → isCanonical 
 value-held s at c = ap isCanonical (value-pair-back (pairIn (bytesAt s at pairLength)) c) ∙ c
 
 -- The numbers of fields 115 and 117 in a record's trace.
-held-count : (s : List ℕ) (at : ℕ) → getD (map (fieldNumber s (at + 3)) traceFields) 38 (pos 0) ≡ signedOf 16 (word s (at + 117))
+held-count : (s : List ℕ) (at : ℕ) → getD (map (fieldNumber s (at + 3)) traceFields) 38 (pos 0) ≡ signedOf 16 (number16 s (bytePlace (at + 3) 115))
 unfolding traceFields traceWidths
-held-count s at = let e : at + 3 + 114 ≡ at + 117 = omega arith in ap (λ (p : ℕ). signedOf 16 (word s p)) e
+held-count s at = refl
 
-held-interval : (s : List ℕ) (at : ℕ) → getD (map (fieldNumber s (at + 3)) traceFields) 39 (pos 0) ≡ signedOf 16 (word s (at + 119))
+held-interval : (s : List ℕ) (at : ℕ) → getD (map (fieldNumber s (at + 3)) traceFields) 39 (pos 0) ≡ signedOf 16 (number16 s (bytePlace (at + 3) 117))
 unfolding traceFields traceWidths
-held-interval s at = let e : at + 3 + 116 ≡ at + 119 = omega arith in ap (λ (p : ℕ). signedOf 16 (word s p)) e
+held-interval s at = refl
 
 -- A trace of a record that is right holds a proper trace.
 trace-held : (s : List ℕ) → Bytes s → heldSamples s < 2 ^ 15 → heldInterval s < 2 ^ 15 → (k : ℕ) → TraceRight s k
@@ -164,11 +165,11 @@ filled-own own (suc v) h e =
     go false = refl
 
 -- The numbers of fields 115 and 117 in a reel's trace.
-meant-count : (s : List ℕ) (code n i at : ℕ) → getD (traceMeaning s code n i at .numbers) 38 (pos 0) ≡ filled n (signedOf 16 (word s (at + 114)))
+meant-count : (s : List ℕ) (code n i at : ℕ) → getD (traceMeaning s code n i at .numbers) 38 (pos 0) ≡ filled n (signedOf 16 (number16 s (at + 114)))
 unfolding traceMeaning traceFields traceWidths
 meant-count s code n i at = refl
 
-meant-interval : (s : List ℕ) (code n i at : ℕ) → getD (traceMeaning s code n i at .numbers) 39 (pos 0) ≡ filled i (signedOf 16 (word s (at + 116)))
+meant-interval : (s : List ℕ) (code n i at : ℕ) → getD (traceMeaning s code n i at .numbers) 39 (pos 0) ≡ filled i (signedOf 16 (number16 s (at + 116)))
 unfolding traceMeaning traceFields traceWidths
 meant-interval s code n i at = refl
 
@@ -176,13 +177,13 @@ meant-interval s code n i at = refl
 trace-meant : (s : List ℕ) → Bytes s → (code n i at : ℕ) → n < 2 ^ 15 → i < 2 ^ 15 → traceCauses s code n i at ≡ Fine → ProperTrace n i (traceMeaning s code n i at)
 unfolding traceCauses
 trace-meant s h code n i at p q e =
-    let a = then-fine (refuseIf (neither (word s (at + 114)) n) 7 (at + 114)) _ e in
-    let b = then-fine (refuseIf (neither (word s (at + 116)) i) 8 (at + 116)) _ (a .1) in
+    let a = then-fine (refuseIf (neither (number16 s (at + 114)) n) 7 (at + 114)) _ e in
+    let b = then-fine (refuseIf (neither (number16 s (at + 116)) i) 8 (at + 116)) _ (a .1) in
     let l = trace-like s h code n i at p q in
     record {
       fit = l .numbers;
-      n-is = meant-count s code n i at ∙ filled-own n (word s (at + 114)) p (passed _ _ _ (a .0));
-      i-is = meant-interval s code n i at ∙ filled-own i (word s (at + 116)) q (passed _ _ _ (b .0));
+      n-is = meant-count s code n i at ∙ filled-own n (number16 s (at + 114)) p (passed _ _ _ (a .0));
+      i-is = meant-interval s code n i at ∙ filled-own i (number16 s (at + 116)) q (passed _ _ _ (b .0));
       size = l .count;
       canonical = l .canonical;
     }

@@ -13,6 +13,7 @@ use lib.Dec.{eqb}
 use lib.ListN.{length, getD, length-append}
 use lib.IntN.{ℤ}
 use Rattle.numbers.specs.Walk.{walk, flat, bytesAt}
+use Rattle.numbers.specs.Places.{bytePlace}
 use Rattle.numbers.specs.BigEndian.{number, bytesOf}
 use Rattle.numbers.specs.Cause.{refuseIf, then, firstOf}
 use Rattle.numbers.specs.declared.Check.{Check}
@@ -21,7 +22,7 @@ use Rattle.numbers.proofs.WalkLaws.{All, flat-size}
 use Rattle.numbers.proofs.ByteLaws.{Bytes}
 use Rattle.value.specs.Pair.{pairOf, valueOf, isCanonical, pairLength, pairIn}
 use Rattle.sample_theorems.proofs.Pairs.{pair-value, bytes-pair}
-use Rattle.reel.specs.Layout.{cardBytes, binaryFields, traceWidths, fieldNumber, word}
+use Rattle.reel.specs.Layout.{cardBytes, binaryFields, traceWidths, fieldNumber, number16}
 use Rattle.reel.specs.Causes.{mostSamples, mostTraces, mostInterval}
 use Rattle.reel.specs.Meaning.{otherThan, Trace, Meaning}
 use Rattle.record.specs.Record.{field, numberBytes, binaryBytes, valueBytes, samplesField, traceBytes, recordOf, recordLength}
@@ -65,8 +66,8 @@ module _ (s : List ℕ) (tag size : ℕ) (l : List ℕ) (e : length l ≡ size) 
   field-fine : size < 256 ^ 2 → fieldCause s tag size at ≡ Fine
   field-fine h =
       let long : at + (3 + size) ≤ length s = from-rest .inside in
-      let k : word s (at + 1) ≡ size = from-number 2 (length l) (l ++ rest) (rw e h) from-size ∙ e in
-      rw (le-leb (at + (3 + size)) (length s) long, eq-eqb (getD s at 0) tag tag-is, eq-eqb (word s (at + 1)) size k)
+      let k : number16 s (at + 1) ≡ size = from-number 2 (length l) (l ++ rest) (rw e h) from-size ∙ e in
+      rw (le-leb (at + (3 + size)) (length s) long, eq-eqb (getD s at 0) tag tag-is, eq-eqb (number16 s (at + 1)) size k)
 
 -- Two checks of which neither finds anything.
 both-fine : {c d : Check} → c ≡ Fine → d ≡ Fine → then c d ≡ Fine
@@ -138,11 +139,11 @@ module _ (n i : ℕ) (t : Trace) (h : ProperTrace n i t) where
     -- nor to the trace.
     trace-fine : n ≤ mostSamples → traceForm s n i at ≡ Fine
     trace-fine few =
-        let a : word s (at + 117) ≡ n = ap (word s) (omega arith) ∙ count-again n i t h s b (at + 3) _ from-numbers in
-        let c : word s (at + 119) ≡ i = ap (word s) (omega arith) ∙ spacing-again n i t h s b (at + 3) _ from-numbers in
+        let a : number16 s (bytePlace (at + 3) 115) ≡ n = ap (number16 s) (omega arith) ∙ count-again n i t h s b (at + 3) _ from-numbers in
+        let c : number16 s (bytePlace (at + 3) 117) ≡ i = ap (number16 s) (omega arith) ∙ spacing-again n i t h s b (at + 3) _ from-numbers in
         trace-parts s n i at
         ∙ both-fine (field-fine s 3 180 _ (size-header n i t h) at _ from-header (omega arith))
-        (rw (eq-eqb (word s (at + 117)) n a, eq-eqb (word s (at + 119)) i c) (samples-fine few))
+        (rw (eq-eqb (number16 s (bytePlace (at + 3) 115)) n a, eq-eqb (number16 s (bytePlace (at + 3) 117)) i c) (samples-fine few))
 
     -- It holds the trace.
     trace-again : heldTrace s n at ≡ t

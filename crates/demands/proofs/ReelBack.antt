@@ -30,7 +30,7 @@ use Rattle.sample_theorems.proofs.Held.{and-true}
 use Rattle.sample_theorems.proofs.Pairs.{pair-value}
 use Rattle.sample_theorems.proofs.Words.{Says, writing-sound}
 use Rattle.reel.specs.Layout.{cardBytes, firstTrace, traceHeader, binaryFields, traceWidths, traceFields, fieldNumber, intervalOf, samplesOf, codeOf, sampleBytes, stride, strideOf, wholeIn, overIn, tracesOf}
-use Rattle.reel.specs.Causes.{mostSamples, mostTraces, mostInterval, neither, headerCauses, wordCause, traceCauses, behindCauses, causesOf}
+use Rattle.reel.specs.Causes.{mostSamples, mostTraces, mostInterval, neither, limitCauses, wordCause, traceCauses, behindCauses, causesOf}
 use Rattle.reel.specs.Meaning.{blank, cardText, otherThan, binaryNumbers, filled, traceNumber, Trace, traceMeaning, Meaning, meaningOf}
 use Rattle.reel.proofs.CheckLaws.{width-high}
 use Rattle.record.specs.Record.{numberBytes, binaryBytes}
@@ -313,7 +313,7 @@ module _ (code n i : ℕ) (m : Meaning) (p : Proper n i m) (c : isCode code ≡ 
   reel-traces = ap (wholeIn (length (reelOf code m))) reel-stride ∙ whole
 
   -- None of the causes 2 to 4 applies,
-  headed : headerCauses code n i ≡ Fine
+  headed : limitCauses code n i ≡ Fine
   headed = rw (c, le-leb 1 n (p .n-low), le-leb n mostSamples (p .n-high), le-leb 1 i (p .i-low), le-leb i mostInterval (p .i-high))
 
   -- none of 7 to 9 to a trace,

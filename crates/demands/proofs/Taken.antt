@@ -23,11 +23,9 @@ use Rattle.record.specs.Record.{recordOf, reelRecord}
 use Rattle.record.specs.Form.{tracesPlace, heldInterval, heldSamples, heldStride, heldCount, formCauses}
 use Rattle.record.specs.Held.{heldTrace, heldBy}
 use Rattle.record.specs.Target.{fitCauses, targetCauses}
-use Rattle.transcribe.specs.Reading as reading
-use Rattle.transcribe.specs.Reading.{readEnd, readOutcome}
+use Rattle.read_reel.specs.Reading.{recordLengthOf, readEnd, readOutcome}
 use Rattle.write_reel.specs.Reel.{reelOf}
-use Rattle.write_reel.specs.Writing as writing
-use Rattle.write_reel.specs.Writing.{writeCauses, writeEnd, writeOutcome}
+use Rattle.write_reel.specs.Writing.{reelLengthOf, writeCauses, writeEnd, writeOutcome}
 use Rattle.reel_theorems.proofs.Same.{record-size}
 use Rattle.reel_theorems.proofs.Output.{not-taken}
 use Rattle.demands.proofs.Proper.{ProperTrace, Proper}
@@ -58,9 +56,9 @@ module _ (code n i : ℕ) (m : Meaning) (p : Proper n i m) (c : isCode code ≡ 
 -- ## Readings
 
 -- Where no cause of 1 to 9 applies to a reel, and the output is long enough, its reading is taken.
-pub read-taken : (s out : List ℕ) → causesOf s ≡ Fine → reading.lengthOf s ≤ length out → readOutcome s out ≡ readEnd s out Fine
+pub read-taken : (s out : List ℕ) → causesOf s ≡ Fine → recordLengthOf s ≤ length out → readOutcome s out ≡ readEnd s out Fine
 read-taken s out f h =
-    let k = reading.lengthOf s in
+    let k = recordLengthOf s in
     ap (λ (c : Check). readEnd s out (then c (refuseIf (ltb (length out) k) 10 k))) f
     ∙ ap (λ (b : Bool). readEnd s out (refuseIf b 10 k)) (le-ltb (length out) k h)
 
@@ -76,7 +74,7 @@ pub record Writable (r : List ℕ) (code : ℕ) (out : List ℕ) : Type 0 where
   pub code-is : isCode code ≡ true
   pub form : formCauses r ≡ Fine
   pub fit : fitCauses r code (heldSamples r) (heldCount r (heldSamples r)) ≡ Fine
-  pub room : writing.lengthOf r code ≤ length out
+  pub room : reelLengthOf r code ≤ length out
 
 module _ (r : List ℕ) (code : ℕ) (out : List ℕ) where
   -- A writing that is taken has no cause of 10 to 14.
@@ -98,14 +96,14 @@ module _ (r : List ℕ) (code : ℕ) (out : List ℕ) where
         code-is = not-false (isCode code) (passed _ _ _ (b .0));
         form = c .0;
         fit = c .1;
-        room = at-most (length out) (writing.lengthOf r code) 10 (writing.lengthOf r code) (a .1);
+        room = at-most (length out) (reelLengthOf r code) 10 (reelLengthOf r code) (a .1);
       }
 
   -- and a writing that has what it needs is taken.
   pub write-taken : Writable r code out → writeOutcome r code out ≡ writeEnd r code out Fine
   unfolding targetCauses
   write-taken w =
-      let k = writing.lengthOf r code in
+      let k = reelLengthOf r code in
       let f = fitCauses r code (heldSamples r) (heldCount r (heldSamples r)) in
       let room = ap (λ (b : Bool). refuseIf b 10 k) (le-ltb (length out) k (w .room)) in
       ap (λ (b : Bool). writeEnd r code out (then (then (refuseIf (not b) 11 0) (then (formCauses r) f)) (refuseIf (ltb (length out) k) 10 k))) (w .code-is)
@@ -115,7 +113,7 @@ module _ (r : List ℕ) (code : ℕ) (out : List ℕ) where
 
 -- A valid record, a code of 1 to 4 that has a word for each of its samples and an output long enough are what a writing needs.
 pub needs : (r : List ℕ) (code : ℕ) (out : List ℕ) → Bytes r → formCauses r ≡ Fine → isCode code ≡ true → Worded code (heldBy r .traces)
-    → writing.lengthOf r code ≤ length out → Writable r code out
+    → reelLengthOf r code ≤ length out → Writable r code out
 needs r code out b v c f h =
     let p : Proper (heldSamples r) (heldInterval r) (heldBy r) = held-proper r b v in
     record {
@@ -168,7 +166,7 @@ module _ (r : List ℕ) (b : Bytes r) (code : ℕ) (out : List ℕ) (w : Writabl
       ap recordOf (reel-again code (heldSamples r) (heldInterval r) (heldBy r) proper (w .code-is) fitting) ∙ held-again r b (w .form)
 
   -- The length of its record is that of the record.
-  pub written-length : reading.lengthOf (reelOf code (heldBy r)) ≡ length r
+  pub written-length : recordLengthOf (reelOf code (heldBy r)) ≡ length r
   written-length = sym (record-size (reelOf code (heldBy r)) written-bytes written-no-cause) ∙ ap length written-record
 
   -- Reading it into an output long enough gives the record again, with the record's T and N.
@@ -182,8 +180,8 @@ module _ (r : List ℕ) (b : Bytes r) (code : ℕ) (out : List ℕ) (w : Writabl
       made : Said → List ℕ → Outcome
       made x y = record { said = x; bytes = y }
 
-      said : taken (tracesOf s ∷ samplesOf s ∷ reading.lengthOf s ∷ []) ≡ taken (heldCount r (heldSamples r) ∷ heldSamples r ∷ length r ∷ [])
+      said : taken (tracesOf s ∷ samplesOf s ∷ recordLengthOf s ∷ []) ≡ taken (heldCount r (heldSamples r) ∷ heldSamples r ∷ length r ∷ [])
       said = ap taken (cons-eq written-traces (cons-eq written-samples (cons-eq written-length refl)))
 
-      bytes : reelRecord s ++ drop (reading.lengthOf s) out₂ ≡ r ++ drop (length r) out₂
+      bytes : reelRecord s ++ drop (recordLengthOf s) out₂ ≡ r ++ drop (length r) out₂
       bytes = ap₂ (λ (x : List ℕ) (k : ℕ). x ++ drop k out₂) written-record written-length

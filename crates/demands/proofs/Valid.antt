@@ -13,6 +13,7 @@ use borrow.Author.Tests.{le-leb, eq-eqb, ne-eqb, leb-true, eqb-true, eqb-false}
 use lib.Dec.{leb, ltb, eqb}
 use lib.ListN.{length, getD}
 use Rattle.numbers.specs.Walk.{pick, walk, bytesAt}
+use Rattle.numbers.specs.Places.{bytePlace}
 use Rattle.numbers.specs.BigEndian.{number}
 use Rattle.numbers.specs.Cause.{refuseIf, firstOf}
 use Rattle.numbers.specs.declared.Check.{Check}
@@ -21,7 +22,7 @@ use Rattle.numbers.proofs.WalkLaws.{All}
 use Rattle.numbers.proofs.CauseLaws.{then-fine}
 use Rattle.value.specs.Pair.{isCanonical, pairLength, pairIn}
 use Rattle.sample_theorems.proofs.Held.{and-true}
-use Rattle.reel.specs.Layout.{word}
+use Rattle.reel.specs.Layout.{number16}
 use Rattle.reel.specs.Causes.{mostSamples, mostTraces, mostInterval, within}
 use Rattle.record.specs.Form.{isField, fieldCause, cardCause, cardsCauses, heldInterval, heldSamples, heldCode, binaryCauses, tracesPlace, heldStride, pairCause, samplesCauses, traceForm, tagsFrom, heldCount, endCauses, bodyCauses, formCauses}
 use Rattle.reel_theorems.proofs.TestLaws.{Between, Tests, test-by, fine-where, holds-where, then-second, and-both, test-between, test-same, test-room, at-zero, at-suc, none-is, none-of, walk-fine, walk-holds}
@@ -33,7 +34,7 @@ use Rattle.record.proofs.FormLaws.{trace-parts, tags-most}
 pub record Stands (s : List ℕ) (tag size at : ℕ) : Type 0 where
   pub whole : at + (3 + size) ≤ length s
   pub tag-is : getD s at 0 ≡ tag
-  pub size-is : word s (at + 1) ≡ size
+  pub size-is : number16 s (at + 1) ≡ size
 
 -- The pair at a place is canonical.
 abbrev pub CanonicalAt : List ℕ → ℕ → Type 0
@@ -63,8 +64,8 @@ pub record HeadRight (s : List ℕ) : Type 0 where
 -- Trace k stands: tag 03 with its 180 bytes, of which field 115 is N and field 117 the interval, then tag 04 with N canonical pairs.
 pub record TraceRight (s : List ℕ) (k : ℕ) : Type 0 where
   pub header : Stands s 3 180 (tracePlace s k)
-  pub count : word s (tracePlace s k + 117) ≡ heldSamples s
-  pub interval : word s (tracePlace s k + 119) ≡ heldInterval s
+  pub count : number16 s (bytePlace (tracePlace s k + 3) 115) ≡ heldSamples s
+  pub interval : number16 s (bytePlace (tracePlace s k + 3) 117) ≡ heldInterval s
   pub samples : Stands s 4 (6 * heldSamples s) (tracePlace s k + 183)
   pub pairs : (j : ℕ) → j < heldSamples s → CanonicalAt s (pairPlace s k j)
 
@@ -98,7 +99,7 @@ pub record RecordRight (s : List ℕ) (t : ℕ) : Type 0 where
 pub test-field : (s : List ℕ) (tag size at : ℕ) → Tests (Stands s tag size at) 12 at (fieldCause s tag size at)
 test-field s tag size at =
     test-by (Stands s tag size at) (isField s tag size at) 12 at there
-    (λ h. and-both (leb (at + (3 + size)) (length s)) _ (le-leb (at + (3 + size)) (length s) (h .whole)) (and-both (eqb (getD s at 0) tag) _ (eq-eqb (getD s at 0) tag (h .tag-is)) (eq-eqb (word s (at + 1)) size (h .size-is))))
+    (λ h. and-both (leb (at + (3 + size)) (length s)) _ (le-leb (at + (3 + size)) (length s) (h .whole)) (and-both (eqb (getD s at 0) tag) _ (eq-eqb (getD s at 0) tag (h .tag-is)) (eq-eqb (number16 s (at + 1)) size (h .size-is))))
   where
     there : isField s tag size at ≡ true → Stands s tag size at
     there e =
@@ -107,7 +108,7 @@ test-field s tag size at =
         record {
           whole = leb-true (at + (3 + size)) (length s) (a .0);
           tag-is = eqb-true (getD s at 0) tag (b .0);
-          size-is = eqb-true (word s (at + 1)) size (b .1);
+          size-is = eqb-true (number16 s (at + 1)) size (b .1);
         }
 
 -- A card byte other than 00.
@@ -190,8 +191,8 @@ module _ (s : List ℕ) (k : ℕ) where
   trace-fine h =
       trace-parts s (heldSamples s) (heldInterval s) (tracePlace s k)
       ∙ then-second _ _ (fine-where (test-field s 3 180 (tracePlace s k)) (h .header))
-      (then-second _ _ (fine-where (test-same (word s (tracePlace s k + 117)) (heldSamples s) 13 (tracePlace s k + 117)) (h .count))
-      (then-second _ _ (fine-where (test-same (word s (tracePlace s k + 119)) (heldInterval s) 13 (tracePlace s k + 119)) (h .interval))
+      (then-second _ _ (fine-where (test-same (number16 s (bytePlace (tracePlace s k + 3) 115)) (heldSamples s) 13 (bytePlace (tracePlace s k + 3) 115)) (h .count))
+      (then-second _ _ (fine-where (test-same (number16 s (bytePlace (tracePlace s k + 3) 117)) (heldInterval s) 13 (bytePlace (tracePlace s k + 3) 117)) (h .interval))
       (then-second _ _ (fine-where (test-field s 4 (6 * heldSamples s) (tracePlace s k + 183)) (h .samples))
       (walk-fine (λ j. CanonicalAt s (pairPlace s k j)) 13 (pairCause s) pairLength (heldSamples s) (tracePlace s k + 183 + 3) (pairPlace s k) pair-tests (h .pairs)))))
 
@@ -203,13 +204,13 @@ module _ (s : List ℕ) (k : ℕ) where
       let i = heldInterval s in
       let at = tracePlace s k in
       let a = then-fine (fieldCause s 3 180 at) _ (sym (trace-parts s n i at) ∙ e) in
-      let b = then-fine (refuseIf (not (eqb (word s (at + 117)) n)) 13 (at + 117)) _ (a .1) in
-      let c = then-fine (refuseIf (not (eqb (word s (at + 119)) i)) 13 (at + 119)) _ (b .1) in
+      let b = then-fine (refuseIf (not (eqb (number16 s (bytePlace (at + 3) 115)) n)) 13 (bytePlace (at + 3) 115)) _ (a .1) in
+      let c = then-fine (refuseIf (not (eqb (number16 s (bytePlace (at + 3) 117)) i)) 13 (bytePlace (at + 3) 117)) _ (b .1) in
       let d = then-fine (fieldCause s 4 (pairLength * n) (at + 183)) _ (c .1) in
       record {
         header = holds-where (test-field s 3 180 at) (a .0);
-        count = holds-where (test-same (word s (at + 117)) n 13 (at + 117)) (b .0);
-        interval = holds-where (test-same (word s (at + 119)) i 13 (at + 119)) (c .0);
+        count = holds-where (test-same (number16 s (bytePlace (at + 3) 115)) n 13 (bytePlace (at + 3) 115)) (b .0);
+        interval = holds-where (test-same (number16 s (bytePlace (at + 3) 117)) i 13 (bytePlace (at + 3) 117)) (c .0);
         samples = holds-where (test-field s 4 (6 * n) (at + 183)) (d .0);
         pairs = walk-holds (λ j. CanonicalAt s (pairPlace s k j)) 13 (pairCause s) pairLength n (at + 183 + 3) (pairPlace s k) pair-tests (d .1);
       }

@@ -13,6 +13,7 @@ use borrow.Author.Tests.{le-leb}
 use lib.Dec.{leb, ltb, eqb}
 use lib.ListN.{length, getD}
 use Rattle.numbers.specs.Walk.{walk, bytesAt}
+use Rattle.numbers.specs.Places.{bytePlace}
 use Rattle.numbers.specs.BigEndian.{number}
 use Rattle.numbers.specs.Cause.{refuseIf, firstOf}
 use Rattle.numbers.specs.declared.Check.{Check}
@@ -22,7 +23,7 @@ use Rattle.value.specs.Value.{isCode}
 use Rattle.value.specs.Pair.{pairLength}
 use Rattle.value.specs.Writing.{wordOf}
 use Rattle.sample_theorems.proofs.Pairs.{Iff}
-use Rattle.reel.specs.Layout.{word}
+use Rattle.reel.specs.Layout.{number16}
 use Rattle.reel.specs.Causes.{mostSamples, mostInterval, within}
 use Rattle.record.specs.Form.{fieldCause, cardCause, cardsCauses, heldInterval, heldSamples, heldCode, binaryCauses, tracesPlace, heldStride, pairCause, samplesCauses, traceForm, endCauses, bodyCauses, formCauses}
 use Rattle.record.proofs.FormLaws.{trace-parts}
@@ -65,19 +66,19 @@ pub data WriteRow (s : List ℕ) (code room : ℕ) : ℕ → ℕ → Type 0 wher
   -- 12: tag 03 of trace k is cut short or has a wrong length
   no-header : (k : ℕ) → Between 1 4 code → TraceNext s k → ¬ (Stands s 3 180 (tracePlace s k)) → WriteRow s code room 12 (tracePlace s k)
   -- 13: its field 115 is not N
-  bad-held-115 : (k : ℕ) → Between 1 4 code → TraceNext s k → Stands s 3 180 (tracePlace s k) → ¬ (word s (tracePlace s k + 117) ≡ heldSamples s)
-      → WriteRow s code room 13 (tracePlace s k + 117)
+  bad-held-115 : (k : ℕ) → Between 1 4 code → TraceNext s k → Stands s 3 180 (tracePlace s k) → ¬ (number16 s (bytePlace (tracePlace s k + 3) 115) ≡ heldSamples s)
+      → WriteRow s code room 13 (bytePlace (tracePlace s k + 3) 115)
   -- 13: its field 117 is not the interval
-  bad-held-117 : (k : ℕ) → Between 1 4 code → TraceNext s k → Stands s 3 180 (tracePlace s k) → word s (tracePlace s k + 117) ≡ heldSamples s
-      → ¬ (word s (tracePlace s k + 119) ≡ heldInterval s)
-      → WriteRow s code room 13 (tracePlace s k + 119)
+  bad-held-117 : (k : ℕ) → Between 1 4 code → TraceNext s k → Stands s 3 180 (tracePlace s k) → number16 s (bytePlace (tracePlace s k + 3) 115) ≡ heldSamples s
+      → ¬ (number16 s (bytePlace (tracePlace s k + 3) 117) ≡ heldInterval s)
+      → WriteRow s code room 13 (bytePlace (tracePlace s k + 3) 117)
   -- 12: tag 04 of trace k doesn't stand behind it, whole and with its 6N bytes
-  no-samples : (k : ℕ) → Between 1 4 code → TraceNext s k → Stands s 3 180 (tracePlace s k) → word s (tracePlace s k + 117) ≡ heldSamples s
-      → word s (tracePlace s k + 119) ≡ heldInterval s → ¬ (Stands s 4 (6 * heldSamples s) (tracePlace s k + 183))
+  no-samples : (k : ℕ) → Between 1 4 code → TraceNext s k → Stands s 3 180 (tracePlace s k) → number16 s (bytePlace (tracePlace s k + 3) 115) ≡ heldSamples s
+      → number16 s (bytePlace (tracePlace s k + 3) 117) ≡ heldInterval s → ¬ (Stands s 4 (6 * heldSamples s) (tracePlace s k + 183))
       → WriteRow s code room 12 (tracePlace s k + 183)
   -- 13: a pair of it isn't canonical, the first such
-  bad-pair : (k j : ℕ) → Between 1 4 code → TraceNext s k → Stands s 3 180 (tracePlace s k) → word s (tracePlace s k + 117) ≡ heldSamples s
-      → word s (tracePlace s k + 119) ≡ heldInterval s → Stands s 4 (6 * heldSamples s) (tracePlace s k + 183)
+  bad-pair : (k j : ℕ) → Between 1 4 code → TraceNext s k → Stands s 3 180 (tracePlace s k) → number16 s (bytePlace (tracePlace s k + 3) 115) ≡ heldSamples s
+      → number16 s (bytePlace (tracePlace s k + 3) 117) ≡ heldInterval s → Stands s 4 (6 * heldSamples s) (tracePlace s k + 183)
       → j < heldSamples s → ((i : ℕ) → i < j → CanonicalAt s (pairPlace s k i)) → ¬ (CanonicalAt s (pairPlace s k j))
       → WriteRow s code room 13 (pairPlace s k j)
   -- 12: tag 05 does not stand behind t traces, whole and with its 4 bytes; another tag, so also that of trace 100,001, may stand there
@@ -230,23 +231,23 @@ module _ (s : List ℕ) (code room : ℕ) where
   from-row (bad-held-115 k g t f h) =
       from-trace k g t
       (trace-parts s (heldSamples s) (heldInterval s) (tracePlace s k) ∙ then-second _ _ (fine-where (test-field s 3 180 (tracePlace s k)) f)
-      (then-first _ _ (refused-where (test-same (word s (tracePlace s k + 117)) (heldSamples s) 13 (tracePlace s k + 117)) h)))
+      (then-first _ _ (refused-where (test-same (number16 s (bytePlace (tracePlace s k + 3) 115)) (heldSamples s) 13 (bytePlace (tracePlace s k + 3) 115)) h)))
   from-row (bad-held-117 k g t f c h) =
       from-trace k g t
       (trace-parts s (heldSamples s) (heldInterval s) (tracePlace s k) ∙ then-second _ _ (fine-where (test-field s 3 180 (tracePlace s k)) f)
-      (then-second _ _ (fine-where (test-same (word s (tracePlace s k + 117)) (heldSamples s) 13 (tracePlace s k + 117)) c)
-      (then-first _ _ (refused-where (test-same (word s (tracePlace s k + 119)) (heldInterval s) 13 (tracePlace s k + 119)) h))))
+      (then-second _ _ (fine-where (test-same (number16 s (bytePlace (tracePlace s k + 3) 115)) (heldSamples s) 13 (bytePlace (tracePlace s k + 3) 115)) c)
+      (then-first _ _ (refused-where (test-same (number16 s (bytePlace (tracePlace s k + 3) 117)) (heldInterval s) 13 (bytePlace (tracePlace s k + 3) 117)) h))))
   from-row (no-samples k g t f c i h) =
       from-trace k g t
       (trace-parts s (heldSamples s) (heldInterval s) (tracePlace s k) ∙ then-second _ _ (fine-where (test-field s 3 180 (tracePlace s k)) f)
-      (then-second _ _ (fine-where (test-same (word s (tracePlace s k + 117)) (heldSamples s) 13 (tracePlace s k + 117)) c)
-      (then-second _ _ (fine-where (test-same (word s (tracePlace s k + 119)) (heldInterval s) 13 (tracePlace s k + 119)) i)
+      (then-second _ _ (fine-where (test-same (number16 s (bytePlace (tracePlace s k + 3) 115)) (heldSamples s) 13 (bytePlace (tracePlace s k + 3) 115)) c)
+      (then-second _ _ (fine-where (test-same (number16 s (bytePlace (tracePlace s k + 3) 117)) (heldInterval s) 13 (bytePlace (tracePlace s k + 3) 117)) i)
       (then-first _ _ (refused-where (test-field s 4 (6 * heldSamples s) (tracePlace s k + 183)) h)))))
   from-row (bad-pair k j g t f c i d l b h) =
       from-trace k g t
       (trace-parts s (heldSamples s) (heldInterval s) (tracePlace s k) ∙ then-second _ _ (fine-where (test-field s 3 180 (tracePlace s k)) f)
-      (then-second _ _ (fine-where (test-same (word s (tracePlace s k + 117)) (heldSamples s) 13 (tracePlace s k + 117)) c)
-      (then-second _ _ (fine-where (test-same (word s (tracePlace s k + 119)) (heldInterval s) 13 (tracePlace s k + 119)) i)
+      (then-second _ _ (fine-where (test-same (number16 s (bytePlace (tracePlace s k + 3) 115)) (heldSamples s) 13 (bytePlace (tracePlace s k + 3) 115)) c)
+      (then-second _ _ (fine-where (test-same (number16 s (bytePlace (tracePlace s k + 3) 117)) (heldInterval s) 13 (bytePlace (tracePlace s k + 3) 117)) i)
       (then-second _ _ (fine-where (test-field s 4 (6 * heldSamples s) (tracePlace s k + 183)) d)
       (walk-refused (λ y. CanonicalAt s (pairPlace s k y)) 13 (pairCause s) pairLength (heldSamples s) (tracePlace s k + 183 + 3) (pairPlace s k) (pair-tests s k) j l b h)))))
   from-row (no-end t g e h) = from-end t g e (then-first _ _ (refused-where (test-field s 5 4 (tracePlace s t)) h))
@@ -306,14 +307,14 @@ module _ (s : List ℕ) (code room : ℕ) {n p : ℕ} (g : Between 1 4 code) whe
       let at = tracePlace s k in
       let size = heldSamples s in
       let f = test-field s 3 180 at in
-      let c = test-same (word s (at + 117)) size 13 (at + 117) in
-      let i = test-same (word s (at + 119)) (heldInterval s) 13 (at + 119) in
+      let c = test-same (number16 s (bytePlace (at + 3) 115)) size 13 (bytePlace (at + 3) 115) in
+      let i = test-same (number16 s (bytePlace (at + 3) 117)) (heldInterval s) 13 (bytePlace (at + 3) 117) in
       let d = test-field s 4 (6 * size) (at + 183) in
       then-row (WriteRow s code room) (fieldCause s 3 180 at) _ (row-where f (WriteRow s code room) (no-header k g t))
       (λ e. let header = holds-where f e in
-      then-row (WriteRow s code room) (refuseIf (not (eqb (word s (at + 117)) size)) 13 (at + 117)) _ (row-where c (WriteRow s code room) (bad-held-115 k g t header))
+      then-row (WriteRow s code room) (refuseIf (not (eqb (number16 s (bytePlace (at + 3) 115)) size)) 13 (bytePlace (at + 3) 115)) _ (row-where c (WriteRow s code room) (bad-held-115 k g t header))
       (λ q. let count = holds-where c q in
-      then-row (WriteRow s code room) (refuseIf (not (eqb (word s (at + 119)) (heldInterval s))) 13 (at + 119)) _ (row-where i (WriteRow s code room) (bad-held-117 k g t header count))
+      then-row (WriteRow s code room) (refuseIf (not (eqb (number16 s (bytePlace (at + 3) 117)) (heldInterval s))) 13 (bytePlace (at + 3) 117)) _ (row-where i (WriteRow s code room) (bad-held-117 k g t header count))
       (λ r. let interval = holds-where i r in
       then-row (WriteRow s code room) (fieldCause s 4 (6 * size) (at + 183)) _ (row-where d (WriteRow s code room) (no-samples k g t header count interval))
       (λ x. walk-row (λ j. CanonicalAt s (pairPlace s k j)) 13 (pairCause s) pairLength size (at + 183 + 3) (pairPlace s k) (pair-tests s k) (WriteRow s code room)

@@ -25,7 +25,7 @@ use Rattle.record.proofs.HeaderLaws.{counts}
 use Rattle.reel_theorems.proofs.Ranges.{length-bytes}
 use Rattle.write_samples.proofs.WordLaws.{size-word}
 use Rattle.write_reel.specs.Reel.{sampleWritten, traceWritten, reelOf}
-use Rattle.write_reel.specs.Writing.{lengthOf}
+use Rattle.write_reel.specs.Writing.{reelLengthOf}
 
 -- As many numbers as there are fields take the bytes of the fields.
 numbers-size : (ws : List ℕ) (zs : List ℤ) → length ws ≡ length zs → length (numberBytes ws zs) ≡ total ws
@@ -70,7 +70,7 @@ trace-size s code n at =
     omega (arith, a, b, c, d, fields-size s (at + 3))
 
 -- LAW. The reel that is written is as long as the length returned: 3600 + T × (240 + N × the bytes of a sample).
-pub reel-size : (s : List ℕ) (code : ℕ) → length (reelOf code (heldBy s)) ≡ lengthOf s code
+pub reel-size : (s : List ℕ) (code : ℕ) → length (reelOf code (heldBy s)) ≡ reelLengthOf s code
 unfolding reelOf heldBy
 reel-size s code =
     let n = heldSamples s in

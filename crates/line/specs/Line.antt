@@ -5,7 +5,7 @@ use lib.ListN.{length, replicate}
 use Rattle.numbers.specs.Outcome.{Said, taken, refused}
 use lib.Dec.{ltb}
 use Rattle.numbers.specs.Walk.{pick}
-use Rattle.transcribe.specs.Reading.{readOutcome}
+use Rattle.read_reel.specs.Reading.{readOutcome}
 use Rattle.line.specs.Decimal.{decimalOf}
 use Rattle.line.specs.declared.Line.{Line}
 

@@ -106,5 +106,5 @@ pub fn program_line(input: &[u8], out: &mut [u8]) -> Line
     if 65536 < input.len() {
         return too_long();
     }
-    line_of(transcribe::read_reel(input, out))
+    line_of(read_reel::read_reel(input, out))
 }

@@ -31,12 +31,12 @@ pub record Lies (lo hi b w : ℕ) : Type 0 where
 
 abbrev liesIn : ℕ → ℕ → Field → Bool
 liesIn lo hi f =
-    leb lo (f .byteNo) && (leb (f .byteNo + f .width) hi && (leb 2 (f .width) && (leb (f .width) 4 && eqb (f .width % 2) 0)))
+    leb lo (f .begins) && (leb (f .begins + f .width) hi && (leb 2 (f .width) && (leb (f .width) 4 && eqb (f .width % 2) 0)))
 
-lies-true : (lo hi : ℕ) (f : Field) → liesIn lo hi f ≡ true → Lies lo hi (f .byteNo) (f .width)
+lies-true : (lo hi : ℕ) (f : Field) → liesIn lo hi f ≡ true → Lies lo hi (f .begins) (f .width)
 lies-true lo hi f e =
-    let p = both (leb lo (f .byteNo)) _ e in
-    let q = both (leb (f .byteNo + f .width) hi) _ (p .1) in
+    let p = both (leb lo (f .begins)) _ e in
+    let q = both (leb (f .begins + f .width) hi) _ (p .1) in
     let r = both (leb 2 (f .width)) _ (q .1) in
     let s = both (leb (f .width) 4) _ (r .1) in
     record {
@@ -53,7 +53,7 @@ eachLies lo hi (f ∷ fs) = liesIn lo hi f && eachLies lo hi fs
 
 -- what is found at b begins there and lies in the header
 FoundAt : ℕ → ℕ → ℕ → Found → Type 0
-FoundAt lo hi b (found f) = (f .byteNo ≡ b) × Lies lo hi b (f .width)
+FoundAt lo hi b (found f) = (f .begins ≡ b) × Lies lo hi b (f .width)
 FoundAt lo hi b none = Unit {0}
 
 found-at : (lo hi : ℕ) (fs : List Field) → eachLies lo hi fs ≡ true → (b : ℕ) → FoundAt lo hi b (fieldIn b fs)
@@ -61,12 +61,12 @@ unfolding fieldIn FoundAt
 found-at lo hi [] e b = tt
 found-at lo hi (f ∷ fs) e b =
     let p = both (liesIn lo hi f) (eachLies lo hi fs) e in
-    go (eqb (f .byteNo) b) refl (lies-true lo hi f (p .0)) (found-at lo hi fs (p .1) b)
+    go (eqb (f .begins) b) refl (lies-true lo hi f (p .0)) (found-at lo hi fs (p .1) b)
   where
-    go : (t : Bool) → eqb (f .byteNo) b ≡ t → Lies lo hi (f .byteNo) (f .width) → FoundAt lo hi b (fieldIn b fs)
+    go : (t : Bool) → eqb (f .begins) b ≡ t → Lies lo hi (f .begins) (f .width) → FoundAt lo hi b (fieldIn b fs)
         → FoundAt lo hi b (pick t (found f) (fieldIn b fs))
     go true q l rest =
-        let is = eqb-true (f .byteNo) b q in
+        let is = eqb-true (f .begins) b q in
         (is, subst (λ (x : ℕ). Lies lo hi x (f .width)) is l)
     go false q l rest = rest
 

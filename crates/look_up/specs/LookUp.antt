@@ -32,7 +32,7 @@ isNone none = true
 -- The field that begins at byte number b, among the fields of a header.
 unfoldable pub fieldIn : ℕ → List Field → Found
 fieldIn b [] = none
-fieldIn b (f ∷ fs) = pick (eqb (f .byteNo) b) (found f) (fieldIn b fs)
+fieldIn b (f ∷ fs) = pick (eqb (f .begins) b) (found f) (fieldIn b fs)
 
 -- The field that begins at byte number b of header k: of the binary header for 0, of a trace's from 1 on.
 abbrev pub fieldAt : ℕ → ByteNo → Found

@@ -23,7 +23,7 @@ widthOf none = 0
 
 -- The field of w bytes at byte number b.
 abbrev pub theField : ℕ → ℕ → Field
-theField b w = record { byteNo = b; width = w }
+theField b w = record { begins = b; width = w }
 
 -- A field of w bytes at byte number b of a header whose byte number 1 stands at the place `start`: it has two or four bytes, and they are
 -- bytes of the reel.

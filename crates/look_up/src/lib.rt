@@ -15,7 +15,7 @@ use numbers::ByteNo;
 use numbers::Check;
 use numbers::Located;
 use numbers::Place;
-use reel::Checked;
+use reel::Judged;
 
 // What looking up answers: the signed number, or refused with number and place.
 pub enum Answer {
@@ -225,10 +225,10 @@ fn look(
 pub fn look_up(reel: &[u8], trace: usize, b: ByteNo) -> Answer
     ensures { λ r. ⌜ lookedUp r ≡ lookUpOutcome (now (reel .entry)) trace b ⌝ }
 {
-    let c = reel::check_reel(reel);
+    let c = reel::judge_reel(reel);
     match c {
-        Checked::Refused { number, place } => Answer::Refused { number, place },
-        Checked::Fine {
+        Judged::Refused { number, place } => Answer::Refused { number, place },
+        Judged::Fine {
             code: _,
             samples,
             interval,

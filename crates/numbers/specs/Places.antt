@@ -16,17 +16,22 @@ placeNo p = p .0
 abbrev pub byteNo : ByteNo → ℕ
 byteNo b = b .0
 
--- The place of byte number b where byte number 1 stands at the place `start`. No byte has number 0, and a place is a number of 64 bits.
+-- The one conversion: where byte number b stands, from 1 on, where byte number 1 stands at the place `start`.
+abbrev pub bytePlace : ℕ → ℕ → ℕ
+bytePlace start b = start + (b - 1)
+
+-- The same as a place, or nowhere: no byte has number 0, and a place is a number of 64 bits.
 abbrev pub located : Place → ByteNo → Located
 located start b =
-    pick (leb 1 (byteNo b) && ltb (placeNo start + (byteNo b - 1)) (2 ^ 64))
-    (At (record { 0 = placeNo start + (byteNo b - 1) }))
+    pick (leb 1 (byteNo b) && ltb (bytePlace (placeNo start) (byteNo b)) (2 ^ 64))
+    (At (record { 0 = bytePlace (placeNo start) (byteNo b) }))
     Nowhere
 
--- The place of a field of a header whose byte number 1 stands at the place `start`; that place itself where the byte number stands nowhere.
-abbrev pub placeIn : Place → Located → Place
-placeIn start (At p) = p
-placeIn start Nowhere = start
+-- The place of what was located; where it stands nowhere the last number of 64 bits, a place at which no input has a byte.
+abbrev pub placeOr : Located → Place
+placeOr (At p) = p
+placeOr Nowhere = record { 0 = 2 ^ 64 - 1 }
 
+-- The place of a field of a header whose byte number 1 stands at the place `start`.
 abbrev pub fieldPlace : Place → ByteNo → Place
-fieldPlace start b = placeIn start (located start b)
+fieldPlace start b = placeOr (located start b)

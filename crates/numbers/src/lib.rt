@@ -45,14 +45,14 @@ pub fn place_of(start: Place, b: ByteNo) -> Located
     Located::At(Place(from + past))
 }
 
-// The place of a field of a header whose byte number 1 stands at the place start; that place itself
-// for a byte number that stands nowhere.
+// The place of a field of a header whose byte number 1 stands at the place start. A byte number that
+// stands nowhere gets the last number of 64 bits, a place at which no input has a byte.
 pub fn field_at(start: Place, b: ByteNo) -> Place
     ensures { λ r. ⌜ r ≡ fieldPlace start b ⌝ }
 {
     let found = place_of(start, b);
     let Located::At(p) = found else {
-        return start;
+        return Place(0xffff_ffff_ffff_ffff);
     };
     p
 }

@@ -20,7 +20,7 @@ use Rattle.sample.specs.Reading.{pairTaken, readWord}
 use Rattle.sample.specs.declared.Sample.{Sample}
 use Rattle.sample.specs.declared.Sample.the-variants.{Taken, Refused}
 use Rattle.reel.specs.Layout.{sampleBytes}
-use Rattle.read_samples.specs.Samples.{sampleContent, sampleCopied, samplesCopied, samplesFit, samplesRead}
+use Rattle.read_samples.specs.Samples.{sampleContent, sampleCopied, samplePairs, samplesFit, samplesRead}
 use Rattle.read_samples.specs.Parts.{exponentContent, mantissaContent, gainOrZero, WordAt}
 
 pub size-content : (q : Sample) → length (sampleContent q) ≡ 6
@@ -36,8 +36,8 @@ pub content-parts : (q : Sample) → exponentContent q ++ mantissaContent q ≡ 
 content-parts (Taken e m) = refl
 content-parts (Refused number) = refl
 
-pub size-samples : (s : List ℕ) (code n at : ℕ) → length (samplesCopied s code n at) ≡ n * 6
-unfolding samplesCopied
+pub size-samples : (s : List ℕ) (code n at : ℕ) → length (samplePairs s code n at) ≡ n * 6
+unfolding samplePairs
 size-samples s code n at = flat-length (sampleCopied s code) (λ p. p) 6 (λ p. size-content (readWord code (bytesAt s p 4))) (sampleBytes code) n at
 
 -- ## Samples
@@ -102,28 +102,28 @@ module _ (s : List ℕ) (at w : ℕ) (h : WordAt s at w) where
   whole32-content = ap (λ (w : ℕ). sampleContent (pairTaken (wholeValue (signedOf 32 w)))) (h .whole) ∙ ap sampleContent (whole32-copied s at)
 
 -- samples, one more and none
-pub samples-more : (s : List ℕ) (code k at : ℕ) → 0 < k → samplesCopied s code k at ≡ sampleCopied s code at ++ samplesCopied s code (k - 1) (at + sampleBytes code)
-unfolding samplesCopied
+pub samples-more : (s : List ℕ) (code k at : ℕ) → 0 < k → samplePairs s code k at ≡ sampleCopied s code at ++ samplePairs s code (k - 1) (at + sampleBytes code)
+unfolding samplePairs
 samples-more s code k at h = flat-more (sampleCopied s code) (λ p. p) (sampleBytes code) k at h
 
-pub samples-none : (s : List ℕ) (code k at : ℕ) → k ≤ 0 → samplesCopied s code k at ≡ []
-unfolding samplesCopied
+pub samples-none : (s : List ℕ) (code k at : ℕ) → k ≤ 0 → samplePairs s code k at ≡ []
+unfolding samplePairs
 samples-none s code k at h = flat-none (sampleCopied s code) (λ p. p) (sampleBytes code) k at h
 
 -- the next of k samples put behind those that stand: what is left is one fewer
-pub sample-put : (s : List ℕ) (code k at o : ℕ) {all out ys : List ℕ} → 0 < k → Filling all out o (samplesCopied s code k at) → ys ≡ sampleCopied s code at
-    → Filling all (putMid o (o + 6 - o) out ys) (o + 6) (samplesCopied s code (k - 1) (at + sampleBytes code))
+pub sample-put : (s : List ℕ) (code k at o : ℕ) {all out ys : List ℕ} → 0 < k → Filling all out o (samplePairs s code k at) → ys ≡ sampleCopied s code at
+    → Filling all (putMid o (o + 6 - o) out ys) (o + 6) (samplePairs s code (k - 1) (at + sampleBytes code))
 sample-put s code k at o h w is =
-    lend (sampleCopied s code at) (samplesCopied s code (k - 1) (at + sampleBytes code)) (o + 6) (again w (samples-more s code k at h)) (omega arith) (size-content (readWord code (bytesAt s at 4)) ∙ omega arith) is
+    lend (sampleCopied s code at) (samplePairs s code (k - 1) (at + sampleBytes code)) (o + 6) (again w (samples-more s code k at h)) (omega arith) (size-content (readWord code (bytesAt s at 4)) ∙ omega arith) is
 
 -- the same where the first of the samples that are left has been fetched, and k stand behind it
-pub next-put : (s : List ℕ) (code k at o : ℕ) {all out ys : List ℕ} → 0 < k → Filling all out o (samplesCopied s code (k + 1) at) → ys ≡ sampleCopied s code at
-    → Filling all (putMid o (o + 6 - o) out ys) (o + 6) (samplesCopied s code (k - 1 + 1) (at + sampleBytes code))
+pub next-put : (s : List ℕ) (code k at o : ℕ) {all out ys : List ℕ} → 0 < k → Filling all out o (samplePairs s code (k + 1) at) → ys ≡ sampleCopied s code at
+    → Filling all (putMid o (o + 6 - o) out ys) (o + 6) (samplePairs s code (k - 1 + 1) (at + sampleBytes code))
 next-put s code k at o some w is =
     let j : k + 1 - 1 ≡ k - 1 + 1 = omega arith in
-    again (sample-put s code (k + 1) at o (omega arith) w is) (ap (λ (x : ℕ). samplesCopied s code x (at + sampleBytes code)) j)
+    again (sample-put s code (k + 1) at o (omega arith) w is) (ap (λ (x : ℕ). samplePairs s code x (at + sampleBytes code)) j)
 
-pub last-put : (s : List ℕ) (code k at o p : ℕ) {all out ys : List ℕ} → k ≤ 0 → p ≡ o → Filling all out o (samplesCopied s code (k + 1) at) → ys ≡ sampleCopied s code at
+pub last-put : (s : List ℕ) (code k at o p : ℕ) {all out ys : List ℕ} → k ≤ 0 → p ≡ o → Filling all out o (samplePairs s code (k + 1) at) → ys ≡ sampleCopied s code at
     → putMid p (p + 6 - p) out ys ≡ all
 last-put s code k at o p {all} {out} {ys} none there w is =
     ap (λ (x : ℕ). putMid x (x + 6 - x) out ys) there
@@ -140,13 +140,13 @@ module _ (s : List ℕ) (code n at : ℕ) (out : List ℕ) where
       (a .0, leb-true (at + n * sampleBytes code) (length s) (b .0), eqb-true (length out) (n * 6) (b .1))
 
   -- samples that fit are read, and others leave the output as it was
-  pub fit-read : samplesFit s code n at out ≡ true → samplesRead s code n at out ≡ samplesCopied s code n at
+  pub fit-read : samplesFit s code n at out ≡ true → samplesRead s code n at out ≡ samplePairs s code n at
   unfolding samplesRead
-  fit-read e = ap (λ (b : Bool). pick b (samplesCopied s code n at) out) e
+  fit-read e = ap (λ (b : Bool). pick b (samplePairs s code n at) out) e
 
   pub unfit-kept : samplesFit s code n at out ≡ false → samplesRead s code n at out ≡ out
   unfolding samplesRead
-  unfit-kept e = ap (λ (b : Bool). pick b (samplesCopied s code n at) out) e
+  unfit-kept e = ap (λ (b : Bool). pick b (samplePairs s code n at) out) e
 
-  pub samples-read : isCode code ≡ true → at + n * sampleBytes code ≤ length s → length out ≡ n * 6 → samplesRead s code n at out ≡ samplesCopied s code n at
+  pub samples-read : isCode code ≡ true → at + n * sampleBytes code ≤ length s → length out ≡ n * 6 → samplesRead s code n at out ≡ samplePairs s code n at
   samples-read i w o = fit-read (rw (i, le-leb (at + n * sampleBytes code) (length s) w, eq-eqb (length out) (n * 6) o))

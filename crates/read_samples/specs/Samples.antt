@@ -26,8 +26,8 @@ abbrev pub places : ℕ → ℕ → ℕ → List ℕ
 places w k at = walk (λ p. p) w k at
 
 -- n samples from a place on.
-unfoldable pub samplesCopied : List ℕ → ℕ → ℕ → ℕ → List ℕ
-samplesCopied s code n at = flat (map (sampleCopied s code) (places (sampleBytes code) n at))
+unfoldable pub samplePairs : List ℕ → ℕ → ℕ → ℕ → List ℕ
+samplePairs s code n at = flat (map (sampleCopied s code) (places (sampleBytes code) n at))
 
 -- There are n words of the code from a place on, and an output as long as their pairs.
 abbrev pub samplesFit : List ℕ → ℕ → ℕ → ℕ → List ℕ → Bool
@@ -36,4 +36,4 @@ samplesFit s code n at out =
 
 -- An output after n samples were read into it: their pairs, or what it was where they don't fit.
 unfoldable pub samplesRead : List ℕ → ℕ → ℕ → ℕ → List ℕ → List ℕ
-samplesRead s code n at out = pick (samplesFit s code n at out) (samplesCopied s code n at) out
+samplesRead s code n at out = pick (samplesFit s code n at out) (samplePairs s code n at) out

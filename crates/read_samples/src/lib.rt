@@ -10,7 +10,7 @@ ghost use Rattle.numbers.specs.TwosComplement.{signedOf};
 ghost use Rattle.value.specs.Value.{ibmValue, wholeValue, isCode};
 ghost use Rattle.sample.specs.Reading.{pairTaken, readWord};
 ghost use Rattle.reel.specs.Layout.{sampleBytes};
-ghost use Rattle.read_samples.specs.Samples.{sampleContent, sampleCopied, samplesCopied, samplesRead};
+ghost use Rattle.read_samples.specs.Samples.{sampleContent, sampleCopied, samplePairs, samplesRead};
 ghost use Rattle.read_samples.specs.Parts.{exponentContent, mantissaContent, gainOrZero, WordAt};
 use sample::Sample;
 
@@ -157,7 +157,7 @@ fn sample_at(reel: &[u8], code: u32, at: usize) -> Sample
 // loop's own are then not wanted behind it, which makes the loop shorter.
 fn put_words(reel: &[u8], code: u32, n: usize, start: usize, out: &mut [u8])
     requires { ⌜ (isCode code ≡ true) × (sampleBytes code ≡ 4) × (start + n * 4 ≤ length (now reel)) × (length (now out) ≡ n * 6) ⌝ }
-    ensures { λ _. ⌜ now (out .exit) ≡ samplesCopied (now (reel .entry)) code n start ⌝ }
+    ensures { λ _. ⌜ now (out .exit) ≡ samplePairs (now (reel .entry)) code n start ⌝ }
 {
     if n < 1 {
         return;
@@ -181,7 +181,7 @@ fn put_words(reel: &[u8], code: u32, n: usize, start: usize, out: &mut [u8])
 // The same of words of two bytes, which code 3 has.
 fn put_whole16(reel: &[u8], n: usize, start: usize, out: &mut [u8])
     requires { ⌜ (start + n * 2 ≤ length (now reel)) × (length (now out) ≡ n * 6) ⌝ }
-    ensures { λ _. ⌜ now (out .exit) ≡ samplesCopied (now (reel .entry)) 3 n start ⌝ }
+    ensures { λ _. ⌜ now (out .exit) ≡ samplePairs (now (reel .entry)) 3 n start ⌝ }
 {
     if n < 1 {
         return;
@@ -204,7 +204,7 @@ fn put_whole16(reel: &[u8], n: usize, start: usize, out: &mut [u8])
 // The samples of a trace under the reel's code, which is 1 to 4.
 fn put_samples(reel: &[u8], code: usize, n: usize, start: usize, out: &mut [u8])
     requires { ⌜ (isCode code ≡ true) × (start + n * sampleBytes code ≤ length (now reel)) × (length (now out) ≡ n * 6) ⌝ }
-    ensures { λ _. ⌜ now (out .exit) ≡ samplesCopied (now (reel .entry)) code n start ⌝ }
+    ensures { λ _. ⌜ now (out .exit) ≡ samplePairs (now (reel .entry)) code n start ⌝ }
 {
     if code == 3 {
         put_whole16(reel, n, start, out);

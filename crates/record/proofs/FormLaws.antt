@@ -9,6 +9,7 @@ use borrow.Author.Tests.{leb-true, eqb-true, ltb-false, ltb-true, not-false, lt-
 use lib.Dec.{T, leb, ltb, eqb}
 use lib.ListN.{length, getD}
 use Rattle.numbers.specs.Walk.{pick, walk, bytesAt}
+use Rattle.numbers.specs.Places.{bytePlace}
 use Rattle.numbers.specs.BigEndian.{number}
 use Rattle.numbers.specs.Cause.{refuseIf, then, firstOf}
 use Rattle.numbers.specs.declared.Place.{Place}
@@ -24,7 +25,7 @@ use Rattle.value.specs.Writing.{first, isNegative, ibmFits, ibmBits, ibmWord, n
 use Rattle.value.specs.declared.Pair.{Pair}
 use Rattle.value.specs.declared.Written.{Written}
 use Rattle.value.specs.declared.Written.the-variants as written
-use Rattle.reel.specs.Layout.{word}
+use Rattle.reel.specs.Layout.{number16}
 use Rattle.reel.specs.Causes.{mostSamples, mostTraces, mostInterval, within}
 use Rattle.reel.proofs.CheckLaws.{both-true, in-limits}
 use Rattle.record.specs.Form.{isField, fieldCause, cardsCauses, heldSamples, heldInterval, heldCode, numberCauses, binaryCauses, tracesPlace, heldStride, pairCause, samplesCauses, headerCauses, traceForm, tagsFrom, heldCount, endCauses, bodyCauses, formCauses}
@@ -38,7 +39,7 @@ use Rattle.record.specs.Parts.{headForm, traceCheck, formFrom, fitFrom}
 -- a field that stands whole ends within the record
 pub field-room : (s : List ℕ) (tag size at : ℕ) → fieldCause s tag size at ≡ Fine → at + (3 + size) ≤ length s
 field-room s tag size at e =
-    leb-true (at + (3 + size)) (length s) (both-true (leb (at + (3 + size)) (length s)) (eqb (getD s at 0) tag && eqb (word s (at + 1)) size) (passed (not (isField s tag size at)) 12 at e) .0)
+    leb-true (at + (3 + size)) (length s) (both-true (leb (at + (3 + size)) (length s)) (eqb (getD s at 0) tag && eqb (number16 s (at + 1)) size) (passed (not (isField s tag size at)) 12 at e) .0)
 
 -- ## Pairs
 
@@ -115,21 +116,21 @@ trace-form s n i at =
 header-then : (s : List ℕ) (n i at : ℕ) (d : Check)
     → then (headerCauses s n i at) d
     ≡ then (fieldCause s 3 180 at)
-    (then (refuseIf (not (eqb (word s (at + 117)) n)) 13 (at + 117))
-    (then (refuseIf (not (eqb (word s (at + 119)) i)) 13 (at + 119)) d))
+    (then (refuseIf (not (eqb (number16 s (bytePlace (at + 3) 115)) n)) 13 (bytePlace (at + 3) 115))
+    (then (refuseIf (not (eqb (number16 s (bytePlace (at + 3) 117)) i)) 13 (bytePlace (at + 3) 117)) d))
 unfolding headerCauses
 header-then s n i at d =
     let a = fieldCause s 3 180 at in
-    let b = refuseIf (not (eqb (word s (at + 117)) n)) 13 (at + 117) in
-    let c = refuseIf (not (eqb (word s (at + 119)) i)) 13 (at + 119) in
+    let b = refuseIf (not (eqb (number16 s (bytePlace (at + 3) 115)) n)) 13 (bytePlace (at + 3) 115) in
+    let c = refuseIf (not (eqb (number16 s (bytePlace (at + 3) 117)) i)) 13 (bytePlace (at + 3) 117) in
     then-assoc a (then b c) d ∙ ap (then a) (then-assoc b c d)
 
 -- so a trace's causes,
 pub trace-parts : (s : List ℕ) (n i at : ℕ)
     → traceForm s n i at
     ≡ then (fieldCause s 3 180 at)
-    (then (refuseIf (not (eqb (word s (at + 117)) n)) 13 (at + 117))
-    (then (refuseIf (not (eqb (word s (at + 119)) i)) 13 (at + 119)) (samplesCauses s n (at + 183))))
+    (then (refuseIf (not (eqb (number16 s (bytePlace (at + 3) 115)) n)) 13 (bytePlace (at + 3) 115))
+    (then (refuseIf (not (eqb (number16 s (bytePlace (at + 3) 117)) i)) 13 (bytePlace (at + 3) 117)) (samplesCauses s n (at + 183))))
 unfolding traceForm
 trace-parts s n i at = header-then s n i at (samplesCauses s n (at + 183))
 
@@ -137,8 +138,8 @@ trace-parts s n i at = header-then s n i at (samplesCauses s n (at + 183))
 pub head-form : (s : List ℕ) (n i at : ℕ)
     → headForm s n i at
     ≡ then (fieldCause s 3 180 at)
-    (then (refuseIf (not (eqb (word s (at + 117)) n)) 13 (at + 117))
-    (then (refuseIf (not (eqb (word s (at + 119)) i)) 13 (at + 119)) (fieldCause s 4 (pairLength * n) (at + 183))))
+    (then (refuseIf (not (eqb (number16 s (bytePlace (at + 3) 115)) n)) 13 (bytePlace (at + 3) 115))
+    (then (refuseIf (not (eqb (number16 s (bytePlace (at + 3) 117)) i)) 13 (bytePlace (at + 3) 117)) (fieldCause s 4 (pairLength * n) (at + 183))))
 unfolding headForm
 head-form s n i at = header-then s n i at (fieldCause s 4 (pairLength * n) (at + 183))
 

@@ -44,10 +44,10 @@ trace-widths = refl
 
 -- fields 115 and 117
 abbrev pub countField : Field
-countField = record { byteNo = 115; width = 2 }
+countField = record { begins = 115; width = 2 }
 
 abbrev pub intervalField : Field
-intervalField = record { byteNo = 117; width = 2 }
+intervalField = record { begins = 117; width = 2 }
 
 pub trace-numbers : (s : List ℕ) (n i at : ℕ)
     → map (traceNumber s n i at) traceFields

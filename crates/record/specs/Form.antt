@@ -6,19 +6,24 @@ use mathlib.Core.Bool.{Bool, not, _&&_}
 use lib.ListN.{length, getD}
 use lib.Dec.{leb, ltb, eqb}
 use Rattle.numbers.specs.Walk.{pick, walk, bytesAt}
+use Rattle.numbers.specs.Places.{bytePlace}
 use Rattle.numbers.specs.BigEndian.{number}
 use Rattle.numbers.specs.Cause.{refuseIf, then, firstOf}
 use Rattle.numbers.specs.declared.Check.{Check}
 use Rattle.value.specs.Pair.{isCanonical, pairLength, pairIn}
-use Rattle.reel.specs.Layout.{cardBytes, word}
+use Rattle.reel.specs.Layout.{cardBytes, number16}
 use Rattle.reel.specs.Causes.{mostSamples, mostTraces, mostInterval, within}
 
 -- ## A field
 
--- A field of this tag and length stands whole at the place `at`: one byte of tag, two of length, the content.
+-- The bytes of a field's tag and length, before its content: one of tag, two of length.
+abbrev pub fieldHead : ℕ
+fieldHead = 3
+
+-- A field of this tag and length stands whole at the place `at`: its tag, its length, the content.
 abbrev pub isField : List ℕ → ℕ → ℕ → ℕ → Bool
 isField s tag size at =
-    leb (at + (3 + size)) (length s) && (eqb (getD s at 0) tag && eqb (word s (at + 1)) size)
+    leb (at + (fieldHead + size)) (length s) && (eqb (getD s at 0) tag && eqb (number16 s (at + 1)) size)
 
 -- 12: a wrong tag, a wrong length, a field cut short or missing, at the place where that field's tag stands or should stand.
 abbrev pub fieldCause : List ℕ → ℕ → ℕ → ℕ → Check
@@ -32,29 +37,40 @@ cardCause s at = refuseIf (eqb (getD s at 0) 0) 13 at
 
 -- Tag 01 at the front, with 3,200 card bytes.
 unfoldable pub cardsCauses : List ℕ → Check
-cardsCauses s = then (fieldCause s 1 cardBytes 0) (firstOf (walk (cardCause s) 1 cardBytes 3))
+cardsCauses s = then (fieldCause s 1 cardBytes 0) (firstOf (walk (cardCause s) 1 cardBytes fieldHead))
 
 -- ## Binary fields
 
--- The places of the interval, N and the format code in a record: fields 3217, 3221 and 3225. Byte number 3201 stands at the place 3206,
--- behind tag 02 and its length.
+-- The bytes of the 27 binary fields, 3201 to 3260.
+abbrev pub binarySize : ℕ
+binarySize = 60
+
+-- The place of tag 02, behind the field of the cards, 3203.
+abbrev pub binaryPlace : ℕ
+binaryPlace = fieldHead + cardBytes
+
+-- Byte number 3201 stands behind tag 02 and its length, at the place 3206, so byte number 1 would stand at the place 6.
+abbrev pub binaryStart : ℕ
+binaryStart = 6
+
+-- The places of the interval, N and the format code in a record, fields 3217, 3221 and 3225: 3222, 3226 and 3230.
 abbrev pub intervalPlace : ℕ
-intervalPlace = 3222
+intervalPlace = bytePlace binaryStart 3217
 
 abbrev pub samplesPlace : ℕ
-samplesPlace = 3226
+samplesPlace = bytePlace binaryStart 3221
 
 abbrev pub codePlace : ℕ
-codePlace = 3230
+codePlace = bytePlace binaryStart 3225
 
 abbrev pub heldInterval : List ℕ → ℕ
-heldInterval s = word s intervalPlace
+heldInterval s = number16 s intervalPlace
 
 abbrev pub heldSamples : List ℕ → ℕ
-heldSamples s = word s samplesPlace
+heldSamples s = number16 s samplesPlace
 
 abbrev pub heldCode : List ℕ → ℕ
-heldCode s = word s codePlace
+heldCode s = number16 s codePlace
 
 -- 13: an interval or N outside its limits, a format code other than 0, in this order.
 abbrev pub numberCauses : ℕ → ℕ → ℕ → Check
@@ -67,16 +83,28 @@ numberCauses i n code =
 
 -- Tag 02, with the 60 bytes of the binary fields.
 unfoldable pub binaryCauses : List ℕ → Check
-binaryCauses s = then (fieldCause s 2 60 3203) (numberCauses (heldInterval s) (heldSamples s) (heldCode s))
+binaryCauses s = then (fieldCause s 2 binarySize binaryPlace) (numberCauses (heldInterval s) (heldSamples s) (heldCode s))
 
 -- ## Traces
 
--- The place behind tag 02 and its content, where the traces begin, and the bytes of a record's trace of n samples.
+-- The place behind tag 02 and its content, where the traces begin, 3266.
 abbrev pub tracesPlace : ℕ
-tracesPlace = 3266
+tracesPlace = binaryPlace + (fieldHead + binarySize)
 
+-- The bytes of a trace's 71 fields, 1 to 180.
+abbrev pub headerSize : ℕ
+headerSize = 180
+
+-- From a trace's tag 03 to its tag 04, 183 bytes, and to the first pair behind that tag and its length, 186.
+abbrev pub toSamples : ℕ
+toSamples = fieldHead + headerSize
+
+abbrev pub toPairs : ℕ
+toPairs = toSamples + fieldHead
+
+-- The bytes of a record's trace of n samples.
 abbrev pub heldStride : ℕ → ℕ
-heldStride n = 186 + pairLength * n
+heldStride n = toPairs + pairLength * n
 
 -- 13: a pair that isn't canonical, at the place of its first byte.
 abbrev pub pairCause : List ℕ → ℕ → Check
@@ -84,19 +112,19 @@ pairCause s at = refuseIf (not (isCanonical (pairIn (bytesAt s at pairLength))))
 
 -- The samples of a trace: tag 04 with n pairs.
 unfoldable pub samplesCauses : List ℕ → ℕ → ℕ → Check
-samplesCauses s n at = then (fieldCause s 4 (pairLength * n) at) (firstOf (walk (pairCause s) pairLength n (at + 3)))
+samplesCauses s n at = then (fieldCause s 4 (pairLength * n) at) (firstOf (walk (pairCause s) pairLength n (at + fieldHead)))
 
--- A trace's header: tag 03 with its 180 bytes, of which fields 115 and 117 stand 114 and 116 places behind the tag and length, and must
--- be like the reel's n and i.
+-- A trace's header: tag 03 with its 180 bytes, of which fields 115 and 117 must be like the reel's n and i. Byte number 1 stands behind the
+-- tag and its length.
 unfoldable pub headerCauses : List ℕ → ℕ → ℕ → ℕ → Check
 headerCauses s n i at =
-    then (fieldCause s 3 180 at)
-    (then (refuseIf (not (eqb (word s (at + 117)) n)) 13 (at + 117))
-    (refuseIf (not (eqb (word s (at + 119)) i)) 13 (at + 119)))
+    then (fieldCause s 3 headerSize at)
+    (then (refuseIf (not (eqb (number16 s (bytePlace (at + fieldHead) 115)) n)) 13 (bytePlace (at + fieldHead) 115))
+    (refuseIf (not (eqb (number16 s (bytePlace (at + fieldHead) 117)) i)) 13 (bytePlace (at + fieldHead) 117)))
 
 -- A trace: its header, then its samples.
 unfoldable pub traceForm : List ℕ → ℕ → ℕ → ℕ → Check
-traceForm s n i at = then (headerCauses s n i at) (samplesCauses s n (at + 183))
+traceForm s n i at = then (headerCauses s n i at) (samplesCauses s n (at + toSamples))
 
 -- How many tags 03 follow each other from the place `at` on, w bytes apart; the first argument is the most that are counted.
 unfoldable pub tagsFrom : ℕ → List ℕ → ℕ → ℕ → ℕ
@@ -109,13 +137,17 @@ heldCount s n = tagsFrom mostTraces s (heldStride n) tracesPlace
 
 -- ## The end
 
+-- The bytes of tag 05, its length and the count of traces, which has four.
+abbrev pub endSize : ℕ
+endSize = fieldHead + 4
+
 -- Behind t traces, tag 05: 12 also for a wrong count, at its tag; and for bytes after it, at the first.
 abbrev pub endCauses : List ℕ → ℕ → ℕ → Check
 endCauses s t at =
     firstOf
     (fieldCause s 5 4 at
-    ∷ refuseIf (not (eqb (number (bytesAt s (at + 3) 4)) t)) 12 at
-    ∷ refuseIf (ltb (at + 7) (length s)) 12 (at + 7)
+    ∷ refuseIf (not (eqb (number (bytesAt s (at + fieldHead) 4)) t)) 12 at
+    ∷ refuseIf (ltb (at + endSize) (length s)) 12 (at + endSize)
     ∷ [])
 
 -- t traces of n samples with interval i, and what stands behind them.

@@ -6,7 +6,7 @@ use Rattle.numbers.specs.Walk.{walk, bytesAt}
 use Rattle.value.specs.Pair.{valueOf, pairLength, pairIn}
 use Rattle.reel.specs.Layout.{cardBytes, binaryFields, traceFields, fieldNumber}
 use Rattle.reel.specs.Meaning.{otherThan, Trace, Meaning}
-use Rattle.record.specs.Form.{heldSamples, heldStride, heldCount, tracesPlace}
+use Rattle.record.specs.Form.{fieldHead, binaryStart, toPairs, heldSamples, heldStride, heldCount, tracesPlace}
 
 -- The value of the pair at a place.
 abbrev pub heldValue : List ℕ → ℕ → ℤ
@@ -16,8 +16,8 @@ heldValue s at = valueOf (pairIn (bytesAt s at pairLength))
 unfoldable pub heldTrace : List ℕ → ℕ → ℕ → Trace
 heldTrace s n at =
     record {
-      numbers = map (fieldNumber s (at + 3)) traceFields;
-      values = walk (heldValue s) pairLength n (at + 186);
+      numbers = map (fieldNumber s (at + fieldHead)) traceFields;
+      values = walk (heldValue s) pairLength n (at + toPairs);
     }
 
 -- What a record holds: the card bytes behind tag 01, the 26 binary numbers behind tag 02, where byte number 1 would stand at the place 6,
@@ -25,7 +25,7 @@ heldTrace s n at =
 unfoldable pub heldBy : List ℕ → Meaning
 heldBy s =
     record {
-      cards = bytesAt s 3 cardBytes;
-      binary = map (fieldNumber s 6) (otherThan 3225 binaryFields);
+      cards = bytesAt s fieldHead cardBytes;
+      binary = map (fieldNumber s binaryStart) (otherThan 3225 binaryFields);
       traces = walk (heldTrace s (heldSamples s)) (heldStride (heldSamples s)) (heldCount s (heldSamples s)) tracesPlace;
     }

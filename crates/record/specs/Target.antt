@@ -11,10 +11,10 @@ use Rattle.value.specs.Pair.{pairLength}
 use Rattle.value.specs.Writing.{wordOf}
 use Rattle.value.specs.declared.Written.{Written}
 use Rattle.value.specs.declared.Written.the-variants as written
-use Rattle.record.specs.Form.{heldSamples, heldStride, heldCount, tracesPlace, formCauses}
+use Rattle.record.specs.Form.{toPairs, heldSamples, heldStride, heldCount, tracesPlace, formCauses}
 use Rattle.record.specs.Held.{heldValue}
-use Rattle.record.specs.declared.Checked.{Checked}
-use Rattle.record.specs.declared.Checked.the-variants as variant
+use Rattle.record.specs.declared.Judged.{Judged}
+use Rattle.record.specs.declared.Judged.the-variants as variant
 
 -- There is no word.
 abbrev pub isUnfit : Written → Bool
@@ -27,7 +27,7 @@ fitCause s code at = refuseIf (isUnfit (wordOf code (heldValue s at))) 14 at
 
 -- The n samples of the trace at a place, first sample first.
 unfoldable pub traceFit : List ℕ → ℕ → ℕ → ℕ → Check
-traceFit s code n at = firstOf (walk (fitCause s code) pairLength n (at + 186))
+traceFit s code n at = firstOf (walk (fitCause s code) pairLength n (at + toPairs))
 
 -- The samples of t traces.
 unfoldable pub fitCauses : List ℕ → ℕ → ℕ → ℕ → Check
@@ -41,9 +41,9 @@ targetCauses s code =
     (fitCauses s code (heldSamples s) (heldCount s (heldSamples s))))
 
 -- A record that can be written under a code, with its N and T; or the first cause.
-abbrev pub checked : List ℕ → Check → Checked
-checked s Fine = variant.Fine (heldSamples s) (heldCount s (heldSamples s))
-checked s (Refused number place) = variant.Refused number place
+abbrev pub recordFound : List ℕ → Check → Judged
+recordFound s Fine = variant.Fine (heldSamples s) (heldCount s (heldSamples s))
+recordFound s (Refused number place) = variant.Refused number place
 
-abbrev pub checkedOf : List ℕ → ℕ → Checked
-checkedOf s code = checked s (targetCauses s code)
+abbrev pub fitJudged : List ℕ → ℕ → Judged
+fitJudged s code = recordFound s (targetCauses s code)

@@ -11,10 +11,10 @@ ghost use Rattle.numbers.specs.Places.{placeNo, byteNo};
 ghost use Rattle.numbers.specs.declared.Check.the-variants.{Fine};
 ghost use Rattle.value.specs.Value.{isCode};
 ghost use Rattle.value.specs.Pair.{pairIn};
-ghost use Rattle.reel.specs.Layout.{word};
+ghost use Rattle.reel.specs.Layout.{number16};
 ghost use Rattle.reel.specs.Causes.{mostSamples, mostTraces};
 ghost use Rattle.record.specs.Form.{fieldCause, cardCause, cardsCauses, numberCauses, binaryCauses, tracesPlace, pairCause, traceForm, endCauses, formCauses};
-ghost use Rattle.record.specs.Target.{targetCauses, checked, checkedOf};
+ghost use Rattle.record.specs.Target.{targetCauses, recordFound, fitJudged};
 ghost use Rattle.record.specs.Parts.{headForm, traceCheck, formFrom, fitFrom};
 use numbers::ByteNo;
 use numbers::Check;
@@ -35,7 +35,7 @@ pub enum Answer {
 }
 
 // What checking a record for a target code finds: N and T, where no cause applies, or the first cause.
-pub enum Checked {
+pub enum Judged {
     Fine { samples: usize, traces: usize },
     Refused { number: u8, place: Place },
 }
@@ -43,7 +43,7 @@ pub enum Checked {
 // The number in the two bytes at a place.
 fn word_at(record: &[u8], p: Place) -> usize
     requires { ⌜ placeNo p + 1 < length (now «record») ⌝ }
-    ensures { λ r. ⌜ (r ≡ word (now («record» .entry)) (placeNo p)) × (r < 2 ^ 16) ⌝ }
+    ensures { λ r. ⌜ (r ≡ number16 (now («record» .entry)) (placeNo p)) × (r < 2 ^ 16) ⌝ }
 {
     let at = p.0;
     numbers::be16(record[at], record[at + 1]) as usize
@@ -142,7 +142,7 @@ fn check_numbers(i: usize, n: usize, code: usize) -> Check
 // The number in a field of the binary header.
 fn binary_word(record: &[u8], b: ByteNo) -> usize
     requires { ⌜ (1 ≤ byteNo b) × (byteNo b + 6 < length (now «record»)) ⌝ }
-    ensures { λ r. ⌜ (r ≡ word (now («record» .entry)) (byteNo b + 5)) × (r < 2 ^ 16) ⌝ }
+    ensures { λ r. ⌜ (r ≡ number16 (now («record» .entry)) (byteNo b + 5)) × (r < 2 ^ 16) ⌝ }
 {
     word_at(record, numbers::field_at(Place(6), b))
 }
@@ -201,7 +201,7 @@ fn check_canonical(record: &[u8], n: usize, start: usize) -> Check
 // 13: a trace field unlike the reel's number, by the byte number where it begins.
 fn check_like(record: &[u8], start: usize, b: ByteNo, own: usize) -> Check
     requires { ⌜ (1 ≤ byteNo b) × (start + byteNo b < length (now «record»)) ⌝ }
-    ensures { λ r. ⌜ r ≡ refuseIf (not (eqb (word (now («record» .entry)) (start + (byteNo b - 1))) own)) 13 (start + (byteNo b - 1)) ⌝ }
+    ensures { λ r. ⌜ r ≡ refuseIf (not (eqb (number16 (now («record» .entry)) (start + (byteNo b - 1))) own)) 13 (start + (byteNo b - 1)) ⌝ }
 {
     let p = numbers::field_at(Place(start), b);
     check_same(word_at(record, p), own, p)
@@ -371,24 +371,24 @@ fn check_causes(record: &[u8], code: u32) -> Check
 }
 
 // A record's N and T.
-fn own_numbers(record: &[u8]) -> Checked
+fn own_numbers(record: &[u8]) -> Judged
     requires { ⌜ formCauses (now «record») ≡ Fine ⌝ }
-    ensures { λ r. ⌜ r ≡ checked (now («record» .entry)) Fine ⌝ }
+    ensures { λ r. ⌜ r ≡ recordFound (now («record» .entry)) Fine ⌝ }
 {
     let n = binary_word(record, ByteNo(3221));
-    Checked::Fine {
+    Judged::Fine {
         samples: n,
         traces: count_at(record, record.len() - 4),
     }
 }
 
 // Whether a record can be written under a code, by the causes 11 to 14, and its N and T where none applies.
-pub fn check_record(record: &[u8], code: u32) -> Checked
-    ensures { λ r. ⌜ r ≡ checkedOf (now («record» .entry)) code ⌝ }
+pub fn judge_fit(record: &[u8], code: u32) -> Judged
+    ensures { λ r. ⌜ r ≡ fitJudged (now («record» .entry)) code ⌝ }
 {
     let c = check_causes(record, code);
     match c {
-        Check::Refused { number, place } => Checked::Refused { number, place },
+        Check::Refused { number, place } => Judged::Refused { number, place },
         Check::Fine => own_numbers(record),
     }
 }

@@ -19,9 +19,9 @@ use Rattle.value.specs.Value.{isCode, exactValue}
 use Rattle.sample.specs.Reading.{badGain, readWord, pairTaken}
 use Rattle.sample.specs.declared.Sample.{Sample}
 use Rattle.sample.specs.declared.Sample.the-variants as sample
-use Rattle.reel.specs.Layout.{firstTrace, word, samplesOf, codeOf, intervalOf, sampleBytes, stride, strideOf, overIn, tracesOf}
+use Rattle.reel.specs.Layout.{firstTrace, number16, samplesOf, codeOf, intervalOf, sampleBytes, stride, strideOf, overIn, tracesOf}
 use Rattle.reel.specs.Parts.{wordRefused}
-use Rattle.reel.specs.Causes.{mostSamples, mostTraces, within, neither, headerCauses, sizeCauses, wordCause, traceCauses, behindCauses, causesOf}
+use Rattle.reel.specs.Causes.{mostSamples, mostTraces, within, neither, limitCauses, sizeCauses, wordCause, traceCauses, behindCauses, causesOf}
 
 -- ## Rows
 
@@ -74,7 +74,7 @@ pub record Numbers (code n i : ℕ) : Type 0 where
   pub i-low : 1 ≤ i
   pub i-high : i ≤ 32767
 
-pub header-fine : (code n i : ℕ) → headerCauses code n i ≡ Fine → Numbers code n i
+pub header-fine : (code n i : ℕ) → limitCauses code n i ≡ Fine → Numbers code n i
 header-fine code n i e =
     let a = then-fine (refuseIf (not (isCode code)) 2 3224) _ e in
     let b = then-fine (refuseIf (not (within 1 mostSamples n)) 3 3220) _ (a .1) in
@@ -115,7 +115,7 @@ pub reel-fine : (s : List ℕ) → causesOf s ≡ Fine → Sound s
 unfolding causesOf behindCauses
 reel-fine s e =
     let a = then-fine (refuseIf (ltb (length s) firstTrace) 1 (length s)) _ e in
-    let b = then-fine (headerCauses (codeOf s) (samplesOf s) (intervalOf s)) _ (a .1) in
+    let b = then-fine (limitCauses (codeOf s) (samplesOf s) (intervalOf s)) _ (a .1) in
     let c = then-fine (sizeCauses (length s) (strideOf s) (tracesOf s) (overIn (length s) (strideOf s))) _ (b .1) in
     let d = then-fine (refuseIf (ltb 0 (overIn (length s) (strideOf s))) 5 (length s - overIn (length s) (strideOf s))) _ (c .0) in
     let f = then-fine (refuseIf (ltb mostTraces (tracesOf s)) 6 (firstTrace + mostTraces * strideOf s)) _ (d .1) in

@@ -6,13 +6,14 @@ use lib.ListN.{length}
 use lib.Dec.{leb, ltb, eqb}
 use Rattle.numbers.specs.Walk.{walk, bytesAt}
 use Rattle.numbers.specs.Cause.{refuseIf, then, firstOf}
+use Rattle.numbers.specs.Places.{bytePlace}
 use Rattle.numbers.specs.declared.Check.{Check}
 use Rattle.numbers.specs.declared.Check.the-variants.{Fine, Refused}
-use Rattle.reel.specs.declared.Checked.{Checked}
-use Rattle.reel.specs.declared.Checked.the-variants as variant
+use Rattle.reel.specs.declared.Judged.{Judged}
+use Rattle.reel.specs.declared.Judged.the-variants as variant
 use Rattle.value.specs.Value.{isCode}
 use Rattle.sample.specs.Reading.{badGain}
-use Rattle.reel.specs.Layout.{firstTrace, traceHeader, word, intervalOf, samplesOf, codeOf, sampleBytes, strideOf, wholeIn, overIn, tracesOf}
+use Rattle.reel.specs.Layout.{firstTrace, traceHeader, number16, intervalOf, samplesOf, codeOf, sampleBytes, strideOf, wholeIn, overIn, tracesOf}
 
 -- The most samples of a trace, and the most traces of a reel.
 abbrev pub mostSamples : ℕ
@@ -34,8 +35,8 @@ abbrev pub neither : ℕ → ℕ → Bool
 neither n m = not (eqb n 0) && not (eqb n m)
 
 -- 2, 3, 4: format code not 1 to 4; N not 1 to 8,000; interval not 1 to 32,767.
-abbrev pub headerCauses : ℕ → ℕ → ℕ → Check
-headerCauses code n i =
+abbrev pub limitCauses : ℕ → ℕ → ℕ → Check
+limitCauses code n i =
     firstOf
     (refuseIf (not (isCode code)) 2 3224
     ∷ refuseIf (not (within 1 mostSamples n)) 3 3220
@@ -55,12 +56,11 @@ sizeCauses size w t over =
 abbrev pub wordCause : List ℕ → ℕ → ℕ → Check
 wordCause s code at = refuseIf (badGain code (bytesAt s at 4)) 9 at
 
--- 7, 8, then 9 at the first such word, of the trace at the place `at`, in a reel of n samples a trace, interval i and code `code`. Fields
--- 115 and 117 stand 114 and 116 places behind the trace's start.
+-- 7, 8, then 9 at the first such word, of the trace at the place `at`, in a reel of n samples a trace, interval i and code `code`.
 unfoldable pub traceCauses : List ℕ → ℕ → ℕ → ℕ → ℕ → Check
 traceCauses s code n i at =
-    then (refuseIf (neither (word s (at + 114)) n) 7 (at + 114))
-    (then (refuseIf (neither (word s (at + 116)) i) 8 (at + 116))
+    then (refuseIf (neither (number16 s (bytePlace at 115)) n) 7 (bytePlace at 115))
+    (then (refuseIf (neither (number16 s (bytePlace at 117)) i) 8 (bytePlace at 117))
     (firstOf (walk (wordCause s code) (sampleBytes code) n (at + traceHeader))))
 
 -- 5 and 6, then trace by trace 7, 8, 9, of traces of w bytes.
@@ -73,13 +73,13 @@ behindCauses s code n i w =
 unfoldable pub causesOf : List ℕ → Check
 causesOf s =
     then (refuseIf (ltb (length s) firstTrace) 1 (length s))
-    (then (headerCauses (codeOf s) (samplesOf s) (intervalOf s))
+    (then (limitCauses (codeOf s) (samplesOf s) (intervalOf s))
     (behindCauses s (codeOf s) (samplesOf s) (intervalOf s) (strideOf s)))
 
 -- A reel to which no cause applies, with its own numbers; or the first cause.
-abbrev pub checked : List ℕ → Check → Checked
-checked s Fine = variant.Fine (codeOf s) (samplesOf s) (intervalOf s) (sampleBytes (codeOf s)) (strideOf s) (tracesOf s)
-checked s (Refused number place) = variant.Refused number place
+abbrev pub reelFound : List ℕ → Check → Judged
+reelFound s Fine = variant.Fine (codeOf s) (samplesOf s) (intervalOf s) (sampleBytes (codeOf s)) (strideOf s) (tracesOf s)
+reelFound s (Refused number place) = variant.Refused number place
 
-abbrev pub checkedOf : List ℕ → Checked
-checkedOf s = checked s (causesOf s)
+abbrev pub reelJudged : List ℕ → Judged
+reelJudged s = reelFound s (causesOf s)

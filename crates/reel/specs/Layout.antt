@@ -8,6 +8,7 @@ use lib.IntN.{ℤ}
 use Rattle.numbers.specs.Walk.{pick, bytesAt}
 use Rattle.numbers.specs.BigEndian.{number}
 use Rattle.numbers.specs.TwosComplement.{signedOf}
+use Rattle.numbers.specs.Places.{bytePlace}
 
 -- The card bytes, 40 cards of 80.
 abbrev pub cardBytes : ℕ
@@ -25,13 +26,13 @@ traceHeader = 240
 
 -- An assigned header field: the byte number where it begins, and its bytes.
 pub record Field : Type 0 where
-  pub byteNo : ℕ
+  pub begins : ℕ
   pub width : ℕ
 
 -- Fields of these widths, one after the other from a byte number on.
 abbrev pub fieldsFrom : ℕ → List ℕ → List Field
 fieldsFrom b [] = []
-fieldsFrom b (w ∷ ws) = record { byteNo = b; width = w } ∷ fieldsFrom (b + w) ws
+fieldsFrom b (w ∷ ws) = record { begins = b; width = w } ∷ fieldsFrom (b + w) ws
 
 -- The 27 assigned fields of the binary header: 3201, 3205 and 3209 with four bytes, then 24 of two bytes from 3213 to 3260.
 unfoldable pub binaryWidths : List ℕ
@@ -51,25 +52,25 @@ traceFields = fieldsFrom 1 traceWidths
 
 -- The signed number in a field of a header whose byte number 1 stands at the place `start`.
 abbrev pub fieldNumber : List ℕ → ℕ → Field → ℤ
-fieldNumber s start f = signedOf (8 * f .width) (number (bytesAt s (start + (f .byteNo - 1)) (f .width)))
+fieldNumber s start f = signedOf (8 * f .width) (number (bytesAt s (bytePlace start (f .begins)) (f .width)))
 
 -- The number in two bytes, where its sign plays no part: the numbers of a reel below are from 1 to 32,767 or refused.
-abbrev pub word : List ℕ → ℕ → ℕ
-word s at = number (bytesAt s at 2)
+abbrev pub number16 : List ℕ → ℕ → ℕ
+number16 s at = number (bytesAt s at 2)
 
 -- ## The reel's own numbers
 
 -- Field 3217, the sample interval in microseconds.
 abbrev pub intervalOf : List ℕ → ℕ
-intervalOf s = word s 3216
+intervalOf s = number16 s (bytePlace 0 3217)
 
 -- Field 3221, N, the samples of a trace.
 abbrev pub samplesOf : List ℕ → ℕ
-samplesOf s = word s 3220
+samplesOf s = number16 s (bytePlace 0 3221)
 
 -- Field 3225, the format code.
 abbrev pub codeOf : List ℕ → ℕ
-codeOf s = word s 3224
+codeOf s = number16 s (bytePlace 0 3225)
 
 -- The bytes of a sample under a code.
 abbrev pub sampleBytes : ℕ → ℕ

@@ -19,7 +19,7 @@ cardText s = map blank (bytesAt s 0 cardBytes)
 -- The fields that begin at another byte number.
 abbrev pub otherThan : ℕ → List Field → List Field
 otherThan b [] = []
-otherThan b (f ∷ fs) = pick (eqb (f .byteNo) b) [] (f ∷ []) ++ otherThan b fs
+otherThan b (f ∷ fs) = pick (eqb (f .begins) b) [] (f ∷ []) ++ otherThan b fs
 
 -- The numbers of the 26 binary fields other than 3225.
 unfoldable pub binaryNumbers : List ℕ → List ℤ
@@ -32,8 +32,8 @@ filled own z = pick (eqb (natAbs z) 0) (pos own) z
 -- The number of a field of the trace at the place `at`, with n for a 0 in field 115 and i for a 0 in field 117.
 abbrev pub traceNumber : List ℕ → ℕ → ℕ → ℕ → Field → ℤ
 traceNumber s n i at f =
-    pick (eqb (f .byteNo) 115) (filled n (fieldNumber s at f))
-    (pick (eqb (f .byteNo) 117) (filled i (fieldNumber s at f)) (fieldNumber s at f))
+    pick (eqb (f .begins) 115) (filled n (fieldNumber s at f))
+    (pick (eqb (f .begins) 117) (filled i (fieldNumber s at f)) (fieldNumber s at f))
 
 -- What a trace means: the numbers of its 71 fields, and the N exact values of its samples under the reel's format code.
 pub record Trace : Type 0 where
@@ -65,6 +65,6 @@ meaningOf s =
 pub record MeanTheSame (s₁ s₂ : List ℕ) : Type 0 where
   pub cards : cardText s₁ ≡ cardText s₂
   pub binary : binaryNumbers s₁ ≡ binaryNumbers s₂
-  pub traces : tracesOf s₁ ≡ tracesOf s₂
+  pub count : tracesOf s₁ ≡ tracesOf s₂
   pub numbers : map (λ (t : Trace). t .numbers) (meaningOf s₁ .traces) ≡ map (λ (t : Trace). t .numbers) (meaningOf s₂ .traces)
   pub values : map (λ (t : Trace). t .values) (meaningOf s₁ .traces) ≡ map (λ (t : Trace). t .values) (meaningOf s₂ .traces)

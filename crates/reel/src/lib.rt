@@ -8,8 +8,8 @@ ghost use Rattle.numbers.specs.Cause.{refuseIf, then, firstOf};
 ghost use Rattle.numbers.specs.declared.Check.the-variants.{Fine};
 ghost use Rattle.numbers.specs.Places.{placeNo, byteNo};
 ghost use Rattle.value.specs.Value.{isCode};
-ghost use Rattle.reel.specs.Layout.{firstTrace, word, sampleBytes, stride};
-ghost use Rattle.reel.specs.Causes.{within, neither, headerCauses, sizeCauses, wordCause, traceCauses, behindCauses, causesOf, checkedOf};
+ghost use Rattle.reel.specs.Layout.{firstTrace, number16, sampleBytes, stride};
+ghost use Rattle.reel.specs.Causes.{within, neither, limitCauses, sizeCauses, wordCause, traceCauses, behindCauses, causesOf, reelJudged};
 ghost use Rattle.reel.specs.Parts.{wordRefused};
 use numbers::ByteNo;
 use numbers::Check;
@@ -18,7 +18,7 @@ use sample::Sample;
 
 // What checking a reel finds: its own numbers, where no cause applies, or the first cause. The numbers are the format code, N, the
 // interval, the bytes of a sample, the bytes from trace to trace, and T.
-pub enum Checked {
+pub enum Judged {
     Fine {
         code: usize,
         samples: usize,
@@ -36,7 +36,7 @@ pub enum Checked {
 // The number in the two bytes at a place.
 fn word_at(reel: &[u8], p: Place) -> usize
     requires { ⌜ placeNo p + 1 < length (now reel) ⌝ }
-    ensures { λ r. ⌜ (r ≡ word (now (reel .entry)) (placeNo p)) × (r < 2 ^ 16) ⌝ }
+    ensures { λ r. ⌜ (r ≡ number16 (now (reel .entry)) (placeNo p)) × (r < 2 ^ 16) ⌝ }
 {
     let at = p.0;
     numbers::be16(reel[at], reel[at + 1]) as usize
@@ -45,7 +45,7 @@ fn word_at(reel: &[u8], p: Place) -> usize
 // The number in a field of the binary header.
 fn binary_word(reel: &[u8], b: ByteNo) -> usize
     requires { ⌜ (1 ≤ byteNo b) × (byteNo b < length (now reel)) ⌝ }
-    ensures { λ r. ⌜ (r ≡ word (now (reel .entry)) (byteNo b - 1)) × (r < 2 ^ 16) ⌝ }
+    ensures { λ r. ⌜ (r ≡ number16 (now (reel .entry)) (byteNo b - 1)) × (r < 2 ^ 16) ⌝ }
 {
     word_at(reel, numbers::field_at(Place(0), b))
 }
@@ -66,7 +66,7 @@ pub fn check_limits(n: usize, least: usize, most: usize, number: u8, place: Plac
 // A cause that applies where a trace's own number, which stands at a place, is neither 0 nor the reel's.
 fn check_own(reel: &[u8], place: Place, own: usize, number: u8) -> Check
     requires { ⌜ placeNo place + 1 < length (now reel) ⌝ }
-    ensures { λ r. ⌜ r ≡ refuseIf (neither (word (now (reel .entry)) (placeNo place)) own) number (placeNo place) ⌝ }
+    ensures { λ r. ⌜ r ≡ refuseIf (neither (number16 (now (reel .entry)) (placeNo place)) own) number (placeNo place) ⌝ }
 {
     let n = word_at(reel, place);
     if n == 0 {
@@ -80,7 +80,7 @@ fn check_own(reel: &[u8], place: Place, own: usize, number: u8) -> Check
 
 // 2, 3 and 4: the format code, N and the interval.
 fn check_header(code: usize, n: usize, i: usize) -> Check
-    ensures { λ r. ⌜ r ≡ headerCauses code n i ⌝ }
+    ensures { λ r. ⌜ r ≡ limitCauses code n i ⌝ }
 {
     let a = check_limits(code, 1, 4, 2, numbers::field_at(Place(0), ByteNo(3225)));
     let Check::Fine = a else {
@@ -218,7 +218,7 @@ fn check_behind(reel: &[u8], code: usize, n: usize, i: usize, v: usize, w: usize
 // 2 to 9.
 fn check_numbers(reel: &[u8], code: usize, n: usize, i: usize) -> Check
     requires { ⌜ 3600 ≤ length (now reel) ⌝ }
-    ensures { λ r. ⌜ r ≡ then (headerCauses code n i) (behindCauses (now (reel .entry)) code n i (stride n (sampleBytes code))) ⌝ }
+    ensures { λ r. ⌜ r ≡ then (limitCauses code n i) (behindCauses (now (reel .entry)) code n i (stride n (sampleBytes code))) ⌝ }
 {
     let a = check_header(code, n, i);
     let Check::Fine = a else {
@@ -248,16 +248,16 @@ fn check_causes(reel: &[u8]) -> Check
 }
 
 // The reel's own numbers.
-fn own_numbers(reel: &[u8]) -> Checked
+fn own_numbers(reel: &[u8]) -> Judged
     requires { ⌜ causesOf (now reel) ≡ Fine ⌝ }
-    ensures { λ r. ⌜ r ≡ checkedOf (now (reel .entry)) ⌝ }
+    ensures { λ r. ⌜ r ≡ reelJudged (now (reel .entry)) ⌝ }
 {
     let code = binary_word(reel, ByteNo(3225));
     let samples = binary_word(reel, ByteNo(3221));
     let interval = binary_word(reel, ByteNo(3217));
     let width = width_of(code);
     let stride = 240 + samples * width;
-    Checked::Fine {
+    Judged::Fine {
         code,
         samples,
         interval,
@@ -268,12 +268,12 @@ fn own_numbers(reel: &[u8]) -> Checked
 }
 
 // Whether a cause of 1 to 9 applies to a reel, and its own numbers where none does.
-pub fn check_reel(reel: &[u8]) -> Checked
-    ensures { λ r. ⌜ r ≡ checkedOf (now (reel .entry)) ⌝ }
+pub fn judge_reel(reel: &[u8]) -> Judged
+    ensures { λ r. ⌜ r ≡ reelJudged (now (reel .entry)) ⌝ }
 {
     let c = check_causes(reel);
     match c {
-        Check::Refused { number, place } => Checked::Refused { number, place },
+        Check::Refused { number, place } => Judged::Refused { number, place },
         Check::Fine => own_numbers(reel),
     }
 }

@@ -20,7 +20,7 @@ use Rattle.reel.specs.Layout.{samplesOf, tracesOf}
 use Rattle.reel.specs.Causes.{causesOf}
 use Rattle.reel.specs.Meaning.{MeanTheSame}
 use Rattle.record.specs.Record.{reelRecord}
-use Rattle.transcribe.specs.Reading.{lengthOf, readCauses, readEnd, readOutcome}
+use Rattle.read_reel.specs.Reading.{recordLengthOf, readCauses, readEnd, readOutcome}
 use Rattle.reel_theorems.proofs.Same.{record-size, same-records}
 
 -- a call that says it refused does not say it took
@@ -51,9 +51,9 @@ pub taken-numbers : (s out numbers : List ℕ) → readOutcome s out .said ≡ t
 taken-numbers s out numbers e = ap (λ (o : Outcome). o .said) (taken-outcome s out numbers e)
 
 -- the length returned is that of the reel's record
-pub taken-length : (s out : List ℕ) (t n l : ℕ) → readOutcome s out .said ≡ taken (t ∷ n ∷ l ∷ []) → lengthOf s ≡ l
+pub taken-length : (s out : List ℕ) (t n l : ℕ) → readOutcome s out .said ≡ taken (t ∷ n ∷ l ∷ []) → recordLengthOf s ≡ l
 taken-length s out t n l e =
-    let same : taken (tracesOf s ∷ samplesOf s ∷ lengthOf s ∷ []) ≡ taken (t ∷ n ∷ l ∷ []) = sym (taken-numbers s out (t ∷ n ∷ l ∷ []) e) ∙ e in
+    let same : taken (tracesOf s ∷ samplesOf s ∷ recordLengthOf s ∷ []) ≡ taken (t ∷ n ∷ l ∷ []) = sym (taken-numbers s out (t ∷ n ∷ l ∷ []) e) ∙ e in
     cc
 
 -- THEOREM. Where the reading of a reel is taken, with T, N and a length returned, the output's first bytes, as many as that length, are
@@ -62,7 +62,7 @@ pub output-record : (s out : List ℕ) (t n l : ℕ) → Bytes s → readOutcome
     → take l (readOutcome s out .bytes) ≡ reelRecord s
 output-record s out t n l b e =
     let size : length (reelRecord s) ≡ l = record-size s b (taken-reel s out (t ∷ n ∷ l ∷ []) e) ∙ taken-length s out t n l e in
-    ap (λ (o : Outcome). take l (o .bytes)) (taken-outcome s out (t ∷ n ∷ l ∷ []) e) ∙ take-at (reelRecord s) (drop (lengthOf s) out) l size
+    ap (λ (o : Outcome). take l (o .bytes)) (taken-outcome s out (t ∷ n ∷ l ∷ []) e) ∙ take-at (reelRecord s) (drop (recordLengthOf s) out) l size
 
 -- THEOREM. Where the readings of two reels, each in any code and each into any output, are both taken, the first bytes of the two outputs,
 -- as many as the length returned each time, are equal exactly when the reels mean the same.

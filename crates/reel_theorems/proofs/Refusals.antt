@@ -20,8 +20,8 @@ use Rattle.numbers.specs.declared.Check.the-variants.{Fine, Refused}
 use Rattle.numbers.proofs.CauseLaws.{not-fine, then-fine}
 use Rattle.value.specs.Value.{isCode}
 use Rattle.sample_theorems.proofs.Pairs.{Iff}
-use Rattle.reel.specs.Layout.{firstTrace, traceHeader, word, samplesOf, intervalOf, codeOf, sampleBytes, strideOf, overIn, tracesOf}
-use Rattle.reel.specs.Causes.{mostSamples, mostTraces, mostInterval, within, neither, headerCauses, sizeCauses, wordCause, traceCauses, behindCauses, causesOf}
+use Rattle.reel.specs.Layout.{firstTrace, traceHeader, number16, samplesOf, intervalOf, codeOf, sampleBytes, strideOf, overIn, tracesOf}
+use Rattle.reel.specs.Causes.{mostSamples, mostTraces, mostInterval, within, neither, limitCauses, sizeCauses, wordCause, traceCauses, behindCauses, causesOf}
 use Rattle.reel_theorems.proofs.TestLaws.{atPlace, Between, ZeroOr, Tests, fine-where, refused-where, holds-where, row-where, then-row, then-first, then-second, test-between, test-either, test-room, not-enough, too-short, first-is, first-of, walk-fine, walk-holds, walk-refused, walk-row, fine-none}
 
 -- ## The terms of the table
@@ -49,8 +49,8 @@ pub record Whole (s : List ℕ) : Type 0 where
 
 -- 7 to 9 don't apply to trace k: fields 115 and 117 are 0 or the reel's own, and under code 4 each sample begins with 00.
 pub record Passed (s : List ℕ) (k : ℕ) : Type 0 where
-  pub count : ZeroOr (samplesOf s) (word s (traceAt s k + 114))
-  pub interval : ZeroOr (intervalOf s) (word s (traceAt s k + 116))
+  pub count : ZeroOr (samplesOf s) (number16 s (traceAt s k + 114))
+  pub interval : ZeroOr (intervalOf s) (number16 s (traceAt s k + 116))
   pub words : (j : ℕ) → j < samplesOf s → codeOf s ≡ 4 → getD s (sampleAt s k j) 0 ≡ 0
 
 -- Nothing applies before trace k: not 1 to 6, nor 7 to 9 to the traces before it.
@@ -76,12 +76,12 @@ pub data Row (s : List ℕ) : ℕ → ℕ → Type 0 where
   -- 6: there are more than 100,000 traces, at trace 100,001
   many : Headed s → length s ≤ traceAt s (tracesOf s) → 100000 < tracesOf s → Row s 6 (traceAt s 100000)
   -- 7: field 115 of trace k is neither 0 nor N
-  bad-115 : (k : ℕ) → Until s k → ¬ (ZeroOr (samplesOf s) (word s (traceAt s k + 114))) → Row s 7 (traceAt s k + 114)
+  bad-115 : (k : ℕ) → Until s k → ¬ (ZeroOr (samplesOf s) (number16 s (traceAt s k + 114))) → Row s 7 (traceAt s k + 114)
   -- 8: its field 117 is neither 0 nor the reel's interval
-  bad-117 : (k : ℕ) → Until s k → ZeroOr (samplesOf s) (word s (traceAt s k + 114)) → ¬ (ZeroOr (intervalOf s) (word s (traceAt s k + 116)))
+  bad-117 : (k : ℕ) → Until s k → ZeroOr (samplesOf s) (number16 s (traceAt s k + 114)) → ¬ (ZeroOr (intervalOf s) (number16 s (traceAt s k + 116)))
       → Row s 8 (traceAt s k + 116)
   -- 9: the first byte of one of its gain words is not 00, the first such word
-  bad-gain : (k j : ℕ) → Until s k → ZeroOr (samplesOf s) (word s (traceAt s k + 114)) → ZeroOr (intervalOf s) (word s (traceAt s k + 116))
+  bad-gain : (k j : ℕ) → Until s k → ZeroOr (samplesOf s) (number16 s (traceAt s k + 114)) → ZeroOr (intervalOf s) (number16 s (traceAt s k + 116))
       → codeOf s ≡ 4 → j < samplesOf s → ((i : ℕ) → i < j → getD s (sampleAt s k i) 0 ≡ 0) → ¬ (getD s (sampleAt s k j) 0 ≡ 0)
       → Row s 9 (sampleAt s k j)
 
@@ -129,13 +129,13 @@ module _ (s : List ℕ) where
   unfolding causesOf
   from-headed h e =
       then-second _ _ (fine-where long-test (h .long))
-      (then-second (headerCauses (codeOf s) (samplesOf s) (intervalOf s)) _
+      (then-second (limitCauses (codeOf s) (samplesOf s) (intervalOf s)) _
       (then-second _ _ (fine-where code-test (h .code))
       (then-second _ _ (fine-where samples-test (h .samples)) (then-second _ _ (fine-where interval-test (h .interval)) refl)))
       e)
 
   -- And where they find nothing, they don't apply.
-  to-headed : 3600 ≤ length s → headerCauses (codeOf s) (samplesOf s) (intervalOf s) ≡ Fine → Headed s
+  to-headed : 3600 ≤ length s → limitCauses (codeOf s) (samplesOf s) (intervalOf s) ≡ Fine → Headed s
   to-headed l e =
       let a = then-fine (refuseIf (not (isCode (codeOf s))) 2 3224) _ e in
       let b = then-fine (refuseIf (not (within 1 mostSamples (samplesOf s))) 3 3220) _ (a .1) in
@@ -184,11 +184,11 @@ gain-code code b h = go (eqb code 4) refl
 
 module _ (s : List ℕ) (k : ℕ) where
   -- The tests of 7 to 9.
-  count-test : Tests (ZeroOr (samplesOf s) (word s (traceAt s k + 114))) 7 (traceAt s k + 114) (refuseIf (neither (word s (traceAt s k + 114)) (samplesOf s)) 7 (traceAt s k + 114))
-  count-test = test-either (samplesOf s) (word s (traceAt s k + 114)) 7 (traceAt s k + 114)
+  count-test : Tests (ZeroOr (samplesOf s) (number16 s (traceAt s k + 114))) 7 (traceAt s k + 114) (refuseIf (neither (number16 s (traceAt s k + 114)) (samplesOf s)) 7 (traceAt s k + 114))
+  count-test = test-either (samplesOf s) (number16 s (traceAt s k + 114)) 7 (traceAt s k + 114)
 
-  own-test : Tests (ZeroOr (intervalOf s) (word s (traceAt s k + 116))) 8 (traceAt s k + 116) (refuseIf (neither (word s (traceAt s k + 116)) (intervalOf s)) 8 (traceAt s k + 116))
-  own-test = test-either (intervalOf s) (word s (traceAt s k + 116)) 8 (traceAt s k + 116)
+  own-test : Tests (ZeroOr (intervalOf s) (number16 s (traceAt s k + 116))) 8 (traceAt s k + 116) (refuseIf (neither (number16 s (traceAt s k + 116)) (intervalOf s)) 8 (traceAt s k + 116))
+  own-test = test-either (intervalOf s) (number16 s (traceAt s k + 116)) 8 (traceAt s k + 116)
 
   gain-tests : (j : ℕ) → j < samplesOf s → Tests (codeOf s ≡ 4 → getD s (sampleAt s k j) 0 ≡ 0) 9 (sampleAt s k j) (wordCause s (codeOf s) (sampleAt s k j))
   gain-tests j l = test-gain s (codeOf s) (sampleAt s k j)
@@ -205,8 +205,8 @@ module _ (s : List ℕ) (k : ℕ) where
   to-passed : causesAt s (traceAt s k) ≡ Fine → Passed s k
   unfolding traceCauses
   to-passed e =
-      let a = then-fine (refuseIf (neither (word s (traceAt s k + 114)) (samplesOf s)) 7 (traceAt s k + 114)) _ e in
-      let b = then-fine (refuseIf (neither (word s (traceAt s k + 116)) (intervalOf s)) 8 (traceAt s k + 116)) _ (a .1) in
+      let a = then-fine (refuseIf (neither (number16 s (traceAt s k + 114)) (samplesOf s)) 7 (traceAt s k + 114)) _ e in
+      let b = then-fine (refuseIf (neither (number16 s (traceAt s k + 116)) (intervalOf s)) 8 (traceAt s k + 116)) _ (a .1) in
       record {
         count = holds-where count-test (a .0);
         interval = holds-where own-test (b .0);
@@ -262,7 +262,7 @@ module _ (s : List ℕ) where
 
 module _ (s : List ℕ) {n p : ℕ} where
   -- What 2 to 4 refuse has its row.
-  to-header : 3600 ≤ length s → headerCauses (codeOf s) (samplesOf s) (intervalOf s) ≡ Refused n (atPlace p) → Row s n p
+  to-header : 3600 ≤ length s → limitCauses (codeOf s) (samplesOf s) (intervalOf s) ≡ Refused n (atPlace p) → Row s n p
   to-header l =
       then-row (Row s) (refuseIf (not (isCode (codeOf s))) 2 3224) _ (row-where (code-test s) (Row s) (bad-code l))
       (λ e. let c = holds-where (code-test s) e in
@@ -284,9 +284,9 @@ module _ (s : List ℕ) {n p : ℕ} where
   to-trace : (k : ℕ) → Until s k → causesAt s (traceAt s k) ≡ Refused n (atPlace p) → Row s n p
   unfolding traceCauses
   to-trace k u =
-      then-row (Row s) (refuseIf (neither (word s (traceAt s k + 114)) (samplesOf s)) 7 (traceAt s k + 114)) _ (row-where (count-test s k) (Row s) (bad-115 k u))
+      then-row (Row s) (refuseIf (neither (number16 s (traceAt s k + 114)) (samplesOf s)) 7 (traceAt s k + 114)) _ (row-where (count-test s k) (Row s) (bad-115 k u))
       (λ e. let c = holds-where (count-test s k) e in
-      then-row (Row s) (refuseIf (neither (word s (traceAt s k + 116)) (intervalOf s)) 8 (traceAt s k + 116)) _ (row-where (own-test s k) (Row s) (bad-117 k u c))
+      then-row (Row s) (refuseIf (neither (number16 s (traceAt s k + 116)) (intervalOf s)) 8 (traceAt s k + 116)) _ (row-where (own-test s k) (Row s) (bad-117 k u c))
       (λ q. walk-row (λ j. codeOf s ≡ 4 → getD s (sampleAt s k j) 0 ≡ 0) 9 (wordCause s (codeOf s)) (sampleBytes (codeOf s)) (samplesOf s) (traceAt s k + traceHeader) (sampleAt s k) (gain-tests s k) (Row s)
       (λ j l b h. let g = gain-code (codeOf s) (getD s (sampleAt s k j) 0) h in bad-gain k j u c (holds-where (own-test s k) q) g l (λ i m. b i m g) (λ z. h (λ x. z)))))
 
@@ -297,7 +297,7 @@ module _ (s : List ℕ) {n p : ℕ} where
       then-row (Row s) (refuseIf (ltb (length s) firstTrace) 1 (length s)) _
       (row-where (long-test s) (Row s) (λ m. short-reel (not-enough (length s) 3600 m)))
       (λ e. let l = holds-where (long-test s) e in
-      then-row (Row s) (headerCauses (codeOf s) (samplesOf s) (intervalOf s)) _ (to-header l)
+      then-row (Row s) (limitCauses (codeOf s) (samplesOf s) (intervalOf s)) _ (to-header l)
       (λ q. let h = to-headed s l q in
       then-row (Row s) (sizes s) _ (to-size h)
       (λ z y. let r = first-is (causesAt s) (strideOf s) (tracesOf s) firstTrace n p y in

@@ -25,7 +25,7 @@ use Rattle.value.specs.Pair.{pairOf, valueOf, isCanonical, pairIn}
 use Rattle.value.specs.declared.Pair.{Pair}
 use Rattle.sample_theorems.proofs.Held.{and-true}
 use Rattle.sample_theorems.proofs.Pairs.{Iff, pair-value, bytes-pair, value-canonical}
-use Rattle.reel.specs.Layout.{Field, fieldsFrom, binaryWidths, binaryFields, traceWidths, traceFields, fieldNumber, firstTrace, traceHeader, word, samplesOf, intervalOf, codeOf, sampleBytes, strideOf, tracesOf}
+use Rattle.reel.specs.Layout.{Field, fieldsFrom, binaryWidths, binaryFields, traceWidths, traceFields, fieldNumber, firstTrace, traceHeader, number16, samplesOf, intervalOf, codeOf, sampleBytes, strideOf, tracesOf}
 use Rattle.reel.specs.Causes.{mostSamples, causesOf}
 use Rattle.reel.specs.Meaning.{cardText, binaryNumbers, filled, traceNumber, Trace, traceMeaning, Meaning, meaningOf, MeanTheSame}
 use Rattle.reel.proofs.CheckLaws.{Numbers, Sound, reel-fine}
@@ -251,7 +251,7 @@ module _ (s₁ s₂ : List ℕ) (b₁ : Bytes s₁) (b₂ : Bytes s₂) (f₁ : 
       record {
         cards = a .0;
         binary = z;
-        traces = sym (traces-count s₁) ∙ ap length t ∙ traces-count s₂;
+        count = sym (traces-count s₁) ∙ ap length t ∙ traces-count s₂;
         numbers = ap (map (λ (x : Trace). x .numbers)) m;
         values = ap (map (λ (x : Trace). x .values)) m;
       }

@@ -27,8 +27,8 @@ use Rattle.record.proofs.NumberLaws.{total, fields-again, numbers-append}
 use Rattle.record.proofs.HeaderLaws.{binary-front, binary-back}
 use Rattle.record.proofs.FormLaws.{trace-form, target-form}
 use Rattle.write_reel.specs.Reel.{sampleWritten, traceWritten, reelOf}
-use Rattle.write_samples.specs.Samples.{wordBytes, writtenAt, samplesCopied}
-use Rattle.write_reel.specs.Copied.{traceCopied, binaryCopied, reelCopied}
+use Rattle.write_samples.specs.Samples.{wordBytes, writtenAt, sampleWords}
+use Rattle.write_reel.specs.Copied.{reelTraceCopied, reelBinaryCopied, reelCopied}
 
 -- ## The binary header
 
@@ -61,14 +61,14 @@ module _ (s : List ℕ) (b : Bytes s) (code n i : ℕ) (h : isCode code ≡ true
   unfolding traceFields traceWidths
   header-is at = fields-again s b (at + 3) 1 traceWidths (omega arith) ∙ ap (λ (p : ℕ). bytesAt s p 180) (add-zero (at + 3))
 
-  trace-is : (at : ℕ) → traceForm s n i at ≡ Fine → traceWritten code (heldTrace s n at) ≡ traceCopied s code n at
-  unfolding traceWritten heldTrace traceCopied samplesCopied
+  trace-is : (at : ℕ) → traceForm s n i at ≡ Fine → traceWritten code (heldTrace s n at) ≡ reelTraceCopied s code n at
+  unfolding traceWritten heldTrace reelTraceCopied sampleWords
   trace-is at e =
       let t = then-fine (headForm s n i at) _ (sym (trace-form s n i at) ∙ e) in
       ap₂ (λ (x y : List ℕ). x ++ (replicate 60 0 ++ y)) (header-is at) (samples-walk s code h pairLength n (at + 186) (t .1))
 
   traces-walk : (w k at : ℕ) → firstOf (walk (traceForm s n i) w k at) ≡ Fine
-      → flat (map (traceWritten code) (walk (heldTrace s n) w k at)) ≡ flat (map (traceCopied s code n) (walk (λ p. p) w k at))
+      → flat (map (traceWritten code) (walk (heldTrace s n) w k at)) ≡ flat (map (reelTraceCopied s code n) (walk (λ p. p) w k at))
   traces-walk w zero at e = refl
   traces-walk w (suc k) at e =
       let t = then-fine (traceForm s n i at) (firstOf (walk (traceForm s n i) w k (at + w))) e in
@@ -86,16 +86,16 @@ unfolding heldBy
 cards-is s = refl
 
 traces-is : (s : List ℕ) → Bytes s → (code : ℕ) → isCode code ≡ true → formCauses s ≡ Fine
-    → let n = heldSamples s in flat (map (traceWritten code) (heldBy s .traces)) ≡ flat (map (traceCopied s code n) (walk (λ p. p) (heldStride n) (heldCount s n) tracesPlace))
+    → let n = heldSamples s in flat (map (traceWritten code) (heldBy s .traces)) ≡ flat (map (reelTraceCopied s code n) (walk (λ p. p) (heldStride n) (heldCount s n) tracesPlace))
 unfolding heldBy
 traces-is s b code h e = traces-walk s b code (heldSamples s) (heldInterval s) h (heldStride (heldSamples s)) (heldCount s (heldSamples s)) tracesPlace (traces-fine s e)
 
 pub reel-is : (s : List ℕ) → Bytes s → (code : ℕ) → isCode code ≡ true → formCauses s ≡ Fine
     → reelOf code (heldBy s) ≡ reelCopied s code (heldSamples s) (heldCount s (heldSamples s))
-unfolding reelOf reelCopied binaryCopied
+unfolding reelOf reelCopied reelBinaryCopied
 reel-is s b code h e =
     let n = heldSamples s in
-    let traces = flat (map (traceCopied s code n) (walk (λ p. p) (heldStride n) (heldCount s n) tracesPlace)) in
+    let traces = flat (map (reelTraceCopied s code n) (walk (λ p. p) (heldStride n) (heldCount s n) tracesPlace)) in
     ap₂ (λ (x y : List ℕ). heldBy s .cards ++ (x ++ (replicate 340 0 ++ y))) (binary-is s b code) (traces-is s b code h e)
     ∙ ap (λ (c : List ℕ). c ++ ((bytesAt s 3206 24 ++ (bytesOf 2 code ++ bytesAt s 3232 34)) ++ (replicate 340 0 ++ traces))) (cards-is s)
     ∙ simp append-assoc

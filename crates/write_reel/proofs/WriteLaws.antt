@@ -20,15 +20,15 @@ use Rattle.reel.specs.Causes.{mostSamples, mostTraces}
 use Rattle.reel.proofs.CheckLaws.{stride-high}
 use Rattle.record.specs.Form.{heldSamples, heldInterval, heldStride, heldCount, tracesPlace, cardsCauses, binaryCauses, bodyCauses, formCauses}
 use Rattle.record.specs.Held.{heldBy}
-use Rattle.record.specs.Target.{targetCauses, checked, checkedOf}
+use Rattle.record.specs.Target.{targetCauses, recordFound, fitJudged}
 use Rattle.record.specs.Answer.{outcome}
-use Rattle.record.specs.declared.Checked.{Checked}
-use Rattle.record.specs.declared.Checked.the-variants as checked
+use Rattle.record.specs.declared.Judged.{Judged}
+use Rattle.record.specs.declared.Judged.the-variants as judged
 use Rattle.record.specs.declared.Answer.{Answer}
 use Rattle.record.specs.declared.Answer.the-variants.{Taken, Refused}
 use Rattle.record.proofs.FormLaws.{tags-most, Headed, headed, held-length, target-form}
 use Rattle.write_reel.specs.Reel.{reelOf, reelLength}
-use Rattle.write_reel.specs.Writing.{lengthOf, writeCauses, writeEnd, writeOutcome}
+use Rattle.write_reel.specs.Writing.{reelLengthOf, writeCauses, writeEnd, writeOutcome}
 use Rattle.write_reel.specs.Copied.{reelCopied}
 use Rattle.write_reel.proofs.ReelLaws.{reel-is}
 
@@ -38,17 +38,17 @@ pub record Own (s : List ℕ) (code n t : ℕ) : Type 0 where
   pub n-is : heldSamples s ≡ n
   pub t-is : heldCount s (heldSamples s) ≡ t
 
-pub own : (s : List ℕ) (code n t : ℕ) → checkedOf s code ≡ checked.Fine n t → Own s code n t
+pub own : (s : List ℕ) (code n t : ℕ) → fitJudged s code ≡ judged.Fine n t → Own s code n t
 own s code n t e = go (targetCauses s code) refl e
   where
-    go : (c : Check) → targetCauses s code ≡ c → checked s c ≡ checked.Fine n t → Own s code n t
+    go : (c : Check) → targetCauses s code ≡ c → recordFound s c ≡ judged.Fine n t → Own s code n t
     go check.Fine q k = record { fine = q; n-is = cc; t-is = cc }
     go (check.Refused number place) q k = absurd (let z : _≡_ {A = ℕ} 0 1 = cc in omega arith)
 
-pub refused-is : (s : List ℕ) (code number : ℕ) (place : Place) → checkedOf s code ≡ checked.Refused number place → targetCauses s code ≡ check.Refused number place
+pub refused-is : (s : List ℕ) (code number : ℕ) (place : Place) → fitJudged s code ≡ judged.Refused number place → targetCauses s code ≡ check.Refused number place
 refused-is s code number place e = go (targetCauses s code) refl e
   where
-    go : (c : Check) → targetCauses s code ≡ c → checked s c ≡ checked.Refused number place → targetCauses s code ≡ check.Refused number place
+    go : (c : Check) → targetCauses s code ≡ c → recordFound s c ≡ judged.Refused number place → targetCauses s code ≡ check.Refused number place
     go check.Fine q k = absurd (let z : _≡_ {A = ℕ} 0 1 = cc in omega arith)
     go (check.Refused m p) q k = let a : m ≡ number = cc in let b : p ≡ place = cc in q ∙ ap₂ check.Refused a b
 
@@ -87,7 +87,7 @@ module _ (s : List ℕ) (code : ℕ) (out : List ℕ) where
   refused-end number place e = rw e
 
   module _ (n t k : ℕ) (o : Own s code n t) (q : k ≡ firstTrace + t * stride n (sampleBytes code)) where
-    length-is : lengthOf s code ≡ k
+    length-is : reelLengthOf s code ≡ k
     length-is = ap₂ (reelLength code) (o .t-is) (o .n-is) ∙ sym q
 
     pub short-end : length out < k → outcome (Refused 10 (record { 0 = k })) out ≡ writeOutcome s code out
@@ -98,7 +98,7 @@ module _ (s : List ℕ) (code : ℕ) (out : List ℕ) where
         let f = fit s code n t o in
         let r : reelOf code (heldBy s) ≡ ys = reel-is s b code (f .a-code) (target-form s code (o .fine)) ∙ copied-is ∙ sym e in
         let fine : writeCauses s code (length out) ≡ check.Fine = rw (o .fine, length-is, le-ltb (length out) k l) in
-        sym (ap (writeEnd s code out) fine ∙ ap₂ (λ (x y : ℕ). made x y (lengthOf s code) (reelOf code (heldBy s))) (o .t-is) (o .n-is) ∙ ap₂ (λ (x : ℕ) (y : List ℕ). made t n x y) length-is r)
+        sym (ap (writeEnd s code out) fine ∙ ap₂ (λ (x y : ℕ). made x y (reelLengthOf s code) (reelOf code (heldBy s))) (o .t-is) (o .n-is) ∙ ap₂ (λ (x : ℕ) (y : List ℕ). made t n x y) length-is r)
       where
         made : ℕ → ℕ → ℕ → List ℕ → Outcome
         made a b k y = record { said = taken (a ∷ b ∷ k ∷ []); bytes = y ++ drop k out }

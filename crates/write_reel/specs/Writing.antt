@@ -14,20 +14,20 @@ use Rattle.record.specs.Target.{targetCauses}
 use Rattle.write_reel.specs.Reel.{reelOf, reelLength}
 
 -- The length of the reel of a record s under a code.
-abbrev pub lengthOf : List ℕ → ℕ → ℕ
-lengthOf s code = reelLength code (heldCount s (heldSamples s)) (heldSamples s)
+abbrev pub reelLengthOf : List ℕ → ℕ → ℕ
+reelLengthOf s code = reelLength code (heldCount s (heldSamples s)) (heldSamples s)
 
 -- 11; the record front to back by 12 and 13; 14; then 10: the output is too short.
 abbrev pub writeCauses : List ℕ → ℕ → ℕ → Check
-writeCauses s code room = then (targetCauses s code) (refuseIf (ltb room (lengthOf s code)) 10 (lengthOf s code))
+writeCauses s code room = then (targetCauses s code) (refuseIf (ltb room (reelLengthOf s code)) 10 (reelLengthOf s code))
 
 -- Taken, the reel of what the record holds stands at the output's front, and the rest keeps its content; refused, the output is left as
 -- it was.
 abbrev pub writeEnd : List ℕ → ℕ → List ℕ → Check → Outcome
 writeEnd s code out check.Fine =
     record {
-      said = taken (heldCount s (heldSamples s) ∷ heldSamples s ∷ lengthOf s code ∷ []);
-      bytes = reelOf code (heldBy s) ++ drop (lengthOf s code) out;
+      said = taken (heldCount s (heldSamples s) ∷ heldSamples s ∷ reelLengthOf s code ∷ []);
+      bytes = reelOf code (heldBy s) ++ drop (reelLengthOf s code) out;
     }
 writeEnd s code out (check.Refused number place) = record { said = refused number (placeNo place); bytes = out }
 

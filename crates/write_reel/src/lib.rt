@@ -1,4 +1,4 @@
-// Writing a record as a reel. Two passes: `record::check_record` looks for a cause against the record and its samples, and then the
+// Writing a record as a reel. Two passes: `record::judge_fit` looks for a cause against the record and its samples, and then the
 // reel is written. Each function that writes is lent exactly the bytes that it writes.
 ghost use mathlib.Core.Path.{_≡_};
 ghost use mathlib.Core.Bool.{true};
@@ -11,13 +11,13 @@ ghost use Rattle.value.specs.Value.{isCode};
 ghost use Rattle.reel.specs.Layout.{sampleBytes, stride};
 ghost use Rattle.reel.specs.Causes.{mostSamples};
 ghost use Rattle.record.specs.Form.{heldStride, tracesPlace};
-ghost use Rattle.record.specs.Target.{checkedOf};
+ghost use Rattle.record.specs.Target.{fitJudged};
 ghost use Rattle.record.specs.Answer.{outcome};
 ghost use Rattle.write_reel.specs.Writing.{writeOutcome};
-ghost use Rattle.write_reel.specs.Copied.{zerosFor, traceCopied, binaryCopied, reelCopied};
+ghost use Rattle.write_reel.specs.Copied.{zerosFor, reelTraceCopied, reelBinaryCopied, reelCopied};
 use numbers::Place;
 use record::Answer;
-use record::Checked;
+use record::Judged;
 
 // Bytes 00, which unassigned bytes are.
 fn put_zeros(out: &mut [u8])
@@ -33,7 +33,7 @@ fn put_zeros(out: &mut [u8])
 // A trace: its 71 fields, the unassigned bytes of its header, and its samples.
 fn put_trace(record: &[u8], code: u32, n: usize, at: usize, out: &mut [u8])
     requires { ⌜ (isCode code ≡ true) × (at + (186 + n * 6) ≤ length (now «record»)) × (length (now out) ≡ stride n (sampleBytes code)) ⌝ }
-    ensures { λ _. ⌜ now (out .exit) ≡ traceCopied (now («record» .entry)) code n at ⌝ }
+    ensures { λ _. ⌜ now (out .exit) ≡ reelTraceCopied (now («record» .entry)) code n at ⌝ }
 {
     let e = out.len();
     numbers::copy(&record[at + 3..at + 183], &mut out[0..180]);
@@ -44,7 +44,7 @@ fn put_trace(record: &[u8], code: u32, n: usize, at: usize, out: &mut [u8])
 // The traces, one behind the other.
 fn put_traces(record: &[u8], code: u32, n: usize, w: usize, m: usize, t: usize, out: &mut [u8])
     requires { ⌜ (isCode code ≡ true) × (w ≡ stride n (sampleBytes code)) × (m ≡ heldStride n) × (tracesPlace + t * m ≤ length (now «record»)) × (length (now out) ≡ t * w) ⌝ }
-    ensures { λ _. ⌜ now (out .exit) ≡ flat (map (traceCopied (now («record» .entry)) code n) (walk (λ p. p) (heldStride n) t tracesPlace)) ⌝ }
+    ensures { λ _. ⌜ now (out .exit) ≡ flat (map (reelTraceCopied (now («record» .entry)) code n) (walk (λ p. p) (heldStride n) t tracesPlace)) ⌝ }
 {
     let mut at = 3266;
     let mut o = 0;
@@ -71,7 +71,7 @@ fn put_code(code: u32, out: &mut [u8])
 // The binary header: its 27 fields, with the target's format code, and its unassigned bytes.
 fn put_binary(record: &[u8], code: u32, out: &mut [u8])
     requires { ⌜ (isCode code ≡ true) × (tracesPlace ≤ length (now «record»)) × (length (now out) ≡ 400) ⌝ }
-    ensures { λ _. ⌜ now (out .exit) ≡ binaryCopied (now («record» .entry)) code ⌝ }
+    ensures { λ _. ⌜ now (out .exit) ≡ reelBinaryCopied (now («record» .entry)) code ⌝ }
 {
     numbers::copy(&record[3206..3230], &mut out[0..24]);
     put_code(code, &mut out[24..26]);
@@ -92,7 +92,7 @@ fn put_reel(record: &[u8], code: u32, n: usize, w: usize, t: usize, out: &mut [u
 
 // A record that can be written under the code, by its N and T.
 fn write_checked(record: &[u8], code: u32, n: usize, t: usize, reel: &mut [u8]) -> Answer
-    requires { ⌜ checkedOf (now «record») code ≡ Checked.Fine n t ⌝ }
+    requires { ⌜ fitJudged (now «record») code ≡ Judged.Fine n t ⌝ }
     ensures { λ r. ⌜ outcome r (now (reel .exit)) ≡ writeOutcome (now («record» .entry)) code (now (reel .entry)) ⌝ }
 {
     let v = reel::width_of(code as usize);
@@ -116,9 +116,9 @@ fn write_checked(record: &[u8], code: u32, n: usize, t: usize, reel: &mut [u8]) 
 pub fn write_reel(record: &[u8], code: u32, reel: &mut [u8]) -> Answer
     ensures { λ r. ⌜ outcome r (now (reel .exit)) ≡ writeOutcome (now («record» .entry)) code (now (reel .entry)) ⌝ }
 {
-    let c = record::check_record(record, code);
+    let c = record::judge_fit(record, code);
     match c {
-        Checked::Refused { number, place } => Answer::Refused { number, place },
-        Checked::Fine { samples, traces } => write_checked(record, code, samples, traces, reel),
+        Judged::Refused { number, place } => Answer::Refused { number, place },
+        Judged::Fine { samples, traces } => write_checked(record, code, samples, traces, reel),
     }
 }

@@ -23,7 +23,7 @@ use Rattle.value.specs.declared.Written.{Written}
 use Rattle.value.specs.declared.Written.the-variants.{Word, Refused}
 use Rattle.value.proofs.PairBytes.{pair-fetched}
 use Rattle.reel.specs.Layout.{sampleBytes}
-use Rattle.write_samples.specs.Samples.{wordContent, wordBytes, writtenAt, pairCheck, pairsThere, samplesChecked, samplesCopied, samplesWritten}
+use Rattle.write_samples.specs.Samples.{wordContent, wordBytes, writtenAt, pairCheck, pairsThere, samplesChecked, sampleWords, samplesWritten}
 
 pub size-word : (code : ℕ) (w : Written) → length (wordBytes code w) ≡ sampleBytes code
 size-word code w = go (eqb code 3) w
@@ -34,8 +34,8 @@ size-word code w = go (eqb code 3) w
     go false (Word n) = refl
     go false (Refused number) = refl
 
-pub size-samples : (s : List ℕ) (code n at : ℕ) → length (samplesCopied s code n at) ≡ n * sampleBytes code
-unfolding samplesCopied
+pub size-samples : (s : List ℕ) (code n at : ℕ) → length (sampleWords s code n at) ≡ n * sampleBytes code
+unfolding sampleWords
 size-samples s code n at = flat-length (wordBytes code) (writtenAt s code) (sampleBytes code) (λ p. size-word code (writtenAt s code p)) pairLength n at
 
 -- a code of four bytes isn't 3, and has the four bytes of its word's bits
@@ -47,20 +47,20 @@ four-bytes-of code bits w v e = ap (bytesOf 4) e ∙ ap (λ (k : ℕ). take k (w
 
 -- ## Samples
 
-samples-more : (s : List ℕ) (code k at : ℕ) → 0 < k → samplesCopied s code k at ≡ wordBytes code (writtenAt s code at) ++ samplesCopied s code (k - 1) (at + pairLength)
-unfolding samplesCopied
+samples-more : (s : List ℕ) (code k at : ℕ) → 0 < k → sampleWords s code k at ≡ wordBytes code (writtenAt s code at) ++ sampleWords s code (k - 1) (at + pairLength)
+unfolding sampleWords
 samples-more s code k at h = flat-more (wordBytes code) (writtenAt s code) pairLength k at h
 
-pub samples-none : (s : List ℕ) (code k at : ℕ) → k ≤ 0 → samplesCopied s code k at ≡ []
-unfolding samplesCopied
+pub samples-none : (s : List ℕ) (code k at : ℕ) → k ≤ 0 → sampleWords s code k at ≡ []
+unfolding sampleWords
 samples-none s code k at h = flat-none (wordBytes code) (writtenAt s code) pairLength k at h
 
 -- the next of k samples put behind those that stand: what is left is one fewer
-pub sample-put : (s : List ℕ) (code k at o e : ℕ) {all out ys : List ℕ} → 0 < k → e ≡ o + sampleBytes code → Filling all out o (samplesCopied s code k at)
+pub sample-put : (s : List ℕ) (code k at o e : ℕ) {all out ys : List ℕ} → 0 < k → e ≡ o + sampleBytes code → Filling all out o (sampleWords s code k at)
     → ys ≡ wordBytes code (writtenAt s code at)
-    → Filling all (putMid o (e - o) out ys) e (samplesCopied s code (k - 1) (at + pairLength))
+    → Filling all (putMid o (e - o) out ys) e (sampleWords s code (k - 1) (at + pairLength))
 sample-put s code k at o e h q w is =
-    lend (wordBytes code (writtenAt s code at)) (samplesCopied s code (k - 1) (at + pairLength)) e (again w (samples-more s code k at h)) (omega arith) (size-word code (writtenAt s code at) ∙ omega arith) is
+    lend (wordBytes code (writtenAt s code at)) (sampleWords s code (k - 1) (at + pairLength)) e (again w (samples-more s code k at h)) (omega arith) (size-word code (writtenAt s code at) ∙ omega arith) is
 
 -- the same where the first of the samples that are left has been fetched, and k stand behind it
 module _ (s : List ℕ) (code : ℕ) where
@@ -75,13 +75,13 @@ module _ (s : List ℕ) (code : ℕ) where
       → wordBytes code (writePair code p) ≡ wordBytes code (writtenAt s code at)
   fetched-bytes at e m p q i j = ap (λ (x : Pair). wordBytes code (writePair code x)) (pair-fetched s at e m p q i j)
 
-  pub next-put : (k at o e : ℕ) {all out ys : List ℕ} → 0 < k → e ≡ o + sampleBytes code → Filling all out o (samplesCopied s code (k + 1) at) → ys ≡ wordBytes code (writtenAt s code at)
-      → Filling all (putMid o (e - o) out ys) e (samplesCopied s code (k - 1 + 1) (at + pairLength))
+  pub next-put : (k at o e : ℕ) {all out ys : List ℕ} → 0 < k → e ≡ o + sampleBytes code → Filling all out o (sampleWords s code (k + 1) at) → ys ≡ wordBytes code (writtenAt s code at)
+      → Filling all (putMid o (e - o) out ys) e (sampleWords s code (k - 1 + 1) (at + pairLength))
   next-put k at o e some q w is =
       let j : k + 1 - 1 ≡ k - 1 + 1 = omega arith in
-      again (sample-put s code (k + 1) at o e (omega arith) q w is) (ap (λ (x : ℕ). samplesCopied s code x (at + pairLength)) j)
+      again (sample-put s code (k + 1) at o e (omega arith) q w is) (ap (λ (x : ℕ). sampleWords s code x (at + pairLength)) j)
 
-  pub last-put : (k at o e : ℕ) {all out ys : List ℕ} → k ≤ 0 → e ≡ o + sampleBytes code → Filling all out o (samplesCopied s code (k + 1) at) → ys ≡ wordBytes code (writtenAt s code at)
+  pub last-put : (k at o e : ℕ) {all out ys : List ℕ} → k ≤ 0 → e ≡ o + sampleBytes code → Filling all out o (sampleWords s code (k + 1) at) → ys ≡ wordBytes code (writtenAt s code at)
       → putMid o (e - o) out ys ≡ all
   last-put k at o e none q w is =
       finish (sample-put s code (k + 1) at o e (omega arith) q w is) (samples-none s code (k + 1 - 1) (at + pairLength) (omega arith))
@@ -114,19 +114,19 @@ module _ (s : List ℕ) (code n at : ℕ) where
   module _ (out : List ℕ) where
     pub missing-kept : pairsThere s code n at ≡ false → samplesWritten s code n at out ≡ out
     unfolding samplesWritten
-    missing-kept e = ap (λ (b : Bool). pick (b && eqb (length out) (n * sampleBytes code)) (samplesCopied s code n at) out) e
+    missing-kept e = ap (λ (b : Bool). pick (b && eqb (length out) (n * sampleBytes code)) (sampleWords s code n at) out) e
 
     pub unfit-kept : pairsThere s code n at ≡ true → eqb (length out) (n * sampleBytes code) ≡ false → samplesWritten s code n at out ≡ out
     unfolding samplesWritten
     unfit-kept e f =
-        ap (λ (b : Bool). pick (b && eqb (length out) (n * sampleBytes code)) (samplesCopied s code n at) out) e
-        ∙ ap (λ (b : Bool). pick b (samplesCopied s code n at) out) f
+        ap (λ (b : Bool). pick (b && eqb (length out) (n * sampleBytes code)) (sampleWords s code n at) out) e
+        ∙ ap (λ (b : Bool). pick b (sampleWords s code n at) out) f
 
-    pub fit-written : pairsThere s code n at ≡ true → eqb (length out) (n * sampleBytes code) ≡ true → samplesWritten s code n at out ≡ samplesCopied s code n at
+    pub fit-written : pairsThere s code n at ≡ true → eqb (length out) (n * sampleBytes code) ≡ true → samplesWritten s code n at out ≡ sampleWords s code n at
     unfolding samplesWritten
     fit-written e f =
-        ap (λ (b : Bool). pick (b && eqb (length out) (n * sampleBytes code)) (samplesCopied s code n at) out) e
-        ∙ ap (λ (b : Bool). pick b (samplesCopied s code n at) out) f
+        ap (λ (b : Bool). pick (b && eqb (length out) (n * sampleBytes code)) (sampleWords s code n at) out) e
+        ∙ ap (λ (b : Bool). pick b (sampleWords s code n at) out) f
 
-    pub samples-written : isCode code ≡ true → at + n * 6 ≤ length s → length out ≡ n * sampleBytes code → samplesWritten s code n at out ≡ samplesCopied s code n at
+    pub samples-written : isCode code ≡ true → at + n * 6 ≤ length s → length out ≡ n * sampleBytes code → samplesWritten s code n at out ≡ sampleWords s code n at
     samples-written i w o = fit-written (there i w) (eq-eqb (length out) (n * sampleBytes code) o)

@@ -50,10 +50,10 @@ abbrev pub wordBytes : ℕ → Written → List ℕ
 wordBytes code w = take (sampleBytes code) (wordContent w)
 
 -- n samples from a place on.
-unfoldable pub samplesCopied : List ℕ → ℕ → ℕ → ℕ → List ℕ
-samplesCopied s code n at = flat (map (wordBytes code) (walk (writtenAt s code) pairLength n at))
+unfoldable pub sampleWords : List ℕ → ℕ → ℕ → ℕ → List ℕ
+sampleWords s code n at = flat (map (wordBytes code) (walk (writtenAt s code) pairLength n at))
 
 -- An output after n samples were written into it: their words, or what it was where they don't fit.
 unfoldable pub samplesWritten : List ℕ → ℕ → ℕ → ℕ → List ℕ → List ℕ
 samplesWritten s code n at out =
-    pick (pairsThere s code n at && eqb (length out) (n * sampleBytes code)) (samplesCopied s code n at) out
+    pick (pairsThere s code n at && eqb (length out) (n * sampleBytes code)) (sampleWords s code n at) out

@@ -11,7 +11,7 @@ ghost use Rattle.numbers.specs.Cause.{firstOf};
 ghost use Rattle.value.specs.Value.{isCode};
 ghost use Rattle.value.specs.Writing.{writePair, wordBits};
 ghost use Rattle.reel.specs.Layout.{sampleBytes};
-ghost use Rattle.write_samples.specs.Samples.{pairRefused, pairCheck, wordBytes, samplesCopied, samplesChecked, samplesWritten};
+ghost use Rattle.write_samples.specs.Samples.{pairRefused, pairCheck, wordBytes, sampleWords, samplesChecked, samplesWritten};
 use numbers::Check;
 use numbers::Place;
 use value::Pair;
@@ -130,7 +130,7 @@ fn put_word(code: u32, p: Pair, out: &mut [u8])
 // The samples of a trace, words of four bytes. The bits of a pair are fetched a turn early.
 fn put_words(record: &[u8], code: u32, n: usize, start: usize, out: &mut [u8])
     requires { ⌜ (isCode code ≡ true) × (sampleBytes code ≡ 4) × (start + n * 6 ≤ length (now «record»)) × (length (now out) ≡ n * 4) ⌝ }
-    ensures { λ _. ⌜ now (out .exit) ≡ samplesCopied (now («record» .entry)) code n start ⌝ }
+    ensures { λ _. ⌜ now (out .exit) ≡ sampleWords (now («record» .entry)) code n start ⌝ }
 {
     if n < 1 {
         return;
@@ -156,7 +156,7 @@ fn put_words(record: &[u8], code: u32, n: usize, start: usize, out: &mut [u8])
 // The same of words of two bytes, which code 3 has.
 fn put_whole16(record: &[u8], n: usize, start: usize, out: &mut [u8])
     requires { ⌜ (start + n * 6 ≤ length (now «record»)) × (length (now out) ≡ n * 2) ⌝ }
-    ensures { λ _. ⌜ now (out .exit) ≡ samplesCopied (now («record» .entry)) 3 n start ⌝ }
+    ensures { λ _. ⌜ now (out .exit) ≡ sampleWords (now («record» .entry)) 3 n start ⌝ }
 {
     if n < 1 {
         return;
@@ -181,7 +181,7 @@ fn put_whole16(record: &[u8], n: usize, start: usize, out: &mut [u8])
 // The samples of a trace under a code, which is 1 to 4.
 fn put_samples(record: &[u8], code: u32, n: usize, start: usize, out: &mut [u8])
     requires { ⌜ (isCode code ≡ true) × (start + n * 6 ≤ length (now «record»)) × (length (now out) ≡ n * sampleBytes code) ⌝ }
-    ensures { λ _. ⌜ now (out .exit) ≡ samplesCopied (now («record» .entry)) code n start ⌝ }
+    ensures { λ _. ⌜ now (out .exit) ≡ sampleWords (now («record» .entry)) code n start ⌝ }
 {
     if code == 3 {
         put_whole16(record, n, start, out);

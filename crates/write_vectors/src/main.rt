@@ -58,7 +58,7 @@ fn print_first(length: usize, bytes: &[u8]) {
 
 // The digest of the record that reading a written reel gives.
 fn print_again(reel: &[u8], again: &mut [u8]) {
-    match transcribe::read_reel(reel, again) {
+    match read_reel::read_reel(reel, again) {
         Answer::Taken {
             traces: _,
             samples: _,

@@ -5,8 +5,8 @@ use borrow.Author.Needs.{needs}
 use Rattle.look_up.proofs.look_up.Statement.{statement}
 use Rattle.look_up.proofs.look_up.Tie as tie
 
-check-reel-requires : tie.Need-check-reel-requires
-check-reel-requires c κs = search needs
+judge-reel-requires : tie.Need-judge-reel-requires
+judge-reel-requires c κs = search needs
 
 enum-known-c : tie.Need-enum-known-c
 enum-known-c c = search needs
@@ -17,13 +17,13 @@ enum-known-c-2 c = search needs
 look-requires : tie.Need-look-requires
 look-requires c κs =
     let r = c .before .before .before in
-    own-numbers (r .before .before .args .reel .now) (sym (r .check-reel .ensures) ∙ c .before .c2 .given .1)
+    own-numbers (r .before .before .args .reel .now) (sym (r .judge-reel .ensures) ∙ c .before .c2 .given .1)
 
 returns : tie.Need-returns
 returns c =
     let r = c .before .before .before in
     let a = r .before .before .args in
-    stopped-is (a .reel .now) (a .trace) (a .b) (own-refusal (a .reel .now) (sym (r .check-reel .ensures) ∙ c .before .c .given .1))
+    stopped-is (a .reel .now) (a .trace) (a .b) (own-refusal (a .reel .now) (sym (r .judge-reel .ensures) ∙ c .before .c .given .1))
 
 returns-2 : tie.Need-returns-2
 returns-2 c = search needs
@@ -32,7 +32,7 @@ pub look-up-spec : {M : Type 1} → statement M
 look-up-spec =
     tie.close
     (tie.spec
-    check-reel-requires
+    judge-reel-requires
     enum-known-c
     enum-known-c-2
     look-requires

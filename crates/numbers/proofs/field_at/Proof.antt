@@ -1,5 +1,5 @@
 -- `numbers::field_at` meets its contract. Assumes nothing.
-use Rattle.numbers.specs.Places.{placeIn}
+use Rattle.numbers.specs.Places.{placeOr}
 use mathlib.Core.Path.{_≡_, sym, ap, _∙_}
 use borrow.Author.Needs.{needs}
 use Rattle.numbers.proofs.field_at.Statement.{statement}
@@ -16,13 +16,11 @@ enum-told c = search needs
 
 returns : tie.Need-returns
 returns c =
-    let s = c .before .before .before .args .start in
-    sym (ap (placeIn s) (sym (c .before .before .place-of .ensures) ∙ c .enum-told .given .1))
+    sym (ap placeOr (sym (c .before .before .place-of .ensures) ∙ c .enum-told .given .1))
 
 returns-2 : tie.Need-returns-2
 returns-2 c =
-    let s = c .before .before .before .before .args .start in
-    sym (ap (placeIn s) (sym (c .before .before .before .place-of .ensures) ∙ c .before .found .given .1))
+    sym (ap placeOr (sym (c .before .before .before .place-of .ensures) ∙ c .before .found .given .1))
 
 pub field-at-spec : {M : Type 1} → statement M
 field-at-spec = tie.close (tie.spec place-of-requires enum-known-found enum-told returns returns-2)

@@ -1,6 +1,6 @@
 -- `read_samples::put_samples` meets its contract. Assumes nothing.
 use Rattle.reel.proofs.CheckLaws.{code-limits}
-use Rattle.read_samples.specs.Samples.{samplesCopied}
+use Rattle.read_samples.specs.Samples.{samplePairs}
 use Rattle.reel.specs.Layout.{sampleBytes}
 use borrow.Author.Tests.{ne-eqb}
 use lib.ListN.{length}
@@ -22,7 +22,7 @@ same-length c = c .before .before .put-whole16 .kept .1 .1 .1 .0
 returns : tie.Need-returns
 returns c =
     let a = c .before .before .before .before .before .before .before .args in
-    c .before .before .put-whole16 .ensures ∙ ap (λ (k : ℕ). samplesCopied (a .reel .now) k (a .n) (a .start)) (sym (c .before .before .before .before .if1 .taken))
+    c .before .before .put-whole16 .ensures ∙ ap (λ (k : ℕ). samplePairs (a .reel .now) k (a .n) (a .start)) (sym (c .before .before .before .before .if1 .taken))
 
 cast-put-words : tie.Need-cast-put-words
 cast-put-words c = omega (arith, code-limits (c .before .before .before .args .code) (c .before .before .before .pre .0))

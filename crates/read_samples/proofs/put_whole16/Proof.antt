@@ -1,6 +1,6 @@
 -- `read_samples::put_whole16` meets its contract. Assumes nothing.
 use Rattle.read_samples.proofs.SampleLaws.{size-samples, samples-none, next-put, last-put, whole16-copied}
-use Rattle.read_samples.specs.Samples.{sampleContent, sampleCopied, samplesCopied}
+use Rattle.read_samples.specs.Samples.{sampleContent, sampleCopied, samplePairs}
 use Rattle.value.specs.Value.{wholeValue}
 use Rattle.sample.specs.Reading.{pairTaken}
 use Rattle.numbers.proofs.Filling.{Filling, start as begin, finish, again}
@@ -24,7 +24,7 @@ content s at w e = ap (λ (w : ℕ). sampleContent (pairTaken (wholeValue (signe
 abbrev Inv-loop : tie.InvT-loop
 Inv-loop reel n start out₀ at₀ o₀ left₀ last w₀ out at o left w =
     (at + left * 2 + 2 ≤ length reel) × (length out ≡ n * 6) × (o + left * 6 + 6 ≡ n * 6) × (w ≡ number (bytesAt reel at 2))
-    × Filling (samplesCopied reel 3 n start) out o (samplesCopied reel 3 (left + 1) at)
+    × Filling (samplePairs reel 3 n start) out o (samplePairs reel 3 (left + 1) at)
 
 abbrev μ-loop : tie.MeasureT-loop
 μ-loop reel n start out₀ at₀ o₀ left₀ last w₀ out at o left w = left
@@ -51,7 +51,7 @@ loop-holds c =
       c .before .before .before .before .pre .1,
       omega (arith, times-more (a .n) 6 (omega (arith, some))),
       c .word16-at .ensures,
-      again (begin _ _ (c .before .before .before .before .pre .1 ∙ sym (size-samples s 3 (a .n) (a .start)))) (ap (λ (j : ℕ). samplesCopied s 3 j (a .start)) e),
+      again (begin _ _ (c .before .before .before .before .pre .1 ∙ sym (size-samples s 3 (a .n) (a .start)))) (ap (λ (j : ℕ). samplePairs s 3 j (a .start)) e),
     )
 
 add-e : tie.Need-add-e Inv-loop μ-loop

@@ -1,6 +1,6 @@
 -- `read_samples::put_words` meets its contract. Assumes nothing.
 use Rattle.read_samples.proofs.SampleLaws.{size-samples, samples-none, next-put, last-put}
-use Rattle.read_samples.specs.Samples.{sampleContent, sampleCopied, samplesCopied}
+use Rattle.read_samples.specs.Samples.{sampleContent, sampleCopied, samplePairs}
 use Rattle.read_samples.specs.Parts.{WordAt}
 use Rattle.numbers.proofs.Filling.{Filling, start as begin, finish, again}
 use Rattle.numbers.proofs.WalkLaws.{times-more}
@@ -14,7 +14,7 @@ use Rattle.read_samples.proofs.put_words.Tie as tie
 abbrev Inv-loop : tie.InvT-loop
 Inv-loop reel code n start out₀ at₀ o₀ left₀ last end w₀ out at o left w =
     (at + left * 4 + 4 ≤ length reel) × (length out ≡ n * 6) × (o + left * 6 + 6 ≡ n * 6) × (at + left * 4 ≡ start + (n - 1) * 4) × WordAt reel at w
-    × Filling (samplesCopied reel code n start) out o (samplesCopied reel code (left + 1) at)
+    × Filling (samplePairs reel code n start) out o (samplePairs reel code (left + 1) at)
 
 abbrev μ-loop : tie.MeasureT-loop
 μ-loop reel code n start out₀ at₀ o₀ left₀ last end w₀ out at o left w = left
@@ -49,7 +49,7 @@ loop-holds c =
       omega (arith, times-more (a .n) 6 (omega (arith, some))),
       refl,
       c .word32-at .ensures,
-      again (begin _ _ (p .3 ∙ sym (size-samples s (a .code) (a .n) (a .start)))) (ap (λ (j : ℕ). samplesCopied s (a .code) j (a .start)) e),
+      again (begin _ _ (p .3 ∙ sym (size-samples s (a .code) (a .n) (a .start)))) (ap (λ (j : ℕ). samplePairs s (a .code) j (a .start)) e),
     )
 
 add-e : tie.Need-add-e Inv-loop μ-loop
@@ -86,7 +86,7 @@ loop-again c =
     let l = c .before .before .before .before .before .loop in
     let some = c .before .before .before .before .loop-test .taken in
     let g = c .before .before .put-word .ensures in
-    let f = again (next-put s (b .args .code) (l .left) (l .at) (l .o) some (l .inv .5) (g .1)) (ap (λ (v : ℕ). samplesCopied s (b .args .code) (l .left - 1 + 1) (l .at + v)) (b .pre .1)) in (
+    let f = again (next-put s (b .args .code) (l .left) (l .at) (l .o) some (l .inv .5) (g .1)) (ap (λ (v : ℕ). samplePairs s (b .args .code) (l .left - 1 + 1) (l .at + v)) (b .pre .1)) in (
       omega (arith, times-more (l .left) 4 some, l .inv .0),
       f .size ∙ sym (l .inv .5 .size) ∙ l .inv .1,
       omega (arith, times-more (l .left) 6 some, l .inv .2),

@@ -1,7 +1,7 @@
 -- `record::check_binary` meets its contract. Assumes nothing.
 use Rattle.record.proofs.FormLaws.{field-room}
 use Rattle.record.specs.Form.{fieldCause, numberCauses, binaryCauses}
-use Rattle.reel.specs.Layout.{word}
+use Rattle.reel.specs.Layout.{number16}
 use Rattle.numbers.proofs.CauseLaws.{then-stop, then-next}
 use Rattle.numbers.specs.declared.Check.the-variants.{Fine}
 use lib.ListN.{length}
@@ -51,8 +51,8 @@ returns-2 c =
     let i = c .before .before .before .binary-word in
     let n = c .before .before .binary-word2 in
     let k = c .before .binary-word3 in
-    c .check-numbers .ensures ∙ ap (λ (x : ℕ). numberCauses x (n .result) (k .result)) (i .ensures .0) ∙ ap (λ (x : ℕ). numberCauses (word s 3222) x (k .result)) (n .ensures .0)
-    ∙ ap (λ (x : ℕ). numberCauses (word s 3222) (word s 3226) x) (k .ensures .0)
+    c .check-numbers .ensures ∙ ap (λ (x : ℕ). numberCauses x (n .result) (k .result)) (i .ensures .0) ∙ ap (λ (x : ℕ). numberCauses (number16 s 3222) x (k .result)) (n .ensures .0)
+    ∙ ap (λ (x : ℕ). numberCauses (number16 s 3222) (number16 s 3226) x) (k .ensures .0)
     ∙ then-next _ _ (fine (c .before .before .before .before))
 
 pub check-binary-spec : {M : Type 1} → statement M

@@ -1,6 +1,6 @@
 -- `record::check_field` meets its contract. Assumes nothing.
 use Rattle.numbers.specs.Cause.{refuseIf}
-use Rattle.reel.specs.Layout.{word}
+use Rattle.reel.specs.Layout.{number16}
 use borrow.Author.Tests.{le-leb, lt-leb, eq-eqb, ne-eqb}
 use lib.ListN.{length, getD}
 use Prim.Native.Nat.{_+_, _≤_}
@@ -42,13 +42,13 @@ returns-3 : tie.Need-returns-3
 returns-3 c =
     let a = c .before .before .before .before .before .before .args in
     let s = a .«record» .now in
-    rw (le-leb (a .at + (3 + a .size)) (length s) (room (c .before .before .before .before)), eq-eqb (getD s (a .at) 0) (a .tag) (c .before .before .if2 .left), ne-eqb (word s (a .at + 1)) (a .size) (λ q. c .if3 .taken (c .before .word-at .ensures .0 ∙ q)))
+    rw (le-leb (a .at + (3 + a .size)) (length s) (room (c .before .before .before .before)), eq-eqb (getD s (a .at) 0) (a .tag) (c .before .before .if2 .left), ne-eqb (number16 s (a .at + 1)) (a .size) (λ q. c .if3 .taken (c .before .word-at .ensures .0 ∙ q)))
 
 returns-4 : tie.Need-returns-4
 returns-4 c =
     let a = c .before .before .before .before .before .before .args in
     let s = a .«record» .now in
-    rw (le-leb (a .at + (3 + a .size)) (length s) (room (c .before .before .before .before)), eq-eqb (getD s (a .at) 0) (a .tag) (c .before .before .if2 .left), eq-eqb (word s (a .at + 1)) (a .size) (sym (c .before .word-at .ensures .0) ∙ c .if3 .left))
+    rw (le-leb (a .at + (3 + a .size)) (length s) (room (c .before .before .before .before)), eq-eqb (getD s (a .at) 0) (a .tag) (c .before .before .if2 .left), eq-eqb (number16 s (a .at + 1)) (a .size) (sym (c .before .word-at .ensures .0) ∙ c .if3 .left))
 
 pub check-field-spec : {M : Type 1} → statement M
 check-field-spec =

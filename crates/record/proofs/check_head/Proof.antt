@@ -2,9 +2,10 @@
 use Rattle.record.proofs.FormLaws.{head-form, field-room}
 use Rattle.record.specs.Form.{fieldCause}
 use Rattle.record.specs.Parts.{headForm}
-use Rattle.reel.specs.Layout.{word}
+use Rattle.reel.specs.Layout.{number16}
 use Rattle.numbers.proofs.CauseLaws.{then-stop, then-next}
 use Rattle.numbers.specs.Cause.{refuseIf}
+use Rattle.numbers.specs.Places.{bytePlace}
 use Rattle.numbers.specs.declared.Check.{Check}
 use Rattle.numbers.specs.declared.Check.the-variants.{Fine}
 use lib.Dec.{lit<, eqb}
@@ -25,27 +26,16 @@ room : (c : tie.After-enum-told) → let a = c .before .before .before .before .
 room c = let a = c .before .before .before .before .args in field-room (a .«record» .now) 3 180 (a .at) (fine c)
 
 -- field 115, and field 117, unlike the reel's
-unlike : List ℕ → ℕ → ℕ → Check
-unlike s own p = refuseIf (not (eqb (word s p) own)) 13 p
+row115 : (c : tie.After-check-like) → let a = c .before .before .before .before .before .args in c .check-like .result ≡ refuseIf (not (eqb (number16 (a .«record» .now) (bytePlace (a .at + 3) 115)) (a .n))) 13 (bytePlace (a .at + 3) 115)
+row115 c = c .check-like .ensures
 
-row115 : (c : tie.After-check-like) → let a = c .before .before .before .before .before .args in c .check-like .result ≡ refuseIf (not (eqb (word (a .«record» .now) (a .at + 117)) (a .n))) 13 (a .at + 117)
-unfolding unlike
-row115 c =
-    let a = c .before .before .before .before .before .args in
-    let p : a .at + 3 + 114 ≡ a .at + 117 = omega arith in
-    c .check-like .ensures ∙ ap (unlike (a .«record» .now) (a .n)) p
-
-fine115 : (c : tie.After-enum-told3) → let a = c .before .before .before .before .before .before .before .args in refuseIf (not (eqb (word (a .«record» .now) (a .at + 117)) (a .n))) 13 (a .at + 117) ≡ Fine
+fine115 : (c : tie.After-enum-told3) → let a = c .before .before .before .before .before .before .before .args in refuseIf (not (eqb (number16 (a .«record» .now) (bytePlace (a .at + 3) 115)) (a .n))) 13 (bytePlace (a .at + 3) 115) ≡ Fine
 fine115 c = sym (row115 (c .before .before)) ∙ c .enum-told3 .given .1
 
-row117 : (c : tie.After-check-like2) → let a = c .before .before .before .before .before .before .before .before .args in c .check-like2 .result ≡ refuseIf (not (eqb (word (a .«record» .now) (a .at + 119)) (a .i))) 13 (a .at + 119)
-unfolding unlike
-row117 c =
-    let a = c .before .before .before .before .before .before .before .before .args in
-    let p : a .at + 3 + 116 ≡ a .at + 119 = omega arith in
-    c .check-like2 .ensures ∙ ap (unlike (a .«record» .now) (a .i)) p
+row117 : (c : tie.After-check-like2) → let a = c .before .before .before .before .before .before .before .before .args in c .check-like2 .result ≡ refuseIf (not (eqb (number16 (a .«record» .now) (bytePlace (a .at + 3) 117)) (a .i))) 13 (bytePlace (a .at + 3) 117)
+row117 c = c .check-like2 .ensures
 
-fine117 : (c : tie.After-enum-told5) → let a = c .before .before .before .before .before .before .before .before .before .before .args in refuseIf (not (eqb (word (a .«record» .now) (a .at + 119)) (a .i))) 13 (a .at + 119) ≡ Fine
+fine117 : (c : tie.After-enum-told5) → let a = c .before .before .before .before .before .before .before .before .before .before .args in refuseIf (not (eqb (number16 (a .«record» .now) (bytePlace (a .at + 3) 117)) (a .i))) 13 (bytePlace (a .at + 3) 117) ≡ Fine
 fine117 c = sym (row117 (c .before .before)) ∙ c .enum-told5 .given .1
 
 check-field-requires : tie.Need-check-field-requires

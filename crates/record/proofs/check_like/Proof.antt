@@ -1,5 +1,5 @@
 -- `record::check_like` meets its contract. Assumes nothing.
-use Rattle.reel.specs.Layout.{word}
+use Rattle.reel.specs.Layout.{number16}
 use Rattle.numbers.specs.Cause.{refuseIf}
 use Rattle.numbers.specs.Places.{placeNo, byteNo}
 use Rattle.numbers.proofs.PlaceLaws.{field-place}
@@ -34,7 +34,7 @@ returns c =
     let s = a .«record» .now in
     let p = placeNo (c .before .before .field-at .result) in
     c .check-same .ensures ∙ ap (λ (x : ℕ). refuseIf (not (eqb x (a .own))) 13 p) (c .before .word-at .ensures .0)
-    ∙ ap (λ (x : ℕ). refuseIf (not (eqb (word s x) (a .own))) 13 x) (place (c .before .before))
+    ∙ ap (λ (x : ℕ). refuseIf (not (eqb (number16 s x) (a .own))) 13 x) (place (c .before .before))
 
 pub check-like-spec : {M : Type 1} → statement M
 check-like-spec =

@@ -1,7 +1,7 @@
 -- `record::own_numbers` meets its contract. Assumes nothing.
 use Rattle.record.proofs.FormLaws.{Headed, headed, held-length, held-count}
 use Rattle.record.specs.Form.{cardsCauses, binaryCauses, bodyCauses, heldSamples, heldInterval, heldCount, formCauses}
-use Rattle.record.specs.declared.Checked.the-variants as checked
+use Rattle.record.specs.declared.Judged.the-variants as judged
 use Rattle.numbers.proofs.CauseLaws.{then-assoc, then-fine}
 use Rattle.numbers.specs.Cause.{then}
 use Rattle.numbers.specs.declared.Check.the-variants.{Fine}
@@ -30,7 +30,7 @@ returns : tie.Need-returns
 returns c =
     let b = c .before .before .before in
     let s = b .args .«record» .now in
-    ap₂ checked.Fine (c .before .binary-word .ensures .0) (c .count-at .ensures ∙ held-count s (b .pre))
+    ap₂ judged.Fine (c .before .binary-word .ensures .0) (c .count-at .ensures ∙ held-count s (b .pre))
 
 pub own-numbers-spec : {M : Type 1} → statement M
 own-numbers-spec = tie.close (tie.spec binary-word-requires sub-count-at count-at-requires returns)

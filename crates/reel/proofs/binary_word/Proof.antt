@@ -1,5 +1,5 @@
 -- `reel::binary_word` meets its contract. Assumes nothing.
-use Rattle.reel.specs.Layout.{word}
+use Rattle.reel.specs.Layout.{number16}
 use Rattle.numbers.specs.Places.{placeNo, byteNo}
 use Rattle.numbers.proofs.PlaceLaws.{field-place}
 use Prim.Native.Nat.{_-_, _^_, _<_}
@@ -25,7 +25,7 @@ word-at-requires c κs = omega (arith, place c, c .before .before .pre)
 returns : tie.Need-returns
 returns c =
     let a = c .before .before .before .args in
-    (c .word-at .ensures .0 ∙ ap (word (a .reel .now)) (place (c .before)), c .word-at .ensures .1)
+    (c .word-at .ensures .0 ∙ ap (number16 (a .reel .now)) (place (c .before)), c .word-at .ensures .1)
 
 pub binary-word-spec : {M : Type 1} → statement M
 binary-word-spec = tie.close (tie.spec field-at-requires word-at-requires returns)

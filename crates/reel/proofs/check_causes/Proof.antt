@@ -1,5 +1,5 @@
 -- `reel::check_causes` meets its contract. Assumes nothing.
-use Rattle.reel.specs.Causes.{headerCauses, behindCauses, causesOf}
+use Rattle.reel.specs.Causes.{limitCauses, behindCauses, causesOf}
 use Rattle.reel.specs.Layout.{firstTrace, codeOf, samplesOf, sampleBytes, stride}
 use Rattle.numbers.specs.declared.Check.{Check}
 use Rattle.numbers.proofs.CauseLaws.{then-next}
@@ -33,7 +33,7 @@ returns-2 : tie.Need-returns-2
 unfolding causesOf
 returns-2 c =
     let s = c .before .before .before .before .before .before .args .reel .now in
-    let f : ℕ → ℕ → ℕ → Check = λ x y z. then (headerCauses x y z) (behindCauses s x y z (stride y (sampleBytes x))) in
+    let f : ℕ → ℕ → ℕ → Check = λ x y z. then (limitCauses x y z) (behindCauses s x y z (stride y (sampleBytes x))) in
     let e₁ = ap (λ (x : ℕ). f x (c .before .before .binary-word2 .result) (c .before .binary-word3 .result)) (c .before .before .before .binary-word .ensures .0) in
     let e₂ = ap (λ (x : ℕ). f (codeOf s) x (c .before .binary-word3 .result)) (c .before .before .binary-word2 .ensures .0) in
     let e₃ = ap (λ (x : ℕ). f (codeOf s) (samplesOf s) x) (c .before .binary-word3 .ensures .0) in

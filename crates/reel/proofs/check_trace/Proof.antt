@@ -1,7 +1,7 @@
 -- `reel::check_trace` meets its contract. Assumes nothing.
 use Rattle.reel.proofs.CheckLaws.{no-gain}
 use Rattle.reel.specs.Causes.{neither, wordCause, traceCauses}
-use Rattle.reel.specs.Layout.{traceHeader, word, sampleBytes}
+use Rattle.reel.specs.Layout.{traceHeader, number16, sampleBytes}
 use Rattle.numbers.proofs.CauseLaws.{then-stop, then-next}
 use Rattle.numbers.specs.declared.Check.the-variants.{Fine}
 use Rattle.numbers.specs.Cause.{refuseIf, firstOf}
@@ -31,26 +31,26 @@ place8 c =
 -- the rows of 7 and 8
 row7 : (c : tie.After-check-own)
     → let a = c .before .before .before .args in
-    c .check-own .result ≡ refuseIf (neither (word (a .reel .now) (a .at + 114)) (a .n)) 7 (a .at + 114)
+    c .check-own .result ≡ refuseIf (neither (number16 (a .reel .now) (a .at + 114)) (a .n)) 7 (a .at + 114)
 row7 c =
     let a = c .before .before .before .args in
-    c .check-own .ensures ∙ ap (λ (x : ℕ). refuseIf (neither (word (a .reel .now) x) (a .n)) 7 x) (place7 (c .before))
+    c .check-own .ensures ∙ ap (λ (x : ℕ). refuseIf (neither (number16 (a .reel .now) x) (a .n)) 7 x) (place7 (c .before))
 
 row8 : (c : tie.After-check-own2)
     → let a = c .before .before .before .before .before .before .before .args in
-    c .check-own2 .result ≡ refuseIf (neither (word (a .reel .now) (a .at + 116)) (a .i)) 8 (a .at + 116)
+    c .check-own2 .result ≡ refuseIf (neither (number16 (a .reel .now) (a .at + 116)) (a .i)) 8 (a .at + 116)
 row8 c =
     let a = c .before .before .before .before .before .before .before .args in
-    c .check-own2 .ensures ∙ ap (λ (x : ℕ). refuseIf (neither (word (a .reel .now) x) (a .i)) 8 x) (place8 (c .before))
+    c .check-own2 .ensures ∙ ap (λ (x : ℕ). refuseIf (neither (number16 (a .reel .now) x) (a .i)) 8 x) (place8 (c .before))
 
 fine7 : (c : tie.After-enum-told)
     → let a = c .before .before .before .before .before .args in
-    refuseIf (neither (word (a .reel .now) (a .at + 114)) (a .n)) 7 (a .at + 114) ≡ Fine
+    refuseIf (neither (number16 (a .reel .now) (a .at + 114)) (a .n)) 7 (a .at + 114) ≡ Fine
 fine7 c = sym (row7 (c .before .before)) ∙ c .enum-told .given .1
 
 fine8 : (c : tie.After-enum-told3)
     → let a = c .before .before .before .before .before .before .before .before .before .args in
-    refuseIf (neither (word (a .reel .now) (a .at + 116)) (a .i)) 8 (a .at + 116) ≡ Fine
+    refuseIf (neither (number16 (a .reel .now) (a .at + 116)) (a .i)) 8 (a .at + 116) ≡ Fine
 fine8 c = sym (row8 (c .before .before)) ∙ c .enum-told3 .given .1
 
 field-at-requires : tie.Need-field-at-requires

@@ -1,6 +1,6 @@
 -- `write_reel::put_binary` meets its contract. Assumes nothing.
 use Rattle.write_reel.proofs.CopiedLaws.{zeroed, size-binary}
-use Rattle.write_reel.specs.Copied.{binaryCopied}
+use Rattle.write_reel.specs.Copied.{reelBinaryCopied}
 use Rattle.numbers.proofs.Filling.{start, lend, close}
 use Rattle.numbers.proofs.WalkLaws.{bytes-between, copied, size-bytes}
 use Rattle.numbers.specs.BigEndian.{bytesOf}
@@ -80,7 +80,7 @@ put-zeros-requires : tie.Need-put-zeros-requires
 put-zeros-requires c κs = tt
 
 returns : tie.Need-returns
-unfolding binaryCopied
+unfolding reelBinaryCopied
 returns c =
     let b = c .before .before .before .before .before .before .before .before .before .before .before .before .before .before .before .before .before .before .before .before in
     let s = b .args .«record» .now in

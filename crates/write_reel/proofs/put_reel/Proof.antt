@@ -1,6 +1,6 @@
 -- `write_reel::put_reel` meets its contract. Assumes nothing.
 use Rattle.write_reel.proofs.CopiedLaws.{size-binary, size-traces, size-reel}
-use Rattle.write_reel.specs.Copied.{traceCopied, binaryCopied, reelCopied}
+use Rattle.write_reel.specs.Copied.{reelTraceCopied, reelBinaryCopied, reelCopied}
 use Rattle.record.specs.Form.{heldStride, tracesPlace}
 use Rattle.reel.specs.Layout.{stride, sampleBytes}
 use Rattle.numbers.proofs.Filling.{start, lend, close}
@@ -74,8 +74,8 @@ returns c =
     let a = b .args in
     let s = a .«record» .now in
     let x = bytesAt s 3 3200 in
-    let y = binaryCopied s (a .code) in
-    let z = flat (map (traceCopied s (a .code) (a .n)) (walk (λ p. p) (heldStride (a .n)) (a .t) tracesPlace)) in
+    let y = reelBinaryCopied s (a .code) in
+    let z = flat (map (reelTraceCopied s (a .code) (a .n)) (walk (λ p. p) (heldStride (a .n)) (a .t) tracesPlace)) in
     let wide : a .t * a .w ≡ a .t * stride (a .n) (sampleBytes (a .code)) = ap (λ (k : ℕ). a .t * k) (b .pre .1) in
     let w₀ = start _ (a .out .now) (b .pre .4 ∙ ap (λ (k : ℕ). 3600 + k) wide ∙ sym (size-reel s (a .code) (a .n) (a .t))) in
     let w₁ = lend x (y ++ z) 3200 w₀ (omega arith) (size-bytes s 3 3200) (copied _ _ (c .before .before .before .before .before .before .before .before .before .before .copy .ensures) (omega (arith, c .before .before .before .before .before .before .before .before .before .before .before .before .copy-arg .given .2, c .before .before .before .before .before .before .before .before .before .before .before .copy-arg2 .given .2)) ∙ bytes-between s 3 3203 3200 (omega (arith, b .pre .3)) refl) in

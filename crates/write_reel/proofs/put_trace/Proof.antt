@@ -1,8 +1,8 @@
 -- `write_reel::put_trace` meets its contract. Assumes nothing.
-use Rattle.write_samples.specs.Samples.{samplesCopied}
+use Rattle.write_samples.specs.Samples.{sampleWords}
 use Rattle.write_samples.proofs.WordLaws.{size-samples, samples-written}
 use Rattle.write_reel.proofs.CopiedLaws.{zeroed, size-trace}
-use Rattle.write_reel.specs.Copied.{traceCopied}
+use Rattle.write_reel.specs.Copied.{reelTraceCopied}
 use Rattle.numbers.proofs.Filling.{start, lend, close}
 use Rattle.numbers.proofs.WalkLaws.{bytes-between, copied, size-bytes}
 use Rattle.numbers.specs.Walk.{bytesAt}
@@ -69,7 +69,7 @@ write-samples-requires : tie.Need-write-samples-requires
 write-samples-requires c κs = tt
 
 returns : tie.Need-returns
-unfolding traceCopied
+unfolding reelTraceCopied
 returns c =
     let b = c .before .before .before .before .before .before .before .before .before .before .before .before .before .before .before in
     let a = b .args in
@@ -77,7 +77,7 @@ returns c =
     let at = a .at in
     let x = bytesAt s (at + 3) 180 in
     let y : List ℕ = replicate 60 0 in
-    let z = samplesCopied s (a .code) (a .n) (at + 186) in
+    let z = sampleWords s (a .code) (a .n) (at + 186) in
     let w₀ = start _ (a .out .now) (b .pre .2 ∙ sym (size-trace s (a .code) (a .n) at)) in
     let w₁ = lend x (y ++ z) 180 w₀ (omega arith) (size-bytes s (at + 3) 180) (copied _ _ (c .before .before .before .before .before .before .before .before .before .before .copy .ensures) (omega (arith, c .before .before .before .before .before .before .before .before .before .before .before .before .copy-arg .given .2, c .before .before .before .before .before .before .before .before .before .before .before .copy-arg2 .given .2)) ∙ bytes-between s (at + 3) (at + 183) 180 (omega (arith, b .pre .1)) (omega arith)) in
     let w₂ = lend y z 240 w₁ (omega arith) (length-replicate {A = ℕ} 60 0) (zeroed _ 60 (c .before .before .before .before .before .before .put-zeros .ensures) (c .before .before .before .before .before .before .before .put-zeros-arg .given .2)) in

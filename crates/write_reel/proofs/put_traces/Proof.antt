@@ -1,6 +1,6 @@
 -- `write_reel::put_traces` meets its contract. Assumes nothing.
 use Rattle.write_reel.proofs.CopiedLaws.{size-trace, size-traces, traces-more, traces-none}
-use Rattle.write_reel.specs.Copied.{traceCopied}
+use Rattle.write_reel.specs.Copied.{reelTraceCopied}
 use Rattle.record.specs.Form.{heldStride, tracesPlace}
 use Rattle.numbers.proofs.Filling.{Filling, start as begin, finish, again, lend}
 use Rattle.numbers.proofs.WalkLaws.{times-more}
@@ -16,7 +16,7 @@ use Rattle.write_reel.proofs.put_traces.Tie as tie
 abbrev Inv-loop : tie.InvT-loop
 Inv-loop «record» code n w m t out₀ at₀ o₀ left₀ out at o left =
     (at + left * m ≤ length «record») × (length out ≡ t * w) × (o + left * w ≡ t * w)
-    × Filling (flat (map (traceCopied «record» code n) (walk (λ p. p) (heldStride n) t tracesPlace))) out o (flat (map (traceCopied «record» code n) (walk (λ p. p) (heldStride n) left at)))
+    × Filling (flat (map (reelTraceCopied «record» code n) (walk (λ p. p) (heldStride n) t tracesPlace))) out o (flat (map (reelTraceCopied «record» code n) (walk (λ p. p) (heldStride n) left at)))
 
 abbrev μ-loop : tie.MeasureT-loop
 μ-loop «record» code n w m t out₀ at₀ o₀ left₀ out at o left = left
@@ -62,8 +62,8 @@ loop-again c =
     let l = c .before .before .before .before .before .loop in
     let some = c .before .before .before .before .loop-test .taken in
     let next : l .at + heldStride (a .n) ≡ l .at + a .m = ap (λ (x : ℕ). l .at + x) (sym (s .pre .2)) in
-    let more = traces-more r (a .code) (a .n) (l .left) (l .at) some ∙ ap (λ (x : ℕ). traceCopied r (a .code) (a .n) (l .at) ++ flat (map (traceCopied r (a .code) (a .n)) (walk (λ p. p) (heldStride (a .n)) (l .left - 1) x))) next in
-    let f = lend (traceCopied r (a .code) (a .n) (l .at)) (flat (map (traceCopied r (a .code) (a .n)) (walk (λ p. p) (heldStride (a .n)) (l .left - 1) (l .at + a .m)))) (l .o + a .w) (again (l .inv .3) more) (omega arith) (size-trace r (a .code) (a .n) (l .at) ∙ omega (arith, s .pre .1)) (c .before .before .put-trace .ensures) in
+    let more = traces-more r (a .code) (a .n) (l .left) (l .at) some ∙ ap (λ (x : ℕ). reelTraceCopied r (a .code) (a .n) (l .at) ++ flat (map (reelTraceCopied r (a .code) (a .n)) (walk (λ p. p) (heldStride (a .n)) (l .left - 1) x))) next in
+    let f = lend (reelTraceCopied r (a .code) (a .n) (l .at)) (flat (map (reelTraceCopied r (a .code) (a .n)) (walk (λ p. p) (heldStride (a .n)) (l .left - 1) (l .at + a .m)))) (l .o + a .w) (again (l .inv .3) more) (omega arith) (size-trace r (a .code) (a .n) (l .at) ∙ omega (arith, s .pre .1)) (c .before .before .put-trace .ensures) in
     (omega (arith, times-more (l .left) (a .m) some, l .inv .0), f .size ∙ sym (l .inv .3 .size) ∙ l .inv .1, omega (arith, times-more (l .left) (a .w) some, l .inv .2), f)
 
 same-length : tie.Need-same-length Inv-loop μ-loop

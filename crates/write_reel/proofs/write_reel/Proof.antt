@@ -4,8 +4,8 @@ use mathlib.Core.Path.{_≡_, sym, _∙_}
 use Rattle.write_reel.proofs.write_reel.Statement.{statement}
 use Rattle.write_reel.proofs.write_reel.Tie as tie
 
-check-record-requires : tie.Need-check-record-requires
-check-record-requires c κs = tt
+judge-fit-requires : tie.Need-judge-fit-requires
+judge-fit-requires c κs = tt
 
 enum-known-c : tie.Need-enum-known-c
 enum-known-c c = c .match .keys1
@@ -14,12 +14,12 @@ enum-known-c-2 : tie.Need-enum-known-c-2
 enum-known-c-2 c = c .match .keys2
 
 write-checked-requires : tie.Need-write-checked-requires
-write-checked-requires c κs = sym (c .before .before .before .before .check-record .ensures) ∙ c .before .before .c2 .given .1
+write-checked-requires c κs = sym (c .before .before .before .before .judge-fit .ensures) ∙ c .before .before .c2 .given .1
 
 returns : tie.Need-returns
 returns c =
     let a = c .before .before .before .before .before .before .args in
-    refused-end (a .«record» .now) (a .code) (a .reel .now) _ _ (refused-is (a .«record» .now) (a .code) _ _ (sym (c .before .before .before .check-record .ensures) ∙ c .before .c .given .1))
+    refused-end (a .«record» .now) (a .code) (a .reel .now) _ _ (refused-is (a .«record» .now) (a .code) _ _ (sym (c .before .before .before .judge-fit .ensures) ∙ c .before .c .given .1))
 
 same-length : tie.Need-same-length
 same-length c = c .before .reel .given
@@ -31,7 +31,7 @@ pub write-reel-spec : {M : Type 1} → statement M
 write-reel-spec =
     tie.close
     (tie.spec
-    check-record-requires
+    judge-fit-requires
     enum-known-c
     enum-known-c-2
     write-checked-requires

@@ -1,5 +1,5 @@
 -- `write_samples::put_samples` meets its contract. Assumes nothing.
-use Rattle.write_samples.specs.Samples.{samplesCopied}
+use Rattle.write_samples.specs.Samples.{sampleWords}
 use Rattle.reel.specs.Layout.{sampleBytes}
 use borrow.Author.Tests.{ne-eqb}
 use Prim.Native.Nat.{ℕ, _*_}
@@ -18,7 +18,7 @@ same-length c = c .before .before .put-whole16 .kept .1 .1 .1 .0
 returns : tie.Need-returns
 returns c =
     let a = c .before .before .before .before .before .before .before .args in
-    c .before .before .put-whole16 .ensures ∙ ap (λ (k : ℕ). samplesCopied (a .«record» .now) k (a .n) (a .start)) (sym (c .before .before .before .before .if1 .taken))
+    c .before .before .put-whole16 .ensures ∙ ap (λ (k : ℕ). sampleWords (a .«record» .now) k (a .n) (a .start)) (sym (c .before .before .before .before .if1 .taken))
 
 put-words-requires : tie.Need-put-words-requires
 put-words-requires c κs =

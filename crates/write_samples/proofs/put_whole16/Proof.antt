@@ -1,6 +1,6 @@
 -- `write_samples::put_whole16` meets its contract. Assumes nothing.
 use Rattle.write_samples.proofs.WordLaws.{size-samples, samples-none, sample-bytes, next-put, last-put}
-use Rattle.write_samples.specs.Samples.{samplesCopied}
+use Rattle.write_samples.specs.Samples.{sampleWords}
 use Rattle.numbers.proofs.Filling.{Filling, start as begin, finish, again}
 use Rattle.numbers.proofs.WalkLaws.{times-more}
 use Rattle.numbers.specs.Walk.{bytesAt}
@@ -15,7 +15,7 @@ use Rattle.write_samples.proofs.put_whole16.Tie as tie
 abbrev Inv-loop : tie.InvT-loop
 Inv-loop «record» n start out₀ at₀ o₀ left₀ e₀ m₀ out at o left e m =
     (at + left * 6 + 6 ≤ length «record») × (length out ≡ n * 2) × (o + left * 2 + 2 ≡ n * 2) × (e ≡ number (bytesAt «record» at 2)) × (m ≡ number (bytesAt «record» (at + 2) 4))
-    × Filling (samplesCopied «record» 3 n start) out o (samplesCopied «record» 3 (left + 1) at)
+    × Filling (sampleWords «record» 3 n start) out o (sampleWords «record» 3 (left + 1) at)
 
 abbrev μ-loop : tie.MeasureT-loop
 μ-loop «record» n start out₀ at₀ o₀ left₀ e₀ m₀ out at o left e m = left
@@ -43,7 +43,7 @@ loop-holds c =
       omega (arith, times-more (a .n) 2 (omega (arith, some))),
       c .before .exponent-at .ensures,
       c .mantissa-at .ensures,
-      again (begin _ _ (c .before .before .before .before .before .pre .1 ∙ sym (size-samples s 3 (a .n) (a .start)))) (ap (λ (j : ℕ). samplesCopied s 3 j (a .start)) e),
+      again (begin _ _ (c .before .before .before .before .before .pre .1 ∙ sym (size-samples s 3 (a .n) (a .start)))) (ap (λ (j : ℕ). sampleWords s 3 j (a .start)) e),
     )
 
 add-next : tie.Need-add-next Inv-loop μ-loop

@@ -1,6 +1,6 @@
 -- `write_samples::put_words` meets its contract. Assumes nothing.
 use Rattle.write_samples.proofs.WordLaws.{size-samples, samples-none, fetched-bytes, four-bytes-of, next-put, last-put}
-use Rattle.write_samples.specs.Samples.{wordBytes, samplesCopied}
+use Rattle.write_samples.specs.Samples.{wordBytes, sampleWords}
 use Rattle.numbers.proofs.Filling.{Filling, start as begin, finish, again}
 use Rattle.numbers.proofs.WalkLaws.{times-more, copied}
 use Rattle.numbers.specs.Walk.{bytesAt}
@@ -15,13 +15,13 @@ use Rattle.write_samples.proofs.put_words.Tie as tie
 abbrev Inv-loop : tie.InvT-loop
 Inv-loop «record» code n start out₀ at₀ o₀ left₀ e₀ m₀ out at o left e m =
     (at + left * 6 + 6 ≤ length «record») × (length out ≡ n * 4) × (o + left * 4 + 4 ≡ n * 4) × (e ≡ number (bytesAt «record» at 2)) × (m ≡ number (bytesAt «record» (at + 2) 4))
-    × Filling (samplesCopied «record» code n start) out o (samplesCopied «record» code (left + 1) at)
+    × Filling (sampleWords «record» code n start) out o (sampleWords «record» code (left + 1) at)
 
 abbrev μ-loop : tie.MeasureT-loop
 μ-loop «record» code n start out₀ at₀ o₀ left₀ e₀ m₀ out at o left e m = left
 
 -- the samples' length
-size : (c : tie.Start Inv-loop μ-loop) → length (c .args .out .now) ≡ length (samplesCopied (c .args .«record» .now) (c .args .code) (c .args .n) (c .args .start))
+size : (c : tie.Start Inv-loop μ-loop) → length (c .args .out .now) ≡ length (sampleWords (c .args .«record» .now) (c .args .code) (c .args .n) (c .args .start))
 size c = c .pre .3 ∙ ap (λ (v : ℕ). c .args .n * v) (sym (c .pre .1)) ∙ sym (size-samples (c .args .«record» .now) (c .args .code) (c .args .n) (c .args .start))
 
 returns : tie.Need-returns Inv-loop μ-loop
@@ -46,7 +46,7 @@ loop-holds c =
       omega (arith, times-more (a .n) 4 (omega (arith, some))),
       c .before .exponent-at .ensures,
       c .mantissa-at .ensures,
-      again (begin _ _ (size b)) (ap (λ (j : ℕ). samplesCopied (a .«record» .now) (a .code) j (a .start)) e),
+      again (begin _ _ (size b)) (ap (λ (j : ℕ). sampleWords (a .«record» .now) (a .code) j (a .start)) e),
     )
 
 add-next : tie.Need-add-next Inv-loop μ-loop

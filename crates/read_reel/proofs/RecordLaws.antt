@@ -1,0 +1,156 @@
+-- The record that the code writes is the record of what the reel means. Assumes nothing.
+use mathlib.Core.Path.{_≡_, refl, sym, ap, ap₂, _∙_, subst}
+use mathlib.Core.List.{List, [], _∷_, _++_, map, append-assoc}
+use mathlib.Core.Bool.{Bool, true, false, _&&_}
+use Prim.Native.Nat.{ℕ, zero, suc, _+_, _-_, _*_, _^_, _≤_, _<_}
+use native.Mathlib.Nat.{add-zero, mul-comm}
+use native.Mathlib.Omega.{arith}
+use borrow.Author.Tests.{eqb-true, le-leb, ne-eqb}
+use lib.Dec.{T, leb, eqb}
+use lib.ListN.{length, getD, replicate}
+use lib.IntN.{ℤ, pos, negsuc, natAbs}
+use Rattle.numbers.specs.Walk.{pick, walk, flat, bytesAt}
+use Rattle.numbers.specs.Cause.{refuseIf, then, firstOf}
+use Rattle.numbers.specs.BigEndian.{number, bytesOf}
+use Rattle.numbers.specs.TwosComplement.{signedOf, bitsOf}
+use Rattle.numbers.specs.declared.Check.{Check}
+use Rattle.numbers.specs.declared.Check.the-variants.{Fine, Refused}
+use Rattle.numbers.proofs.WalkLaws.{size-walk}
+use Rattle.numbers.proofs.CauseLaws.{passed, then-fine}
+use Rattle.numbers.proofs.ByteLaws.{Bytes, number-at}
+use Rattle.numbers.proofs.SignLaws.{bits-signed}
+use Rattle.value.specs.Value.{isCode, exactValue}
+use Rattle.sample.specs.Reading.{badGain, readWord}
+use Rattle.reel.specs.Layout.{Field, fieldsFrom, binaryWidths, binaryFields, traceWidths, traceFields, fieldNumber, firstTrace, traceHeader, number16, samplesOf, intervalOf, codeOf, sampleBytes, strideOf, tracesOf}
+use Rattle.reel.specs.Causes.{mostSamples, neither, wordCause, traceCauses, causesOf}
+use Rattle.reel.specs.Meaning.{cardText, otherThan, binaryNumbers, filled, traceNumber, Trace, traceMeaning, meaningOf}
+use Rattle.reel.proofs.CheckLaws.{Numbers, Sound, reel-fine}
+use Rattle.record.specs.Record.{field, numberBytes, withCode, binaryBytes, valueBytes, samplesField, traceBytes, recordOf, reelRecord}
+use Rattle.record.proofs.NumberLaws.{fields-again, numbers-append}
+use Rattle.record.proofs.HeaderLaws.{binary-front, binary-back, trace-front, trace-back, countField, intervalField, size-cards}
+use Rattle.read_samples.specs.Samples.{sampleContent, sampleCopied, places, samplePairs}
+use Rattle.read_reel.specs.Copied.{tagBytes, recordBinaryCopied, headCopied, ownOr, headerCopied, recordTraceCopied, recordCopied}
+use Rattle.read_samples.proofs.SampleLaws.{size-samples}
+use Rattle.read_reel.proofs.CopiedLaws.{size-binary, size-header}
+
+-- ## Fields
+
+-- a field whose content has k bytes
+field-is : (tag k : ℕ) (l : List ℕ) → length l ≡ k → field tag l ≡ tagBytes tag k ++ l
+unfolding field
+field-is tag k l e = ap (λ (x : ℕ). tag ∷ (bytesOf 2 x ++ l)) e
+
+-- ## The binary header
+
+binary-is : (s : List ℕ) → Bytes s → binaryBytes 0 (binaryNumbers s) ≡ recordBinaryCopied s
+unfolding binaryBytes binaryNumbers binaryWidths binaryFields recordBinaryCopied binary-front binary-back
+binary-is s h =
+    let f = fieldNumber s 0 in
+    numbers-append binary-front (2 ∷ binary-back) (map f (fieldsFrom 3201 binary-front)) (pos 0 ∷ map f (fieldsFrom 3227 binary-back)) refl
+    ∙ ap₂ (λ (x y : List ℕ). x ++ (bytesOf 2 0 ++ y)) (fields-again s h 0 3201 binary-front (omega arith)) (fields-again s h 0 3227 binary-back (omega arith))
+
+-- ## A trace header
+
+abs-zero : (z : ℤ) → natAbs z ≡ 0 → z ≡ pos 0
+abs-zero (pos n) e = ap pos e
+abs-zero (negsuc n) e = absurd (no e)
+  where
+    no : suc n ≡ 0 → ⊥
+    no e = omega arith
+
+-- a number that is filled in, by its bits
+fill-bits : (own v : ℕ) → v < 2 ^ 16 → bitsOf 16 (filled own (signedOf 16 v)) ≡ ownOr own v
+fill-bits own zero h = refl
+fill-bits own (suc k) h = go (eqb (natAbs (signedOf 16 (suc k))) 0) refl
+  where
+    back : bitsOf 16 (signedOf 16 (suc k)) ≡ suc k
+    back = bits-signed 16 (suc k) (omega arith) h
+
+    some : suc k ≡ 0 → ⊥
+    some e = omega arith
+
+    go : (b : Bool) → eqb (natAbs (signedOf 16 (suc k))) 0 ≡ b → bitsOf 16 (pick b (pos own) (signedOf 16 (suc k))) ≡ ownOr own (suc k)
+    go true q = absurd (some (sym back ∙ ap (bitsOf 16) (abs-zero (signedOf 16 (suc k)) (eqb-true _ 0 q))))
+    go false q = back ∙ rw (ne-eqb (suc k) 0 some)
+
+header-is : (s : List ℕ) → Bytes s → (n i at : ℕ) → numberBytes traceWidths (map (traceNumber s n i at) traceFields) ≡ headerCopied s n i at
+unfolding traceWidths traceFields headerCopied trace-front trace-back
+header-is s h n i at =
+    let f = fieldNumber s at in
+    let zero-at : at + (1 - 1) ≡ at = add-zero at in
+    let a = fields-again s h at 1 trace-front (omega arith) ∙ ap (λ (p : ℕ). bytesAt s p 114) zero-at in
+    let b = ap (bytesOf 2) (fill-bits n (number16 s (at + 114)) (number-at s h (at + 114) 2)) in
+    let c = ap (bytesOf 2) (fill-bits i (number16 s (at + 116)) (number-at s h (at + 116) 2)) in
+    let d = fields-again s h at 119 trace-back (omega arith) in
+    numbers-append trace-front (2 ∷ 2 ∷ trace-back) (map f (fieldsFrom 1 trace-front)) (filled n (f countField) ∷ filled i (f intervalField) ∷ map f (fieldsFrom 119 trace-back)) refl
+    ∙ ap₂ (λ (x y : List ℕ). x ++ y) a (ap₂ (λ (x y : List ℕ). x ++ y) b (ap₂ (λ (x y : List ℕ). x ++ y) c d))
+
+-- ## Samples
+
+and-true : (b c : Bool) → (b && c) ≡ true → (b ≡ true) × (c ≡ true)
+and-true true c e = (refl, e)
+and-true false c e = absurd (subst T (sym e) tt)
+
+-- a word that is not refused
+sample-is : (s : List ℕ) (code p : ℕ) → isCode code ≡ true → wordCause s code p ≡ Fine → valueBytes (exactValue code (bytesAt s p 4)) ≡ sampleCopied s code p
+sample-is s code p h e = rw (h, passed (badGain code (bytesAt s p 4)) 9 p e)
+
+samples-walk : (s : List ℕ) (code w : ℕ) → isCode code ≡ true → (k at : ℕ) → firstOf (walk (wordCause s code) w k at) ≡ Fine
+    → flat (map valueBytes (walk (λ p. exactValue code (bytesAt s p 4)) w k at)) ≡ flat (map (sampleCopied s code) (places w k at))
+samples-walk s code w h zero at e = refl
+samples-walk s code w h (suc k) at e =
+    let t = then-fine (wordCause s code at) (firstOf (walk (wordCause s code) w k (at + w))) e in
+    ap₂ (λ (x y : List ℕ). x ++ y) (sample-is s code at h (t .0)) (samples-walk s code w h k (at + w) (t .1))
+
+-- ## Traces
+
+module _ (s : List ℕ) (b : Bytes s) (code n i : ℕ) (h : isCode code ≡ true) where
+  samples-are : (at : ℕ) → firstOf (walk (wordCause s code) (sampleBytes code) n at) ≡ Fine
+      → flat (map valueBytes (walk (λ p. exactValue code (bytesAt s p 4)) (sampleBytes code) n at)) ≡ samplePairs s code n at
+  unfolding samplePairs
+  samples-are at e = samples-walk s code (sampleBytes code) h n at e
+
+  trace-is : (at : ℕ) → traceCauses s code n i at ≡ Fine → traceBytes (traceMeaning s code n i at) ≡ recordTraceCopied s code n i at
+  unfolding traceBytes traceMeaning samplesField traceCauses recordTraceCopied
+  trace-is at e =
+      let c = then-fine (refuseIf (neither (number16 s (at + 114)) n) 7 (at + 114)) _ e in
+      let d = then-fine (refuseIf (neither (number16 s (at + 116)) i) 8 (at + 116)) _ (c .1) in
+      let header = numberBytes traceWidths (map (traceNumber s n i at) traceFields) in
+      let samples = flat (map valueBytes (walk (λ p. exactValue code (bytesAt s p 4)) (sampleBytes code) n (at + traceHeader))) in
+      let hi : header ≡ headerCopied s n i at = header-is s b n i at in
+      let si : samples ≡ samplePairs s code n (at + traceHeader) = samples-are (at + traceHeader) (d .1) in
+      let hf : field 3 header ≡ tagBytes 3 180 ++ headerCopied s n i at = field-is 3 180 header (ap length hi ∙ size-header s n i at) ∙ ap (λ (l : List ℕ). tagBytes 3 180 ++ l) hi in
+      let sf : field 4 samples ≡ tagBytes 4 (6 * n) ++ samplePairs s code n (at + traceHeader) =
+      field-is 4 (6 * n) samples (ap length si ∙ size-samples s code n (at + traceHeader) ∙ mul-comm n 6) ∙ ap (λ (l : List ℕ). tagBytes 4 (6 * n) ++ l) si in
+      ap₂ (λ (x y : List ℕ). x ++ y) hf sf ∙ append-assoc (tagBytes 3 180) (headerCopied s n i at) (tagBytes 4 (6 * n) ++ samplePairs s code n (at + traceHeader))
+
+  traces-walk : (w k at : ℕ) → firstOf (walk (traceCauses s code n i) w k at) ≡ Fine
+      → flat (map traceBytes (walk (traceMeaning s code n i) w k at)) ≡ flat (map (recordTraceCopied s code n i) (places w k at))
+  traces-walk w zero at e = refl
+  traces-walk w (suc k) at e =
+      let t = then-fine (traceCauses s code n i at) (firstOf (walk (traceCauses s code n i) w k (at + w))) e in
+      ap₂ (λ (x y : List ℕ). x ++ y) (trace-is at (t .0)) (traces-walk w k (at + w) (t .1))
+
+-- ## The record
+
+pub code-sound : (code n i : ℕ) → Numbers code n i → isCode code ≡ true
+code-sound code n i h = rw (le-leb 1 code (h .code-low)) (le-leb code 4 (h .code-high))
+
+pub record-is : (s : List ℕ) → Bytes s → causesOf s ≡ Fine → reelRecord s ≡ recordCopied s (codeOf s) (samplesOf s) (intervalOf s) (strideOf s) (tracesOf s)
+unfolding recordOf meaningOf recordCopied headCopied
+record-is s b e =
+    let h = reel-fine s e in
+    let code = codeOf s in
+    let n = samplesOf s in
+    let i = intervalOf s in
+    let w = strideOf s in
+    let t = tracesOf s in
+    let bi = binary-is s b in
+    let x : field 1 (cardText s) ≡ tagBytes 1 3200 ++ cardText s = field-is 1 3200 (cardText s) (size-cards s) in
+    let y : field 2 (binaryBytes 0 (binaryNumbers s)) ≡ tagBytes 2 60 ++ recordBinaryCopied s =
+    field-is 2 60 (binaryBytes 0 (binaryNumbers s)) (ap length bi ∙ size-binary s) ∙ ap (λ (l : List ℕ). tagBytes 2 60 ++ l) bi in
+    let z = traces-walk s b code n i (code-sound code n i (h .numbers)) w t firstTrace (h .traces) in
+    let v : field 5 (bytesOf 4 (length (walk (traceMeaning s code n i) w t firstTrace))) ≡ tagBytes 5 4 ++ bytesOf 4 t =
+    ap (λ (k : ℕ). field 5 (bytesOf 4 k)) (size-walk (traceMeaning s code n i) w t firstTrace) ∙ field-is 5 4 (bytesOf 4 t) refl in
+    ap₂ (λ (k l : List ℕ). k ++ l) x (ap₂ (λ (k l : List ℕ). k ++ l) y (ap₂ (λ (k l : List ℕ). k ++ l) z v))
+    ∙ simp append-assoc

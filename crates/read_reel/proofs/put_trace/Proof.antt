@@ -1,0 +1,120 @@
+-- `read_reel::put_trace` meets its contract. Assumes nothing.
+use Rattle.read_samples.proofs.SampleLaws.{size-samples, samples-read}
+use Rattle.read_reel.proofs.CopiedLaws.{size-header, size-trace}
+use Rattle.read_samples.specs.Samples.{samplePairs}
+use Rattle.read_reel.specs.Copied.{tagBytes, headerCopied, recordTraceCopied}
+use Rattle.reel.specs.Layout.{traceHeader}
+use Rattle.numbers.proofs.Filling.{start, lend, close}
+use lib.ListN.{length}
+use Prim.Native.Nat.{_+_, _*_}
+use mathlib.Core.List.{_++_}
+use mathlib.Core.Path.{_≡_, refl, sym, ap, _∙_}
+use native.Mathlib.Omega.{arith}
+use Rattle.read_reel.proofs.put_trace.Statement.{statement}
+use Rattle.read_reel.proofs.put_trace.Tie as tie
+
+mul-size : tie.Need-mul-size
+mul-size c = omega (arith, c .before .before .pre .1)
+
+cast-e : tie.Need-cast-e
+cast-e c = omega (arith, c .before .before .pre .1)
+
+add-e : tie.Need-add-e
+add-e c = omega (arith, c .before .before .pre .1)
+
+sub-put-tag : tie.Need-sub-put-tag
+sub-put-tag c = omega arith
+
+part-put-tag-start : tie.Need-part-put-tag-start
+part-put-tag-start c = omega arith
+
+part-put-tag-end : tie.Need-part-put-tag-end
+part-put-tag-end c = omega (arith, c .before .before .pre .3)
+
+put-tag-requires : tie.Need-put-tag-requires
+put-tag-requires c κs = c .put-tag-arg .given .2
+
+sub-put-header : tie.Need-sub-put-header
+sub-put-header c = omega arith
+
+part-put-header-start : tie.Need-part-put-header-start
+part-put-header-start c = omega arith
+
+part-put-header-end : tie.Need-part-put-header-end
+part-put-header-end c = omega (arith, c .before .before .before .before .before .before .pre .3, c .before .out .given .1)
+
+put-header-requires : tie.Need-put-header-requires
+put-header-requires c κs = (omega (arith, c .before .before .before .before .before .before .before .pre .2), c .put-header-arg .given .2)
+
+sub-put-tag-2 : tie.Need-sub-put-tag-2
+sub-put-tag-2 c = omega arith
+
+part-put-tag-start-2 : tie.Need-part-put-tag-start-2
+part-put-tag-start-2 c = omega arith
+
+part-put-tag-end-2 : tie.Need-part-put-tag-end-2
+part-put-tag-end-2 c = omega (arith, c .before .before .before .before .before .before .before .before .before .before .pre .3, c .before .before .before .before .before .out .given .1, c .before .out2 .given .1)
+
+put-tag-requires-2 : tie.Need-put-tag-requires-2
+put-tag-requires-2 c κs = c .put-tag-arg2 .given .2
+
+add-read-samples : tie.Need-add-read-samples
+add-read-samples c = omega (arith, c .before .before .before .before .before .before .before .before .before .before .before .before .before .before .pre .2, c .before .before .before .before .before .before .before .before .before .before .before .before .before .before .good .0)
+
+sub-read-samples : tie.Need-sub-read-samples
+sub-read-samples c = omega arith
+
+part-read-samples-start : tie.Need-part-read-samples-start
+part-read-samples-start c = omega arith
+
+part-read-samples-end : tie.Need-part-read-samples-end
+part-read-samples-end c = omega (arith, c .before .before .before .before .before .before .before .before .before .before .before .before .before .before .pre .3, c .before .before .before .before .before .before .before .before .before .out .given .1, c .before .before .before .before .before .out2 .given .1, c .before .out3 .given .1)
+
+read-samples-requires : tie.Need-read-samples-requires
+read-samples-requires c κs = tt
+
+returns : tie.Need-returns
+unfolding recordTraceCopied
+returns c =
+    let b = c .before .before .before .before .before .before .before .before .before .before .before .before .before .before .before .before .before .before in
+    let a = b .args in
+    let s = a .reel .now in
+    let y = headerCopied s (a .n) (a .i) (a .at) in
+    let z = samplePairs s (a .code) (a .n) (a .at + traceHeader) in
+    let w₀ = start _ (a .out .now) (b .pre .3 ∙ sym (size-trace s (a .code) (a .n) (a .i) (a .at))) in
+    let w₁ = lend (tagBytes 3 180) (y ++ (tagBytes 4 (6 * a .n) ++ z)) 3 w₀ (omega arith) refl (c .before .before .before .before .before .before .before .before .before .before .before .before .before .before .put-tag .ensures) in
+    let w₂ = lend y (tagBytes 4 (6 * a .n) ++ z) 183 w₁ (omega arith) (size-header s (a .n) (a .i) (a .at)) (c .before .before .before .before .before .before .before .before .before .before .put-header .ensures) in
+    let w₃ = lend (tagBytes 4 (6 * a .n)) z 186 w₂ (omega arith) refl (c .before .before .before .before .before .before .put-tag2 .ensures) in
+    close z (186 + 6 * a .n) w₃ (omega arith) (size-samples s (a .code) (a .n) (a .at + traceHeader) ∙ omega arith) (c .before .before .read-samples .ensures ∙ samples-read s (a .code) (a .n) (a .at + traceHeader) _ (b .pre .0) (omega (arith, b .pre .2)) (c .before .before .before .read-samples-arg .given .2 ∙ omega arith))
+
+same-length : tie.Need-same-length
+same-length c =
+    let b = c .before .before .before .before .before .before .before .before .before .before .before .before .before .before .before .before .before .before in
+    ap length (returns c) ∙ (size-trace (b .args .reel .now) (b .args .code) (b .args .n) (b .args .i) (b .args .at) ∙ sym (b .pre .3))
+
+pub put-trace-spec : {M : Type 1} → statement M
+put-trace-spec =
+    tie.close
+    (tie.spec
+    mul-size
+    cast-e
+    add-e
+    sub-put-tag
+    part-put-tag-start
+    part-put-tag-end
+    put-tag-requires
+    sub-put-header
+    part-put-header-start
+    part-put-header-end
+    put-header-requires
+    sub-put-tag-2
+    part-put-tag-start-2
+    part-put-tag-end-2
+    put-tag-requires-2
+    add-read-samples
+    sub-read-samples
+    part-read-samples-start
+    part-read-samples-end
+    read-samples-requires
+    same-length
+    returns)

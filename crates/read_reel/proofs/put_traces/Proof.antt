@@ -1,0 +1,98 @@
+-- `read_reel::put_traces` meets its contract. Assumes nothing.
+use Rattle.read_reel.proofs.CopiedLaws.{size-trace, size-traces, traces-more, traces-none}
+use Rattle.read_samples.specs.Samples.{places}
+use Rattle.read_reel.specs.Copied.{recordTraceCopied}
+use Rattle.reel.specs.Layout.{firstTrace}
+use Rattle.numbers.proofs.Filling.{Filling, start as begin, finish, again, lend}
+use Rattle.numbers.proofs.WalkLaws.{times-more}
+use Rattle.numbers.specs.Walk.{flat}
+use lib.ListN.{length}
+use Prim.Native.Nat.{ℕ, _+_, _-_, _*_, _≤_}
+use mathlib.Core.List.{map}
+use mathlib.Core.Path.{_≡_, sym, ap, _∙_}
+use native.Mathlib.Omega.{arith}
+use Rattle.read_reel.proofs.put_traces.Statement.{statement}
+use Rattle.read_reel.proofs.put_traces.Tie as tie
+
+abbrev Inv-loop : tie.InvT-loop
+Inv-loop reel code n i w m t out₀ at₀ o₀ left₀ out at o left =
+    (at + left * w ≤ length reel) × (length out ≡ t * m) × (o + left * m ≡ t * m)
+    × Filling (flat (map (recordTraceCopied reel code n i) (places w t firstTrace))) out o (flat (map (recordTraceCopied reel code n i) (places w left at)))
+
+abbrev μ-loop : tie.MeasureT-loop
+μ-loop reel code n i w m t out₀ at₀ o₀ left₀ out at o left = left
+
+loop-holds : tie.Need-loop-holds Inv-loop μ-loop
+loop-holds c =
+    let s = c .before .before in
+    let a = s .args in
+    (omega (arith, s .pre .4), s .pre .5, omega arith, begin _ _ (s .pre .5 ∙ ap (λ (x : ℕ). a .t * x) (s .pre .3) ∙ sym (size-traces (a .reel .now) (a .code) (a .n) (a .i) (a .w) (a .t) firstTrace)))
+
+add-e : tie.Need-add-e Inv-loop μ-loop
+add-e c = omega (arith, times-more (c .before .loop .left) (c .before .before .before .before .args .m) (c .loop-test .taken), c .before .loop .inv .1, c .before .loop .inv .2)
+
+sub-put-trace : tie.Need-sub-put-trace Inv-loop μ-loop
+sub-put-trace c = omega arith
+
+part-put-trace-start : tie.Need-part-put-trace-start Inv-loop μ-loop
+part-put-trace-start c = omega arith
+
+part-put-trace-end : tie.Need-part-put-trace-end Inv-loop μ-loop
+part-put-trace-end c = omega (arith, times-more (c .before .loop .left) (c .before .before .before .before .args .m) (c .loop-test .taken), c .before .loop .inv .1, c .before .loop .inv .2)
+
+put-trace-requires : tie.Need-put-trace-requires Inv-loop μ-loop
+put-trace-requires c κs =
+    let s = c .before .before .before .before .before in
+    let l = c .before .before .loop in (
+      s .pre .0,
+      s .pre .1,
+      omega (arith, times-more (l .left) (s .args .w) (c .before .loop-test .taken), s .pre .2, l .inv .0),
+      omega (arith, s .pre .3),
+    )
+
+add-at : tie.Need-add-at Inv-loop μ-loop
+add-at c = omega (arith, times-more (c .before .before .before .before .before .loop .left) (c .before .before .before .before .before .before .before .before .args .w) (c .before .before .before .before .loop-test .taken), c .before .before .before .before .before .loop .inv .0)
+
+sub-left : tie.Need-sub-left Inv-loop μ-loop
+sub-left c = omega (arith, c .before .before .before .before .loop-test .taken)
+
+loop-less : tie.Need-loop-less Inv-loop μ-loop
+loop-less c = omega (arith, c .before .before .before .before .loop-test .taken)
+
+loop-again : tie.Need-loop-again Inv-loop μ-loop
+loop-again c =
+    let t = c .before .before .before .before in
+    let h = t .before in
+    let s = h .before .before .before in
+    let a = s .args in
+    let r = a .reel .now in
+    let l = h .loop in
+    let f = lend (recordTraceCopied r (a .code) (a .n) (a .i) (l .at)) (flat (map (recordTraceCopied r (a .code) (a .n) (a .i)) (places (a .w) (l .left - 1) (l .at + a .w)))) (l .o + a .m) (again (l .inv .3) (traces-more r (a .code) (a .n) (a .i) (a .w) (l .left) (l .at) (t .loop-test .taken))) (omega arith) (size-trace r (a .code) (a .n) (a .i) (l .at) ∙ omega (arith, s .pre .3)) (c .before .before .put-trace .ensures) in
+    (omega (arith, times-more (l .left) (a .w) (t .loop-test .taken)), f .size ∙ sym (l .inv .3 .size) ∙ l .inv .1, omega (arith, times-more (l .left) (a .m) (t .loop-test .taken)), f)
+
+same-length : tie.Need-same-length Inv-loop μ-loop
+same-length c = c .before .loop .inv .1 ∙ sym (c .before .before .before .before .pre .5)
+
+returns : tie.Need-returns Inv-loop μ-loop
+returns c =
+    let a = c .before .before .before .before .args in
+    finish (c .before .loop .inv .3) (traces-none (a .reel .now) (a .code) (a .n) (a .i) (a .w) (c .before .loop .left) (c .before .loop .at) (c .loop-test .left))
+
+pub put-traces-spec : {M : Type 1} → statement M
+put-traces-spec =
+    tie.close
+    (tie.spec
+    Inv-loop
+    μ-loop
+    loop-holds
+    add-e
+    sub-put-trace
+    part-put-trace-start
+    part-put-trace-end
+    put-trace-requires
+    add-at
+    sub-left
+    loop-less
+    loop-again
+    same-length
+    returns)

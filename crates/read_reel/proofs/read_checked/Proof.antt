@@ -1,0 +1,80 @@
+-- `read_reel::read_checked` meets its contract. Assumes nothing.
+use Rattle.read_reel.proofs.ReadLaws.{Own, own, Fit, fit, short-end, taken-end}
+use Rattle.numbers.proofs.ByteLaws.{all-bytes}
+use Rattle.reel.specs.Layout.{stride}
+use lib.Seq.{length-take-le}
+use Prim.Native.Nat.{_+_, _*_}
+use mathlib.Core.Path.{_≡_, sym, ap, _∙_}
+use native.Mathlib.Omega.{arith}
+use borrow.Author.Needs.{needs}
+use Rattle.read_reel.proofs.read_checked.Statement.{statement}
+use Rattle.read_reel.proofs.read_checked.Tie as tie
+
+owns : (c : tie.Start) → let a = c .args in Own (a .reel .now) (a .code) (a .n) (a .i) (a .v) (a .w) (a .t)
+owns c = let a = c .args in own (a .reel .now) (a .code) (a .n) (a .i) (a .v) (a .w) (a .t) (c .pre)
+
+fits : (c : tie.Start) → let a = c .args in Fit (a .reel .now) (a .code) (a .n) (a .i) (a .v) (a .w) (a .t)
+fits c = let a = c .args in fit (a .reel .now) (a .code) (a .n) (a .i) (a .v) (a .w) (a .t) (owns c)
+
+mul-length : tie.Need-mul-length
+mul-length c = omega (arith, fits (c .before .before) .n-high)
+
+add-length : tie.Need-add-length
+add-length c = omega (arith, fits (c .before .before) .n-high)
+
+mul-length-2 : tie.Need-mul-length-2
+mul-length-2 c = omega (arith, fits (c .before .before) .size)
+
+add-length-2 : tie.Need-add-length-2
+add-length-2 c = omega (arith, fits (c .before .before) .size)
+
+returns : tie.Need-returns
+returns c =
+    let s = c .before .before .before in
+    let a = s .args in
+    short-end (a .reel .now) (a .out .now) (a .code) (a .n) (a .i) (a .v) (a .w) (a .t) (owns s) (c .if1 .taken)
+
+cast-put-record : tie.Need-cast-put-record
+cast-put-record c = omega (arith, fits (c .before .before .before) .n-high)
+
+cast-put-record-2 : tie.Need-cast-put-record-2
+cast-put-record-2 c = omega (arith, fits (c .before .before .before) .i-high)
+
+slice-relend-prefix-put-record : tie.Need-slice-relend-prefix-put-record
+slice-relend-prefix-put-record c = search needs
+
+slice-aggregate-put-record : tie.Need-slice-aggregate-put-record
+slice-aggregate-put-record c = sym (length-take-le (3273 + c .before .before .before .before .args .t * (186 + c .before .before .before .before .args .n * 6)) (c .before .before .before .before .args .out .now) (c .before .if1 .left))
+
+put-record-requires : tie.Need-put-record-requires
+put-record-requires c κs =
+    let s = c .before .before .before .before in
+    let a = s .args in
+    let f = fits s in
+    (f .a-code, f .n-high, f .strides ∙ ap (stride (a .n)) (f .width), f .few, f .room, length-take-le (3273 + a .t * (186 + a .n * 6)) (a .out .now) (c .before .if1 .left))
+
+same-length : tie.Need-same-length
+same-length c = search needs
+
+returns-2 : tie.Need-returns-2
+returns-2 c =
+    let s = c .before .before .before .before .before .before .before in
+    let a = s .args in
+    taken-end (a .reel .now) (a .out .now) (a .code) (a .n) (a .i) (a .v) (a .w) (a .t) (owns s) (all-bytes (a .reel .now) (λ i. omega (arith, c .before .before .before .before .before .before .shared-slice-known .given i))) _ (c .before .before .put-record .ensures) (c .before .before .before .before .if1 .left)
+
+pub read-checked-spec : {M : Type 1} → statement M
+read-checked-spec =
+    tie.close
+    (tie.spec
+    mul-length
+    add-length
+    mul-length-2
+    add-length-2
+    returns
+    cast-put-record
+    cast-put-record-2
+    slice-relend-prefix-put-record
+    slice-aggregate-put-record
+    put-record-requires
+    same-length
+    returns-2)

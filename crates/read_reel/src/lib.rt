@@ -1,0 +1,201 @@
+// Reading a whole reel into a record. Two passes: `reel::judge_reel` looks for a cause against the reel, and then the record is
+// written. Each function that writes is lent exactly the bytes that it writes.
+ghost use mathlib.Core.Path.{_≡_};
+ghost use mathlib.Core.Bool.{true};
+ghost use mathlib.Core.List.{_++_, map};
+ghost use Prim.Native.Nat.{_+_, _*_, _<_, _≤_};
+ghost use lib.ListN.{length};
+ghost use Rattle.numbers.specs.Walk.{flat};
+ghost use Rattle.numbers.specs.BigEndian.{bytesOf};
+ghost use Rattle.value.specs.Value.{isCode};
+ghost use Rattle.reel.specs.Layout.{firstTrace, number16, sampleBytes, stride};
+ghost use Rattle.reel.specs.Causes.{mostSamples, mostTraces, reelJudged};
+ghost use Rattle.reel.specs.Meaning.{blank};
+ghost use Rattle.read_samples.specs.Samples.{places};
+ghost use Rattle.record.specs.Answer.{outcome};
+ghost use Rattle.read_reel.specs.Reading.{readOutcome};
+ghost use Rattle.read_reel.specs.Copied.{tagBytes, recordBinaryCopied, headCopied, ownOr, headerCopied, recordTraceCopied, recordCopied};
+use numbers::Place;
+use record::Answer;
+use reel::Judged;
+
+// A field's tag, and the length of its content.
+fn put_tag(tag: u8, size: u16, out: &mut [u8])
+    requires { ⌜ length (now out) ≡ 3 ⌝ }
+    ensures { λ _. ⌜ now (out .exit) ≡ tagBytes tag size ⌝ }
+{
+    out[0] = tag;
+    numbers::put16(size, &mut out[1..3]);
+}
+
+fn blank_of(b: u8) -> u8
+    ensures { λ r. ⌜ r ≡ blank b ⌝ }
+{
+    if b == 0 {
+        return 0x40;
+    }
+    b
+}
+
+// Card bytes, 40 in place of 00.
+fn put_cards(src: &[u8], out: &mut [u8])
+    requires { ⌜ length (now out) ≡ length (now src) ⌝ }
+    ensures { λ _. ⌜ now (out .exit) ≡ map blank (now (src .entry)) ⌝ }
+{
+    let mut i = 0;
+    while i < src.len() {
+        out[i] = blank_of(src[i]);
+        i += 1;
+    }
+}
+
+// The number in two bytes, or the reel's own where it is 0.
+fn own_at(reel: &[u8], own: u16, at: usize) -> u16
+    requires { ⌜ at + 1 < length (now reel) ⌝ }
+    ensures { λ r. ⌜ r ≡ ownOr own (number16 (now (reel .entry)) at) ⌝ }
+{
+    let v = numbers::be16(reel[at], reel[at + 1]);
+    if v == 0 {
+        return own;
+    }
+    v
+}
+
+// A trace's 71 fields, with N and the interval filled in.
+fn put_header(reel: &[u8], n: u16, i: u16, at: usize, out: &mut [u8])
+    requires { ⌜ (at + 180 ≤ length (now reel)) × (length (now out) ≡ 180) ⌝ }
+    ensures { λ _. ⌜ now (out .exit) ≡ headerCopied (now (reel .entry)) n i at ⌝ }
+{
+    numbers::copy(&reel[at..at + 114], &mut out[0..114]);
+    numbers::put16(own_at(reel, n, at + 114), &mut out[114..116]);
+    numbers::put16(own_at(reel, i, at + 116), &mut out[116..118]);
+    numbers::copy(&reel[at + 118..at + 180], &mut out[118..180]);
+}
+
+// The binary header's 27 fields, the format code replaced by 0.
+fn put_binary(reel: &[u8], out: &mut [u8])
+    requires { ⌜ (3600 ≤ length (now reel)) × (length (now out) ≡ 60) ⌝ }
+    ensures { λ _. ⌜ now (out .exit) ≡ recordBinaryCopied (now (reel .entry)) ⌝ }
+{
+    numbers::copy(&reel[3200..3224], &mut out[0..24]);
+    numbers::put16(0, &mut out[24..26]);
+    numbers::copy(&reel[3226..3260], &mut out[26..60]);
+}
+
+// A trace: its header and its samples, each behind its tag.
+fn put_trace(reel: &[u8], code: usize, n: u16, i: u16, at: usize, out: &mut [u8])
+    requires { ⌜ (isCode code ≡ true) × (n ≤ mostSamples) × (at + stride n (sampleBytes code) ≤ length (now reel)) × (length (now out) ≡ 186 + n * 6) ⌝ }
+    ensures { λ _. ⌜ now (out .exit) ≡ recordTraceCopied (now (reel .entry)) code n i at ⌝ }
+{
+    let size = 6 * n;
+    let e = 186 + size as usize;
+    put_tag(3, 180, &mut out[0..3]);
+    put_header(reel, n, i, at, &mut out[3..183]);
+    put_tag(4, size, &mut out[183..186]);
+    read_samples::read_samples(reel, code, n as usize, at + 240, &mut out[186..e]);
+}
+
+// The traces, one behind the other.
+fn put_traces(
+    reel: &[u8],
+    code: usize,
+    n: u16,
+    i: u16,
+    w: usize,
+    m: usize,
+    t: usize,
+    out: &mut [u8],
+)
+    requires { ⌜ (isCode code ≡ true) × (n ≤ mostSamples) × (w ≡ stride n (sampleBytes code)) × (m ≡ 186 + n * 6) × (3600 + t * w ≤ length (now reel)) × (length (now out) ≡ t * m) ⌝ }
+    ensures { λ _. ⌜ now (out .exit) ≡ flat (map (recordTraceCopied (now (reel .entry)) code n i) (places w t firstTrace)) ⌝ }
+{
+    let mut at = 3600;
+    let mut o = 0;
+    let mut left = t;
+    while 0 < left {
+        let e = o + m;
+        put_trace(reel, code, n, i, at, &mut out[o..e]);
+        at += w;
+        o = e;
+        left -= 1;
+    }
+}
+
+// The count of traces behind its tag.
+fn put_count(t: u32, out: &mut [u8])
+    requires { ⌜ length (now out) ≡ 7 ⌝ }
+    ensures { λ _. ⌜ now (out .exit) ≡ tagBytes 5 4 ++ bytesOf 4 t ⌝ }
+{
+    put_tag(5, 4, &mut out[0..3]);
+    numbers::put32(t, &mut out[3..7]);
+}
+
+// The card bytes and the binary header, each behind its tag.
+fn put_head(reel: &[u8], out: &mut [u8])
+    requires { ⌜ (3600 ≤ length (now reel)) × (length (now out) ≡ 3266) ⌝ }
+    ensures { λ _. ⌜ now (out .exit) ≡ headCopied (now (reel .entry)) ⌝ }
+{
+    put_tag(1, 3200, &mut out[0..3]);
+    put_cards(&reel[0..3200], &mut out[3..3203]);
+    put_tag(2, 60, &mut out[3203..3206]);
+    put_binary(reel, &mut out[3206..3266]);
+}
+
+// The record of t traces of n samples, which fills out.
+fn put_record(reel: &[u8], code: usize, n: u16, i: u16, w: usize, t: usize, out: &mut [u8])
+    requires { ⌜ (isCode code ≡ true) × (n ≤ mostSamples) × (w ≡ stride n (sampleBytes code)) × (t ≤ mostTraces) × (3600 + t * w ≤ length (now reel)) × (length (now out) ≡ 3273 + t * (186 + n * 6)) ⌝ }
+    ensures { λ _. ⌜ now (out .exit) ≡ recordCopied (now (reel .entry)) code n i w t ⌝ }
+{
+    let m = 186 + n as usize * 6;
+    let e = 3266 + t * m;
+    put_head(reel, &mut out[0..3266]);
+    put_traces(reel, code, n, i, w, m, t, &mut out[3266..e]);
+    put_count(t as u32, &mut out[e..e + 7]);
+}
+
+// A reel to which no cause of 1 to 9 applies, by its own numbers.
+fn read_checked(
+    reel: &[u8],
+    code: usize,
+    n: usize,
+    i: usize,
+    v: usize,
+    w: usize,
+    t: usize,
+    out: &mut [u8],
+) -> Answer
+    requires { ⌜ reelJudged (now reel) ≡ Judged.Fine code n i v w t ⌝ }
+    ensures { λ r. ⌜ outcome r (now (out .exit)) ≡ readOutcome (now (reel .entry)) (now (out .entry)) ⌝ }
+{
+    let length = 3273 + t * (186 + n * 6);
+    if out.len() < length {
+        return Answer::Refused {
+            number: 10,
+            place: Place(length),
+        };
+    }
+    put_record(reel, code, n as u16, i as u16, w, t, &mut out[..length]);
+    Answer::Taken {
+        traces: t,
+        samples: n,
+        length,
+    }
+}
+
+// Reads a reel into the front of a record buffer.
+pub fn read_reel(reel: &[u8], out: &mut [u8]) -> Answer
+    ensures { λ r. ⌜ outcome r (now (out .exit)) ≡ readOutcome (now (reel .entry)) (now (out .entry)) ⌝ }
+{
+    let c = reel::judge_reel(reel);
+    match c {
+        Judged::Refused { number, place } => Answer::Refused { number, place },
+        Judged::Fine {
+            code,
+            samples,
+            interval,
+            width,
+            stride,
+            traces,
+        } => read_checked(reel, code, samples, interval, width, stride, traces, out),
+    }
+}
