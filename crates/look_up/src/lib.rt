@@ -115,7 +115,7 @@ fn field_number(reel: &[u8], start: Place, b: ByteNo, width: u32) -> i32
     requires { ⌜ OnReel (now reel) (placeNo start) (byteNo b) width ⌝ }
     ensures { λ r. ⌜ r ≡ fieldNumber (now (reel .entry)) (placeNo start) (theField (byteNo b) width) ⌝ }
 {
-    let place = numbers::place_of(start, b);
+    let place = places::place_of(start, b);
     let Located::At(p) = place else {
         return 0;
     };

@@ -1,12 +1,8 @@
-// What every layer uses: byte numbers and places, big-endian numbers, two's complement.
+// What every layer uses: the types of places, byte numbers and checks, big-endian numbers, two's complement.
 ghost use mathlib.Core.Path.{_≡_};
 ghost use mathlib.Core.List.{[], _∷_};
-ghost use Prim.Native.Nat.{_+_, _*_};
-ghost use lib.Dec.{leb, eqb};
-ghost use Rattle.numbers.specs.Walk.{copyOf};
 ghost use Rattle.numbers.specs.BigEndian.{number, bytesOf};
 ghost use Rattle.numbers.specs.TwosComplement.{signedOf, bitsOf};
-ghost use Rattle.numbers.specs.Places.{located, fieldPlace};
 
 // A byte number, document 01's own term: the standard's, counted from 1.
 pub struct ByteNo(pub u32);
@@ -26,35 +22,6 @@ pub enum Check {
 pub enum Located {
     At(Place),
     Nowhere,
-}
-
-// The one conversion, where byte number 1 stands at the place start: at 0 for the byte numbers of
-// the binary header, at the trace's first byte for those of a trace header.
-pub fn place_of(start: Place, b: ByteNo) -> Located
-    ensures { λ r. ⌜ r ≡ located start b ⌝ }
-{
-    let from = start.0;
-    let n = b.0;
-    if n < 1 {
-        return Located::Nowhere;
-    }
-    let past = (n - 1) as usize;
-    if 0xffff_ffff_ffff_ffff - past < from {
-        return Located::Nowhere;
-    }
-    Located::At(Place(from + past))
-}
-
-// The place of a field of a header whose byte number 1 stands at the place start. A byte number that
-// stands nowhere gets the last number of 64 bits, a place at which no input has a byte.
-pub fn field_at(start: Place, b: ByteNo) -> Place
-    ensures { λ r. ⌜ r ≡ fieldPlace start b ⌝ }
-{
-    let found = place_of(start, b);
-    let Located::At(p) = found else {
-        return Place(0xffff_ffff_ffff_ffff);
-    };
-    p
 }
 
 // The number of two bytes, the first of which stands highest.
@@ -132,66 +99,4 @@ pub fn bits32(z: i32) -> u32
     } else {
         z as u32
     }
-}
-
-// Copies a slice into another of the same length. One of another length is left as it was.
-pub fn copy(src: &[u8], out: &mut [u8])
-    ensures { λ _. ⌜ now (out .exit) ≡ copyOf (now (src .entry)) (now (out .entry)) ⌝ }
-{
-    if out.len() != src.len() {
-        return;
-    }
-    let mut i = 0;
-    while i < src.len() {
-        out[i] = src[i];
-        i += 1;
-    }
-}
-
-// Stores a number in a slice of two bytes, and in one of four. A slice of another length is left as it was.
-pub fn put16(n: u16, out: &mut [u8])
-    ensures { λ _. ⌜ now (out .exit) ≡ copyOf (bytesOf 2 n) (now (out .entry)) ⌝ }
-{
-    if out.len() != 2 {
-        return;
-    }
-    let b = bytes16(n);
-    out[0] = b[0];
-    out[1] = b[1];
-}
-
-pub fn put32(n: u32, out: &mut [u8])
-    ensures { λ _. ⌜ now (out .exit) ≡ copyOf (bytesOf 4 n) (now (out .entry)) ⌝ }
-{
-    if out.len() != 4 {
-        return;
-    }
-    let b = bytes32(n);
-    out[0] = b[0];
-    out[1] = b[1];
-    out[2] = b[2];
-    out[3] = b[3];
-}
-
-// Whether n parts of w bytes each, from a place on, are within so many bytes.
-pub fn are_within(bytes: usize, n: usize, w: usize, start: usize) -> bool
-    ensures { λ r. ⌜ r ≡ leb (start + n * w) bytes ⌝ }
-{
-    if bytes < start {
-        return false;
-    }
-    if w < 1 {
-        return true;
-    }
-    n <= (bytes - start) / w
-}
-
-// Whether n parts of w bytes each make up so many bytes.
-pub fn make_up(bytes: usize, n: usize, w: usize) -> bool
-    ensures { λ r. ⌜ r ≡ eqb bytes (n * w) ⌝ }
-{
-    if !are_within(bytes, n, w, 0) {
-        return false;
-    }
-    bytes == n * w
 }

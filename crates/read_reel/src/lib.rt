@@ -25,7 +25,7 @@ fn put_tag(tag: u8, size: u16, out: &mut [u8])
     ensures { λ _. ⌜ now (out .exit) ≡ tagBytes tag size ⌝ }
 {
     out[0] = tag;
-    numbers::put16(size, &mut out[1..3]);
+    slices::put16(size, &mut out[1..3]);
 }
 
 fn blank_of(b: u8) -> u8
@@ -66,10 +66,10 @@ fn put_header(reel: &[u8], n: u16, i: u16, at: usize, out: &mut [u8])
     requires { ⌜ (at + 180 ≤ length (now reel)) × (length (now out) ≡ 180) ⌝ }
     ensures { λ _. ⌜ now (out .exit) ≡ headerCopied (now (reel .entry)) n i at ⌝ }
 {
-    numbers::copy(&reel[at..at + 114], &mut out[0..114]);
-    numbers::put16(own_at(reel, n, at + 114), &mut out[114..116]);
-    numbers::put16(own_at(reel, i, at + 116), &mut out[116..118]);
-    numbers::copy(&reel[at + 118..at + 180], &mut out[118..180]);
+    slices::copy(&reel[at..at + 114], &mut out[0..114]);
+    slices::put16(own_at(reel, n, at + 114), &mut out[114..116]);
+    slices::put16(own_at(reel, i, at + 116), &mut out[116..118]);
+    slices::copy(&reel[at + 118..at + 180], &mut out[118..180]);
 }
 
 // The binary header's 27 fields, the format code replaced by 0.
@@ -77,9 +77,9 @@ fn put_binary(reel: &[u8], out: &mut [u8])
     requires { ⌜ (3600 ≤ length (now reel)) × (length (now out) ≡ 60) ⌝ }
     ensures { λ _. ⌜ now (out .exit) ≡ recordBinaryCopied (now (reel .entry)) ⌝ }
 {
-    numbers::copy(&reel[3200..3224], &mut out[0..24]);
-    numbers::put16(0, &mut out[24..26]);
-    numbers::copy(&reel[3226..3260], &mut out[26..60]);
+    slices::copy(&reel[3200..3224], &mut out[0..24]);
+    slices::put16(0, &mut out[24..26]);
+    slices::copy(&reel[3226..3260], &mut out[26..60]);
 }
 
 // A trace: its header and its samples, each behind its tag.
@@ -127,7 +127,7 @@ fn put_count(t: u32, out: &mut [u8])
     ensures { λ _. ⌜ now (out .exit) ≡ tagBytes 5 4 ++ bytesOf 4 t ⌝ }
 {
     put_tag(5, 4, &mut out[0..3]);
-    numbers::put32(t, &mut out[3..7]);
+    slices::put32(t, &mut out[3..7]);
 }
 
 // The card bytes and the binary header, each behind its tag.

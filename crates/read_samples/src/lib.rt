@@ -21,10 +21,10 @@ fn put_exponent(word: Sample, out: &mut [u8])
     ensures { λ _. ⌜ now (out .exit) ≡ exponentContent word ⌝ }
 {
     let Sample::Taken { e, m: _ } = word else {
-        numbers::put16(0, out);
+        slices::put16(0, out);
         return;
     };
-    numbers::put16(numbers::bits16(e), out);
+    slices::put16(numbers::bits16(e), out);
 }
 
 fn put_mantissa(word: Sample, out: &mut [u8])
@@ -32,10 +32,10 @@ fn put_mantissa(word: Sample, out: &mut [u8])
     ensures { λ _. ⌜ now (out .exit) ≡ mantissaContent word ⌝ }
 {
     let Sample::Taken { e: _, m } = word else {
-        numbers::put32(0, out);
+        slices::put32(0, out);
         return;
     };
-    numbers::put32(numbers::bits32(m), out);
+    slices::put32(numbers::bits32(m), out);
 }
 
 fn put_sample(word: Sample, out: &mut [u8])
@@ -220,10 +220,10 @@ fn do_fit(bytes: usize, code: usize, n: usize, start: usize, size: usize) -> boo
     if !reel::is_code(code) {
         return false;
     }
-    if !numbers::are_within(bytes, n, reel::width_of(code), start) {
+    if !slices::are_within(bytes, n, reel::width_of(code), start) {
         return false;
     }
-    numbers::make_up(size, n, 6)
+    slices::make_up(size, n, 6)
 }
 
 // The samples of a trace: the pairs of n words from a place on. Where the code isn't 1 to 4, the words aren't all there or the output isn't as

@@ -128,15 +128,15 @@ fn check_same(n: usize, own: usize, place: Place) -> Check
 fn check_numbers(i: usize, n: usize, code: usize) -> Check
     ensures { λ r. ⌜ r ≡ numberCauses i n code ⌝ }
 {
-    let a = reel::check_limits(i, 1, 32767, 13, numbers::field_at(Place(6), ByteNo(3217)));
+    let a = reel::check_limits(i, 1, 32767, 13, places::field_at(Place(6), ByteNo(3217)));
     let Check::Fine = a else {
         return a;
     };
-    let b = reel::check_limits(n, 1, 8000, 13, numbers::field_at(Place(6), ByteNo(3221)));
+    let b = reel::check_limits(n, 1, 8000, 13, places::field_at(Place(6), ByteNo(3221)));
     let Check::Fine = b else {
         return b;
     };
-    check_same(code, 0, numbers::field_at(Place(6), ByteNo(3225)))
+    check_same(code, 0, places::field_at(Place(6), ByteNo(3225)))
 }
 
 // The number in a field of the binary header.
@@ -144,7 +144,7 @@ fn binary_word(record: &[u8], b: ByteNo) -> usize
     requires { ⌜ (1 ≤ byteNo b) × (byteNo b + 6 < length (now «record»)) ⌝ }
     ensures { λ r. ⌜ (r ≡ number16 (now («record» .entry)) (byteNo b + 5)) × (r < 2 ^ 16) ⌝ }
 {
-    word_at(record, numbers::field_at(Place(6), b))
+    word_at(record, places::field_at(Place(6), b))
 }
 
 // 12 and 13 of tag 02.
@@ -203,7 +203,7 @@ fn check_like(record: &[u8], start: usize, b: ByteNo, own: usize) -> Check
     requires { ⌜ (1 ≤ byteNo b) × (start + byteNo b < length (now «record»)) ⌝ }
     ensures { λ r. ⌜ r ≡ refuseIf (not (eqb (number16 (now («record» .entry)) (start + (byteNo b - 1))) own)) 13 (start + (byteNo b - 1)) ⌝ }
 {
-    let p = numbers::field_at(Place(start), b);
+    let p = places::field_at(Place(start), b);
     check_same(word_at(record, p), own, p)
 }
 

@@ -6,7 +6,7 @@ ghost use Rattle.numbers.specs.Walk.{walk};
 ghost use mathlib.Core.Bool.{not};
 ghost use Rattle.numbers.specs.Cause.{refuseIf, then, firstOf};
 ghost use Rattle.numbers.specs.declared.Check.the-variants.{Fine};
-ghost use Rattle.numbers.specs.Places.{placeNo, byteNo};
+ghost use Rattle.numbers.specs.Places.{placeNo, byteNo, bytePlace};
 ghost use Rattle.value.specs.Value.{isCode};
 ghost use Rattle.reel.specs.Layout.{firstTrace, number16, sampleBytes, stride};
 ghost use Rattle.reel.specs.Causes.{within, neither, limitCauses, sizeCauses, wordCause, traceCauses, behindCauses, causesOf, reelJudged};
@@ -33,21 +33,12 @@ pub enum Judged {
     },
 }
 
-// The number in the two bytes at a place.
-fn word_at(reel: &[u8], p: Place) -> usize
-    requires { ⌜ placeNo p + 1 < length (now reel) ⌝ }
-    ensures { λ r. ⌜ (r ≡ number16 (now (reel .entry)) (placeNo p)) × (r < 2 ^ 16) ⌝ }
-{
-    let at = p.0;
-    numbers::be16(reel[at], reel[at + 1]) as usize
-}
-
 // The number in a field of the binary header.
-fn binary_word(reel: &[u8], b: ByteNo) -> usize
-    requires { ⌜ (1 ≤ byteNo b) × (byteNo b < length (now reel)) ⌝ }
-    ensures { λ r. ⌜ (r ≡ number16 (now (reel .entry)) (byteNo b - 1)) × (r < 2 ^ 16) ⌝ }
+fn binary_number(reel: &[u8], b: ByteNo) -> usize
+    requires { ⌜ 1 ≤ byteNo b ⌝ }
+    ensures { λ r. ⌜ (r ≡ number16 (now (reel .entry)) (bytePlace 0 (byteNo b))) × (r < 2 ^ 16) ⌝ }
 {
-    word_at(reel, numbers::field_at(Place(0), b))
+    slices::number16_at(reel, places::field_at(Place(0), b)) as usize
 }
 
 // A cause that applies where a number is outside its limits.
@@ -65,10 +56,9 @@ pub fn check_limits(n: usize, least: usize, most: usize, number: u8, place: Plac
 
 // A cause that applies where a trace's own number, which stands at a place, is neither 0 nor the reel's.
 fn check_own(reel: &[u8], place: Place, own: usize, number: u8) -> Check
-    requires { ⌜ placeNo place + 1 < length (now reel) ⌝ }
     ensures { λ r. ⌜ r ≡ refuseIf (neither (number16 (now (reel .entry)) (placeNo place)) own) number (placeNo place) ⌝ }
 {
-    let n = word_at(reel, place);
+    let n = slices::number16_at(reel, place) as usize;
     if n == 0 {
         return Check::Fine;
     }
@@ -82,15 +72,15 @@ fn check_own(reel: &[u8], place: Place, own: usize, number: u8) -> Check
 fn check_header(code: usize, n: usize, i: usize) -> Check
     ensures { λ r. ⌜ r ≡ limitCauses code n i ⌝ }
 {
-    let a = check_limits(code, 1, 4, 2, numbers::field_at(Place(0), ByteNo(3225)));
+    let a = check_limits(code, 1, 4, 2, places::field_at(Place(0), ByteNo(3225)));
     let Check::Fine = a else {
         return a;
     };
-    let b = check_limits(n, 1, 8000, 3, numbers::field_at(Place(0), ByteNo(3221)));
+    let b = check_limits(n, 1, 8000, 3, places::field_at(Place(0), ByteNo(3221)));
     let Check::Fine = b else {
         return b;
     };
-    check_limits(i, 1, 32767, 4, numbers::field_at(Place(0), ByteNo(3217)))
+    check_limits(i, 1, 32767, 4, places::field_at(Place(0), ByteNo(3217)))
 }
 
 // 5 and 6: the bytes behind the last whole trace, and the count of traces.
@@ -149,11 +139,11 @@ fn check_trace(reel: &[u8], code: usize, n: usize, i: usize, v: usize, at: usize
     requires { ⌜ (v ≡ sampleBytes code) × (at + (240 + n * v) ≤ length (now reel)) ⌝ }
     ensures { λ r. ⌜ r ≡ traceCauses (now (reel .entry)) code n i at ⌝ }
 {
-    let a = check_own(reel, numbers::field_at(Place(at), ByteNo(115)), n, 7);
+    let a = check_own(reel, places::field_at(Place(at), ByteNo(115)), n, 7);
     let Check::Fine = a else {
         return a;
     };
-    let b = check_own(reel, numbers::field_at(Place(at), ByteNo(117)), i, 8);
+    let b = check_own(reel, places::field_at(Place(at), ByteNo(117)), i, 8);
     let Check::Fine = b else {
         return b;
     };
@@ -241,9 +231,9 @@ fn check_causes(reel: &[u8]) -> Check
     }
     check_numbers(
         reel,
-        binary_word(reel, ByteNo(3225)),
-        binary_word(reel, ByteNo(3221)),
-        binary_word(reel, ByteNo(3217)),
+        binary_number(reel, ByteNo(3225)),
+        binary_number(reel, ByteNo(3221)),
+        binary_number(reel, ByteNo(3217)),
     )
 }
 
@@ -252,9 +242,9 @@ fn own_numbers(reel: &[u8]) -> Judged
     requires { ⌜ causesOf (now reel) ≡ Fine ⌝ }
     ensures { λ r. ⌜ r ≡ reelJudged (now (reel .entry)) ⌝ }
 {
-    let code = binary_word(reel, ByteNo(3225));
-    let samples = binary_word(reel, ByteNo(3221));
-    let interval = binary_word(reel, ByteNo(3217));
+    let code = binary_number(reel, ByteNo(3225));
+    let samples = binary_number(reel, ByteNo(3221));
+    let interval = binary_number(reel, ByteNo(3217));
     let width = width_of(code);
     let stride = 240 + samples * width;
     Judged::Fine {

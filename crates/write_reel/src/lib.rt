@@ -36,7 +36,7 @@ fn put_trace(record: &[u8], code: u32, n: usize, at: usize, out: &mut [u8])
     ensures { λ _. ⌜ now (out .exit) ≡ reelTraceCopied (now («record» .entry)) code n at ⌝ }
 {
     let e = out.len();
-    numbers::copy(&record[at + 3..at + 183], &mut out[0..180]);
+    slices::copy(&record[at + 3..at + 183], &mut out[0..180]);
     put_zeros(&mut out[180..240]);
     write_samples::write_samples(record, code, n, at + 186, &mut out[240..e]);
 }
@@ -73,9 +73,9 @@ fn put_binary(record: &[u8], code: u32, out: &mut [u8])
     requires { ⌜ (isCode code ≡ true) × (tracesPlace ≤ length (now «record»)) × (length (now out) ≡ 400) ⌝ }
     ensures { λ _. ⌜ now (out .exit) ≡ reelBinaryCopied (now («record» .entry)) code ⌝ }
 {
-    numbers::copy(&record[3206..3230], &mut out[0..24]);
+    slices::copy(&record[3206..3230], &mut out[0..24]);
     put_code(code, &mut out[24..26]);
-    numbers::copy(&record[3232..3266], &mut out[26..60]);
+    slices::copy(&record[3232..3266], &mut out[26..60]);
     put_zeros(&mut out[60..400]);
 }
 
@@ -85,7 +85,7 @@ fn put_reel(record: &[u8], code: u32, n: usize, w: usize, t: usize, out: &mut [u
     ensures { λ _. ⌜ now (out .exit) ≡ reelCopied (now («record» .entry)) code n t ⌝ }
 {
     let e = out.len();
-    numbers::copy(&record[3..3203], &mut out[0..3200]);
+    slices::copy(&record[3..3203], &mut out[0..3200]);
     put_binary(record, code, &mut out[3200..3600]);
     put_traces(record, code, n, w, 186 + 6 * n, t, &mut out[3600..e]);
 }

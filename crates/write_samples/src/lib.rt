@@ -117,14 +117,14 @@ fn put_word(code: u32, p: Pair, out: &mut [u8])
     ensures { λ _. ⌜ now (out .exit) ≡ wordBytes code (writePair code p) ⌝ }
 {
     if code < 2 {
-        numbers::put32(p.ibm_bits(), out);
+        slices::put32(p.ibm_bits(), out);
         return;
     }
     if code < 3 {
-        numbers::put32(p.whole32_bits(), out);
+        slices::put32(p.whole32_bits(), out);
         return;
     }
-    numbers::put32(p.gain_bits(), out);
+    slices::put32(p.gain_bits(), out);
 }
 
 // The samples of a trace, words of four bytes. The bits of a pair are fetched a turn early.
@@ -150,7 +150,7 @@ fn put_words(record: &[u8], code: u32, n: usize, start: usize, out: &mut [u8])
         left -= 1;
     }
     let bits = bits_of(value::write(code, value::pair_of_bits(e, m)));
-    numbers::put32(bits, &mut out[o..o + 4]);
+    slices::put32(bits, &mut out[o..o + 4]);
 }
 
 // The same of words of two bytes, which code 3 has.
@@ -197,7 +197,7 @@ fn are_there(bytes: usize, code: u32, n: usize, start: usize) -> bool
     if !reel::is_code(code as usize) {
         return false;
     }
-    numbers::are_within(bytes, n, 6, start)
+    slices::are_within(bytes, n, 6, start)
 }
 
 // The first of a trace's samples that can't be written under a code: the cause 13 or 14 against its pair, of n pairs from a place on. Where the
@@ -219,7 +219,7 @@ pub fn write_samples(record: &[u8], code: u32, n: usize, start: usize, out: &mut
     if !are_there(record.len(), code, n, start) {
         return;
     }
-    if !numbers::make_up(out.len(), n, reel::width_of(code as usize)) {
+    if !slices::make_up(out.len(), n, reel::width_of(code as usize)) {
         return;
     }
     put_samples(record, code, n, start, out);

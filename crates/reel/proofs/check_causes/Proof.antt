@@ -17,14 +17,14 @@ returns : tie.Need-returns
 unfolding causesOf
 returns c = rw (lt-ltb (length (c .before .before .args .reel .now)) firstTrace (c .if1 .taken))
 
-binary-word-requires : tie.Need-binary-word-requires
-binary-word-requires c κs = search needs
+binary-number-requires : tie.Need-binary-number-requires
+binary-number-requires c κs = search needs
 
-binary-word-requires-2 : tie.Need-binary-word-requires-2
-binary-word-requires-2 c κs = search needs
+binary-number-requires-2 : tie.Need-binary-number-requires-2
+binary-number-requires-2 c κs = search needs
 
-binary-word-requires-3 : tie.Need-binary-word-requires-3
-binary-word-requires-3 c κs = search needs
+binary-number-requires-3 : tie.Need-binary-number-requires-3
+binary-number-requires-3 c κs = search needs
 
 check-numbers-requires : tie.Need-check-numbers-requires
 check-numbers-requires c κs = search needs
@@ -34,9 +34,9 @@ unfolding causesOf
 returns-2 c =
     let s = c .before .before .before .before .before .before .args .reel .now in
     let f : ℕ → ℕ → ℕ → Check = λ x y z. then (limitCauses x y z) (behindCauses s x y z (stride y (sampleBytes x))) in
-    let e₁ = ap (λ (x : ℕ). f x (c .before .before .binary-word2 .result) (c .before .binary-word3 .result)) (c .before .before .before .binary-word .ensures .0) in
-    let e₂ = ap (λ (x : ℕ). f (codeOf s) x (c .before .binary-word3 .result)) (c .before .before .binary-word2 .ensures .0) in
-    let e₃ = ap (λ (x : ℕ). f (codeOf s) (samplesOf s) x) (c .before .binary-word3 .ensures .0) in
+    let e₁ = ap (λ (x : ℕ). f x (c .before .before .binary-number2 .result) (c .before .binary-number3 .result)) (c .before .before .before .binary-number .ensures .0) in
+    let e₂ = ap (λ (x : ℕ). f (codeOf s) x (c .before .binary-number3 .result)) (c .before .before .binary-number2 .ensures .0) in
+    let e₃ = ap (λ (x : ℕ). f (codeOf s) (samplesOf s) x) (c .before .binary-number3 .ensures .0) in
     c .check-numbers .ensures ∙ e₁ ∙ e₂ ∙ e₃
     ∙ then-next (refuseIf (ltb (length s) firstTrace) 1 (length s)) _ (rw (le-ltb (length s) firstTrace (c .before .before .before .before .if1 .left)))
 
@@ -45,8 +45,8 @@ check-causes-spec =
     tie.close
     (tie.spec
     returns
-    binary-word-requires
-    binary-word-requires-2
-    binary-word-requires-3
+    binary-number-requires
+    binary-number-requires-2
+    binary-number-requires-3
     check-numbers-requires
     returns-2)

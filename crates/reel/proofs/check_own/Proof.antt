@@ -12,33 +12,36 @@ use Rattle.reel.proofs.check_own.Statement.{statement}
 use Rattle.reel.proofs.check_own.Tie as tie
 
 -- the cause by the number that was read
-abbrev cause : (c : tie.After-word-at) → ℕ → Check
+abbrev cause : (c : tie.After-number16-at) → ℕ → Check
 cause c x = let a = c .before .before .args in refuseIf (neither x (a .own)) (a .number) (placeNo (a .place))
 
-word-at-requires : tie.Need-word-at-requires
-word-at-requires c κs = search needs
+number16-at-requires : tie.Need-number16-at-requires
+number16-at-requires c κs = search needs
+
+cast-n : tie.Need-cast-n
+cast-n c = search needs
 
 returns : tie.Need-returns
 returns c =
     let w = c .before in
-    let n = w .word-at .result in
+    let n = w .number16-at .result in
     let k : Fine ≡ cause w n = rw (eq-eqb n 0 (c .if1 .taken)) in
-    k ∙ ap (cause w) (w .word-at .ensures .0)
+    k ∙ ap (cause w) (w .number16-at .ensures)
 
 returns-2 : tie.Need-returns-2
 returns-2 c =
     let w = c .before .before in
-    let n = w .word-at .result in
+    let n = w .number16-at .result in
     let k : Fine ≡ cause w n = rw (ne-eqb n 0 (c .before .if1 .left), eq-eqb n (w .before .before .args .own) (c .if2 .taken)) in
-    k ∙ ap (cause w) (w .word-at .ensures .0)
+    k ∙ ap (cause w) (w .number16-at .ensures)
 
 returns-3 : tie.Need-returns-3
 returns-3 c =
     let w = c .before .before in
-    let n = w .word-at .result in
+    let n = w .number16-at .result in
     let a = w .before .before .args in
     let k : Refused (a .number) (a .place) ≡ cause w n = rw (ne-eqb n 0 (c .before .if1 .left), ne-eqb n (a .own) (c .if2 .left)) in
-    k ∙ ap (cause w) (w .word-at .ensures .0)
+    k ∙ ap (cause w) (w .number16-at .ensures)
 
 pub check-own-spec : {M : Type 1} → statement M
-check-own-spec = tie.close (tie.spec word-at-requires returns returns-2 returns-3)
+check-own-spec = tie.close (tie.spec number16-at-requires cast-n returns returns-2 returns-3)

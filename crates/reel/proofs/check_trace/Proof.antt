@@ -57,7 +57,7 @@ field-at-requires : tie.Need-field-at-requires
 field-at-requires c κs = search needs
 
 check-own-requires : tie.Need-check-own-requires
-check-own-requires c κs = omega (arith, place7 c, c .before .before .pre)
+check-own-requires c κs = tt
 
 enum-told : tie.Need-enum-told
 enum-told c = search needs
@@ -73,7 +73,7 @@ field-at-requires-2 : tie.Need-field-at-requires-2
 field-at-requires-2 c κs = search needs
 
 check-own-requires-2 : tie.Need-check-own-requires-2
-check-own-requires-2 c κs = omega (arith, place8 c, c .before .before .before .before .before .before .pre)
+check-own-requires-2 c κs = tt
 
 enum-told-3 : tie.Need-enum-told-3
 enum-told-3 c = search needs

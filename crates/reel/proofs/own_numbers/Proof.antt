@@ -10,17 +10,17 @@ use Rattle.reel.proofs.own_numbers.Tie as tie
 fine : (c : tie.Start) → Sound (c .args .reel .now)
 fine c = reel-fine (c .args .reel .now) (c .pre)
 
-small : (c : tie.After-width-of) → c .before .before .binary-word2 .result * c .width-of .result ≤ 65536 * 4
-small c = mul-le-mul (le-of-lt (c .before .before .binary-word2 .ensures .1)) (c .width-of .ensures .2)
+small : (c : tie.After-width-of) → c .before .before .binary-number2 .result * c .width-of .result ≤ 65536 * 4
+small c = mul-le-mul (le-of-lt (c .before .before .binary-number2 .ensures .1)) (c .width-of .ensures .2)
 
-binary-word-requires : tie.Need-binary-word-requires
-binary-word-requires c κs = omega (arith, fine (c .before) .long)
+binary-number-requires : tie.Need-binary-number-requires
+binary-number-requires c κs = omega arith
 
-binary-word-requires-2 : tie.Need-binary-word-requires-2
-binary-word-requires-2 c κs = omega (arith, fine (c .before .before) .long)
+binary-number-requires-2 : tie.Need-binary-number-requires-2
+binary-number-requires-2 c κs = omega arith
 
-binary-word-requires-3 : tie.Need-binary-word-requires-3
-binary-word-requires-3 c κs = omega (arith, fine (c .before .before .before) .long)
+binary-number-requires-3 : tie.Need-binary-number-requires-3
+binary-number-requires-3 c κs = omega arith
 
 width-of-requires : tie.Need-width-of-requires
 width-of-requires c κs = search needs
@@ -40,15 +40,15 @@ div-t10 c = search needs
 returns : tie.Need-returns
 returns c =
     let s = c .before .before .before .before .before in
-    rw (s .pre, c .before .before .before .binary-word .ensures .0, c .before .before .binary-word2 .ensures .0, c .before .binary-word3 .ensures .0, c .width-of .ensures .0, c .before .before .before .binary-word .ensures .0)
+    rw (s .pre, c .before .before .before .binary-number .ensures .0, c .before .before .binary-number2 .ensures .0, c .before .binary-number3 .ensures .0, c .width-of .ensures .0, c .before .before .before .binary-number .ensures .0)
 
 pub own-numbers-spec : {M : Type 1} → statement M
 own-numbers-spec =
     tie.close
     (tie.spec
-    binary-word-requires
-    binary-word-requires-2
-    binary-word-requires-3
+    binary-number-requires
+    binary-number-requires-2
+    binary-number-requires-3
     width-of-requires
     mul-stride
     add-stride

@@ -1,9 +1,9 @@
--- `numbers::field_at` meets its contract. Assumes nothing.
+-- `places::field_at` meets its contract. Assumes nothing.
 use Rattle.numbers.specs.Places.{placeOr}
 use mathlib.Core.Path.{_≡_, sym, ap, _∙_}
 use borrow.Author.Needs.{needs}
-use Rattle.numbers.proofs.field_at.Statement.{statement}
-use Rattle.numbers.proofs.field_at.Tie as tie
+use Rattle.places.proofs.field_at.Statement.{statement}
+use Rattle.places.proofs.field_at.Tie as tie
 
 place-of-requires : tie.Need-place-of-requires
 place-of-requires c κs = search needs

@@ -1,4 +1,4 @@
--- `numbers::are_within` meets its contract. Assumes nothing.
+-- `slices::are_within` meets its contract. Assumes nothing.
 use borrow.Author.Tests.{le-leb, lt-leb}
 use borrow.Author.Needs.{needs}
 use lib.Dec.{leb}
@@ -7,9 +7,9 @@ use native.Mathlib.Omega.{arith}
 use mathlib.Core.Logic.{⊎-elim}
 use mathlib.Core.Path.{_≡_, sym, ap, _∙_}
 use Prim.Native.Nat.{ℕ, _+_, _-_, _*_, _/_, _≤_, _<_}
 use Rattle.numbers.proofs.SignLaws.{below-or}
-use Rattle.numbers.proofs.are_within.Statement.{statement}
-use Rattle.numbers.proofs.are_within.Tie as tie
+use Rattle.slices.proofs.are_within.Statement.{statement}
+use Rattle.slices.proofs.are_within.Tie as tie
 
 -- a quotient in place of a product
 quotient : (b n w s : ℕ) → s ≤ b → 0 < w → leb n ((b - s) / w) ≡ leb (s + n * w) b

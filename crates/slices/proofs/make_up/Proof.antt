@@ -1,10 +1,10 @@
--- `numbers::make_up` meets its contract. Assumes nothing.
+-- `slices::make_up` meets its contract. Assumes nothing.
 use borrow.Author.Tests.{leb-true, leb-false, not-true, not-false, ne-eqb}
 use Prim.Native.Nat.{_+_, _*_, _≤_, _<_}
 use mathlib.Core.Path.{_≡_, refl, sym, _∙_}
 use native.Mathlib.Omega.{arith}
-use Rattle.numbers.proofs.make_up.Statement.{statement}
-use Rattle.numbers.proofs.make_up.Tie as tie
+use Rattle.slices.proofs.make_up.Statement.{statement}
+use Rattle.slices.proofs.make_up.Tie as tie
 
 are-within-requires : tie.Need-are-within-requires
 are-within-requires c κs = tt

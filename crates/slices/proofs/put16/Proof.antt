@@ -1,7 +1,7 @@
--- `numbers::put16` meets its contract. Assumes nothing.
+-- `slices::put16` meets its contract. Assumes nothing.
 use Rattle.numbers.specs.Walk.{copyOf}
 use Rattle.numbers.specs.BigEndian.{bytesOf}
 use Rattle.numbers.proofs.WalkLaws.{stored-copy, copied}
 use borrow.Author.Tests.{ne-eqb}
 use lib.Dec.{lit<}
 use lib.ListN.{length, getD}
@@ -9,8 +9,8 @@ use lib.Seq.{lt-length-sets}
 use mathlib.Core.List.{[], _∷_}
 use mathlib.Core.Path.{refl, sym, ap, _∙_}
 use native.Mathlib.Omega.{arith}
-use Rattle.numbers.proofs.put16.Statement.{statement}
-use Rattle.numbers.proofs.put16.Tie as tie
+use Rattle.slices.proofs.put16.Statement.{statement}
+use Rattle.slices.proofs.put16.Tie as tie
 
 returns : tie.Need-returns
 unfolding copyOf

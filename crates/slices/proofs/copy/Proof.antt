@@ -1,15 +1,15 @@
--- `numbers::copy` meets its contract. Assumes nothing.
+-- `slices::copy` meets its contract. Assumes nothing.
 use Rattle.numbers.proofs.Filling.{Filling, start, finish, again, put}
 use Rattle.numbers.proofs.WalkLaws.{drop-next, copied}
 use Rattle.numbers.specs.Walk.{copyOf}
 use borrow.Author.Tests.{ne-eqb}
 use lib.ListN.{length, drop, length-set, drop-of-length-le}
 use Prim.Native.Nat.{_-_, _≤_}
 use mathlib.Core.Path.{_≡_, refl, sym, _∙_}
 use native.Mathlib.Omega.{arith}
 use borrow.Author.Needs.{needs}
-use Rattle.numbers.proofs.copy.Statement.{statement}
-use Rattle.numbers.proofs.copy.Tie as tie
+use Rattle.slices.proofs.copy.Statement.{statement}
+use Rattle.slices.proofs.copy.Tie as tie
 
 abbrev Inv-loop : tie.InvT-loop
 Inv-loop src out₀ i₀ out i = (i ≤ length src) × (length out ≡ length src) × Filling src out i (drop i src)

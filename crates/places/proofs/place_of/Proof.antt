@@ -1,10 +1,10 @@
--- `numbers::place_of` meets its contract. Assumes nothing.
+-- `places::place_of` meets its contract. Assumes nothing.
 use Prim.Native.Nat.{_+_, _-_, _^_}
 use borrow.Author.Tests.{lt-leb, le-leb, lt-ltb, le-ltb}
 use native.Mathlib.Omega.{arith}
 use borrow.Author.Needs.{needs}
-use Rattle.numbers.proofs.place_of.Statement.{statement}
-use Rattle.numbers.proofs.place_of.Tie as tie
+use Rattle.places.proofs.place_of.Statement.{statement}
+use Rattle.places.proofs.place_of.Tie as tie
 
 returns : tie.Need-returns
 returns c = rw (lt-leb 1 (c .before .args .b .0) (c .if1 .taken))
