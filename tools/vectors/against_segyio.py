@@ -1,24 +1,36 @@
 """IBM words read by segyio, another reader, against document 01's exact values.
 
-Run from the root of the repository:  python3 tools/vectors/against_segyio.py
+Run from the root of the repository:  python3 tools/vectors/against_segyio.py [--store]
 
-Compared are the normal words (first digit of F not 0, or the word 00000000)
-whose value is a 32-bit float exactly, either 0 or of the float's normal
-range. Two things segyio does in its own way are printed, not compared: words
-that aren't normal, and words whose value only a subnormal float would hold.
+What segyio makes of some thousand words is stored in segyio_words.txt beside
+this file, so that the comparison runs where segyio can't be installed. A run
+compares the stored floats with the values that document 01's rules give
+(samples.py), and with the pairs of the stored vectors, on which the proved
+code is run. Where segyio is installed, the stored floats must be what it gives
+now, and further words are compared. --store asks segyio and writes the file.
+
+Must agree: the normal words (first digit of F not 0, or the word 00000000)
+whose value is a 32-bit float exactly, either 0 or of the float's normal range.
+Two kinds of words segyio 1.8.3 reads in its own way: words that aren't normal,
+and words whose value only a subnormal float would hold. Where it gives another
+value than the word's the line says `misread`; `no float` is said of a word
+whose value no 32-bit float has. Each such name is worked out anew.
 """
 
 import importlib.util
-import math
 import os
+import re
 import struct
 import sys
 import tempfile
+from collections import Counter
 from fractions import Fraction
+from pathlib import Path
 
 sys.dont_write_bytecode = True
 import samples
 
+FILE = Path(__file__).resolve().with_name("segyio_words.txt")
 SAMPLES_A_TRACE = 1000
 SMALLEST_NORMAL_FLOAT = Fraction(1, 2 ** 126)
 SHOWN = [
@@ -26,10 +38,105 @@ SHOWN = [
     "00000000", "80000000", "41000000", "7F000000", "FF000000",
     "00000001", "21300000", "21400000", "60FFFFFF", "61100000", "7F800000", "7FFFFFFF",
 ]
+STORED_FURTHER = 2000  # of the further words
+
+# Fewer than these would be no comparison.
+LEAST = {"must agree": 2000, "misread": 400, "no float": 300, "of the vectors": 300}
+
+HEAD = """\
+# What segyio {version} makes of IBM words (format code 1).
+# Made by tools/vectors/against_segyio.py --store; that script says what is compared.
+# A line is the word and the bits of the 32-bit float that segyio gives, in hexadecimal.
+# `misread`: a 32-bit float has the word's value, and segyio gives another. `no float`: no 32-bit float has it.
+# {lines} words, {misread} misread, {no_float} no float
+"""
+HEAD_WORDS = re.compile(HEAD.replace("(", r"\(").replace(")", r"\)").format(
+    version=r"(?P<version>[0-9.]+)", lines="(?P<lines>[0-9]+)", misread="(?P<misread>[0-9]+)",
+    no_float="(?P<no_float>[0-9]+)"))
+LINE = re.compile("([0-9A-F]{8}) ([0-9A-F]{8})( misread| no float)?")
+
+
+# ---------------------------------------------------------------- the rules
+
+
+def value_of_pair(pair):
+    e, m = samples.signed(pair[0:2]), samples.signed(pair[2:6])
+    return Fraction(m) * Fraction(2) ** e
+
+
+def value_of(word):
+    return Fraction(samples.v_of_word(1, word), samples.SCALE)
+
+
+def value_of_float(bits):
+    """The value of a 32-bit float, or None for an infinity or a not-a-number."""
+    sign, exponent, fraction = bits // 2 ** 31, bits // 2 ** 23 % 256, bits % 2 ** 23
+    if exponent == 255:
+        return None
+    whole = fraction if exponent == 0 else 2 ** 23 + fraction
+    return (1 - 2 * sign) * Fraction(whole) * Fraction(2) ** (max(exponent, 1) - 150)
+
+
+def is_float(value):
+    """Does a 32-bit float have the value exactly?"""
+    try:
+        rounded = struct.unpack(">f", struct.pack(">f", float(value)))[0]
+    except OverflowError:
+        return False
+    return Fraction(rounded) == value
+
+
+def must_agree(word):
+    value = value_of(word)
+    normal = word[1] >= 0x10 or word == bytes(4)
+    return normal and is_float(value) and (value == 0 or abs(value) >= SMALLEST_NORMAL_FLOAT)
+
+
+def name_of(word, bits):
+    value = value_of(word)
+    if not is_float(value):
+        return "no float"
+    return "" if value_of_float(bits) == value else "misread"
+
+
+# ---------------------------------------------------------------- the words
+
+
+def vectors():
+    """Words and pairs of the stored vectors of code 1, on which the proved code is run."""
+    with open(samples.FOLDER / "stdin") as lines_in, open(samples.FOLDER / "stdout") as lines_out:
+        for line, answer in zip(lines_in, lines_out, strict=True):
+            if line.startswith("r 00000001 "):
+                yield bytes.fromhex(line[11:19]), bytes.fromhex(answer[21:33])
+
+
+def further():
+    """Any normal words, most of them in a float's range."""
+    rnd = samples.Numbers(1983)
+    for _ in range(8000):
+        word = rnd.between(32, 97) * 2 ** 24 + rnd.between(0x100000, 0xFFFFFF)
+        yield (word + rnd.bits(1) * 2 ** 31).to_bytes(4, "big")
+
+
+def aligned():
+    """In each characteristic of a float's range, fractions of 21 to 24 bits at their ends."""
+    for c in range(32, 98):
+        for k in range(20, 24):
+            for f in (2 ** k, 2 ** (k + 1) - 1):
+                s = (c + k + f) % 2
+                yield (s * 2 ** 31 + c * 2 ** 24 + f).to_bytes(4, "big")
+
+
+def words_to_store():
+    words = [bytes.fromhex(word) for word in SHOWN]
+    words += [word for word, _ in vectors()]
+    words += aligned()
+    words += list(further())[:STORED_FURTHER]
+    return list(dict.fromkeys(words))
 
 
 def by_segyio(words):
-    """The floats segyio makes of IBM words, from a reel laid out byte by byte."""
+    """The bits of the floats segyio makes of IBM words, from a reel laid out byte by byte."""
     import segyio
 
     traces = -(-len(words) // SAMPLES_A_TRACE)
@@ -47,88 +154,124 @@ def by_segyio(words):
         with open(path, "wb") as file:
             file.write(reel)
         with segyio.open(path, "r", ignore_geometry=True) as reel_read:
-            assert int(reel_read.format) == 1 and reel_read.tracecount == traces
-            floats = [float(x) for trace in reel_read.trace for x in trace]
+            if int(reel_read.format) != 1 or reel_read.tracecount != traces:
+                sys.exit("against_segyio.py: segyio opens another reel than was written")
+            floats = [x for trace in reel_read.trace.raw[:] for x in trace.view("uint32").tolist()]
     return floats[:len(words)]
 
 
-def value_of_pair(pair):
-    e, m = samples.signed(pair[0:2]), samples.signed(pair[2:6])
-    return Fraction(m) * Fraction(2) ** e
+# ----------------------------------------------------------------- the file
 
 
-def is_normal(word):
-    return word[1] >= 0x10 or word == bytes(4)
+def store():
+    import segyio
+
+    words = words_to_store()
+    counts, lines = Counter(), []
+    for word, bits in zip(words, by_segyio(words), strict=True):
+        name = name_of(word, bits)
+        counts[name] += 1
+        lines.append(f"{word.hex().upper()} {bits:08X} {name}".rstrip() + "\n")
+    head = HEAD.format(version=segyio.__version__, lines=len(lines), misread=counts["misread"],
+                       no_float=counts["no float"])
+    FILE.write_text(head + "".join(lines), encoding="ascii")
+    print(f"against_segyio.py: {len(lines)} words of segyio {segyio.__version__} are stored")
 
 
-def is_float(value):
-    """Does a 32-bit float have the value exactly?"""
+def load():
+    """The version of segyio, and the stored words with bits and names. The file must be whole."""
     try:
-        rounded = struct.unpack(">f", struct.pack(">f", float(value)))[0]
-    except OverflowError:
-        return False
-    return Fraction(rounded) == value
+        text = FILE.read_text(encoding="ascii")
+    except OSError as error:
+        sys.exit(f"against_segyio.py: no stored words: {error}")
+    head = HEAD_WORDS.match(text)
+    if head is None:
+        sys.exit(f"against_segyio.py: {FILE.name} has another head than --store writes")
+    stored = {}
+    for line in text[head.end():].splitlines():
+        parts = LINE.fullmatch(line)
+        if parts is None:
+            sys.exit(f"against_segyio.py: {FILE.name} has a line of another form: {line!r}")
+        stored[bytes.fromhex(parts[1])] = int(parts[2], 16), (parts[3] or "").strip()
+    names = Counter(name for _, name in stored.values())
+    held = {"lines": len(stored), "misread": names["misread"], "no_float": names["no float"]}
+    for what, count in held.items():
+        if count != int(head[what]):
+            sys.exit(f"against_segyio.py: {FILE.name} holds {count} {what}, its head says {head[what]}")
+    return head["version"], stored
 
 
-def stored():
-    """Words and values of the stored vectors of code 1 that were read."""
-    with open(samples.FOLDER / "stdin") as lines_in, open(samples.FOLDER / "stdout") as lines_out:
-        for line, answer in zip(lines_in, lines_out, strict=True):
-            if line.startswith("r 00000001 "):
-                assert answer.startswith("000 ")
-                yield bytes.fromhex(line[11:19]), value_of_pair(bytes.fromhex(answer[21:33]))
-
-
-def further():
-    """Words beyond the stored ones, most of them in a float's range."""
-    rnd = samples.Numbers(1983)
-    for _ in range(8000):
-        word = rnd.between(32, 97) * 2 ** 24 + rnd.between(0x100000, 0xFFFFFF)
-        word = (word + rnd.bits(1) * 2 ** 31).to_bytes(4, "big")
-        number, pair = samples.read(1, word)
-        assert number == 0
-        yield word, value_of_pair(pair)
-
-
-def compare(name, cases):
-    compared = wrong = beyond = subnormal = subnormal_other = not_normal = not_normal_other = 0
-    floats = by_segyio([word for word, _ in cases])
-    for (word, value), got in zip(cases, floats, strict=True):
-        same = math.isfinite(got) and Fraction(got) == value
-        if not is_normal(word):
-            not_normal += 1
-            not_normal_other += not same
-        elif not is_float(value):
-            beyond += 1
-        elif 0 < abs(value) < SMALLEST_NORMAL_FLOAT:
-            subnormal += 1
-            subnormal_other += not same
-        else:
-            compared += 1
-            if not same:
-                wrong += 1
-                print(f"differs: {word.hex().upper()} is {value}, segyio gives {got!r}")
-    print(
-        f"{name}: {compared} compared, {wrong} differ; not compared: {beyond} no float holds, "
-        f"{subnormal} subnormal ({subnormal_other} differ), "
-        f"{not_normal} not normal ({not_normal_other} differ)"
-    )
-    return compared, wrong
+# ----------------------------------------------------------- the comparison
 
 
 def main():
-    if importlib.util.find_spec("segyio") is None:
-        print("skipped: segyio is not installed")
-        return 0
-    shown = [bytes.fromhex(word) for word in SHOWN]
-    for word, got in zip(shown, by_segyio(shown)):
-        value = value_of_pair(samples.read(1, word)[1])
-        print(f"shown: {word.hex().upper()} is {float(value)!r}, segyio gives {got!r}")
-    totals = [compare("stored", list(stored())), compare("further", list(further()))]
-    compared = sum(total[0] for total in totals)
-    wrong = sum(total[1] for total in totals)
-    print(f"compared {compared}, differ {wrong}")
-    return 1 if wrong or any(total[0] == 0 for total in totals) else 0
+    installed = importlib.util.find_spec("segyio") is not None
+    if sys.argv[1:] == ["--store"]:
+        if not installed:
+            sys.exit("against_segyio.py: segyio is not installed, so nothing is stored")
+        return store()
+    if sys.argv[1:]:
+        sys.exit(__doc__)
+
+    version, stored = load()
+    wrong = []
+    counts = Counter()
+    for word, (bits, name) in stored.items():
+        told = f"{word.hex().upper()} is {value_of(word)}, segyio {version} gave the float {bits:08X}"
+        if must_agree(word):
+            counts["must agree"] += 1
+            if value_of_float(bits) != value_of(word):
+                wrong.append(told)
+        if name != name_of(word, bits):
+            wrong.append(f"{told}: named {name!r}")
+        counts[name] += 1
+    not_stored = []
+    for word, pair in vectors():
+        if word not in stored:
+            not_stored.append(word)
+        elif must_agree(word):
+            counts["of the vectors"] += 1
+            if value_of_float(stored[word][0]) != value_of_pair(pair):
+                wrong.append(f"vector {word.hex().upper()} has the pair {pair.hex().upper()}: another value than the float")
+    for what, least in LEAST.items():
+        if counts[what] < least:
+            wrong.append(f"only {counts[what]} words: {what}")
+    for word in SHOWN:
+        if bytes.fromhex(word) not in stored:
+            wrong.append(f"{word} is not stored")
+    print(
+        f"against_segyio.py: {len(stored)} stored words of segyio {version}: {counts['must agree']} compared with "
+        f"document 01's values, {counts['of the vectors']} of them also with the vectors' pairs; "
+        f"named, not compared: {counts['misread']} misread, {counts['no float']} no float"
+    )
+    if not_stored:
+        print(f"against_segyio.py: {len(not_stored)} words of the vectors are not stored (--store adds them)")
+
+    if installed and not wrong:
+        import segyio
+
+        now = segyio.__version__
+        other = 0
+        for (word, (bits, _)), given in zip(stored.items(), by_segyio(list(stored)), strict=True):
+            if given == bits:
+                continue
+            if must_agree(word) or now == version:
+                wrong.append(f"{word.hex().upper()} is stored as {bits:08X}, segyio {now} gives {given:08X}")
+            other += 1
+        more = [word for word in [*further(), *not_stored] if word not in stored and must_agree(word)]
+        for word, given in zip(more, by_segyio(more), strict=True):
+            if value_of_float(given) != value_of(word):
+                wrong.append(f"{word.hex().upper()} is {value_of(word)}, segyio {now} gives the float {given:08X}")
+        print(
+            f"against_segyio.py: segyio {now} now gives the stored floats but for {other}; "
+            f"{len(more)} further words compared"
+        )
+    elif not installed:
+        print("against_segyio.py: segyio is not installed, so the stored floats were not asked for anew")
+
+    for line in wrong:
+        print(f"differs: {line}")
+    return 1 if wrong else 0
 
 
 if __name__ == "__main__":
