@@ -54,7 +54,7 @@ use Rattle.reel.specs.Causes.{traceCauses, behindCauses, causesOf}
 use Rattle.record.specs.Record.{reelRecord}
 use Rattle.record.specs.Form.{heldSamples, heldCount}
 use Rattle.record.specs.Held.{heldBy}
-use Rattle.record.specs.Target.{isUnfit, targetCauses}
+use Rattle.fit.specs.Target.{isUnfit, targetCauses}
 use Rattle.read_reel.specs.Reading.{recordLengthOf, readCauses, readEnd, readOutcome}
 use Rattle.write_reel.specs.Reel.{reelOf}
 use Rattle.write_reel.specs.Writing.{reelLengthOf, writeCauses, writeEnd, writeOutcome}

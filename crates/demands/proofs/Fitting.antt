@@ -29,7 +29,7 @@ use Rattle.sample_theorems.proofs.Words.{Writes, written-is, writing-sound, wri
 use Rattle.reel.specs.Meaning.{Trace, Meaning}
 use Rattle.record.specs.Form.{tracesPlace, heldSamples, heldStride, heldCount}
 use Rattle.record.specs.Held.{heldValue, heldTrace, heldBy}
-use Rattle.record.specs.Target.{isUnfit, fitCause, traceFit, fitCauses}
+use Rattle.fit.specs.Target.{isUnfit, fitCause, traceFit, fitCauses}
 
 -- ## What a record holds
 

@@ -34,7 +34,7 @@ use Rattle.reel.specs.Causes.{mostSamples, mostTraces, mostInterval, neither, l
 use Rattle.reel.specs.Meaning.{blank, cardText, otherThan, binaryNumbers, filled, traceNumber, Trace, traceMeaning, Meaning, meaningOf}
 use Rattle.reel.proofs.CheckLaws.{width-high}
 use Rattle.record.specs.Record.{numberBytes, binaryBytes}
-use Rattle.record.specs.Target.{isUnfit}
+use Rattle.fit.specs.Target.{isUnfit}
 use Rattle.record.proofs.HeaderLaws.{trace-numbers, countField, intervalField}
 use Rattle.reel_theorems.proofs.Ranges.{length-bytes}
 use Rattle.reel_theorems.proofs.Same.{trace-eq}

@@ -22,7 +22,7 @@ use Rattle.reel.specs.Meaning.{Trace, traceMeaning, Meaning, meaningOf}
 use Rattle.record.specs.Record.{recordOf, reelRecord}
 use Rattle.record.specs.Form.{tracesPlace, heldInterval, heldSamples, heldStride, heldCount, formCauses}
 use Rattle.record.specs.Held.{heldTrace, heldBy}
-use Rattle.record.specs.Target.{fitCauses, targetCauses}
+use Rattle.fit.specs.Target.{fitCauses, targetCauses}
 use Rattle.read_reel.specs.Reading.{recordLengthOf, readEnd, readOutcome}
 use Rattle.write_reel.specs.Reel.{reelOf}
 use Rattle.write_reel.specs.Writing.{reelLengthOf, writeCauses, writeEnd, writeOutcome}

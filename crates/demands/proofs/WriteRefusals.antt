@@ -28,7 +28,7 @@ use Rattle.reel.specs.Causes.{mostSamples, mostInterval, within}
 use Rattle.record.specs.Form.{fieldCause, cardCause, cardsCauses, heldInterval, heldSamples, heldCode, binaryCauses, tracesPlace, heldStride, pairCause, samplesCauses, traceForm, endCauses, bodyCauses, formCauses}
 use Rattle.record.proofs.FormLaws.{trace-parts}
 use Rattle.record.specs.Held.{heldValue}
-use Rattle.record.specs.Target.{isUnfit, fitCause, traceFit, fitCauses, targetCauses}
+use Rattle.fit.specs.Target.{isUnfit, fitCause, traceFit, fitCauses, targetCauses}
 use Rattle.write_reel.specs.Reel.{reelLength}
 use Rattle.write_reel.specs.Writing.{writeCauses}
 use Rattle.reel_theorems.proofs.TestLaws.{atPlace, Between, Tests, apart, fine-where, refused-where, holds-where, row-where, then-row, then-first, then-second, and-both, test-between, test-same, test-room, not-enough, too-short, first-is, first-of, none-is, none-of, walk-fine, walk-holds, walk-refused, walk-row, fine-none}

@@ -92,7 +92,7 @@ fn put_trace(reel: &[u8], code: usize, n: u16, i: u16, at: usize, out: &mut [u8]
     put_tag(3, 180, &mut out[0..3]);
     put_header(reel, n, i, at, &mut out[3..183]);
     put_tag(4, size, &mut out[183..186]);
-    read_samples::read_samples(reel, code, n as usize, at + 240, &mut out[186..e]);
+    read_samples::read_samples(reel, code, n as usize, Place(at + 240), &mut out[186..e]);
 }
 
 // The traces, one behind the other.

@@ -5,6 +5,7 @@ ghost use Prim.Native.Nat.{_+_, _*_, _%_, _^_, _≤_};
 ghost use lib.Dec.{leb, eqb};
 ghost use lib.ListN.{length};
 ghost use Rattle.numbers.specs.Walk.{pick, bytesAt};
+ghost use Rattle.numbers.specs.Places.{placeNo};
 ghost use Rattle.numbers.specs.BigEndian.{number};
 ghost use Rattle.numbers.specs.TwosComplement.{signedOf};
 ghost use Rattle.value.specs.Value.{ibmValue, wholeValue, isCode};
@@ -12,6 +13,7 @@ ghost use Rattle.sample.specs.Reading.{pairTaken, readWord};
 ghost use Rattle.reel.specs.Layout.{sampleBytes};
 ghost use Rattle.read_samples.specs.Samples.{sampleContent, sampleCopied, samplePairs, samplesRead};
 ghost use Rattle.read_samples.specs.Parts.{exponentContent, mantissaContent, gainOrZero, WordAt};
+use numbers::Place;
 use sample::Sample;
 
 // What reading a word gives: its exponent in two bytes, and its mantissa in four. The words of a reel that came through the causes 1 to 9 are
@@ -228,11 +230,12 @@ fn do_fit(bytes: usize, code: usize, n: usize, start: usize, size: usize) -> boo
 
 // The samples of a trace: the pairs of n words from a place on. Where the code isn't 1 to 4, the words aren't all there or the output isn't as
 // long as n pairs, it is left as it was.
-pub fn read_samples(reel: &[u8], code: usize, n: usize, start: usize, out: &mut [u8])
-    ensures { λ _. ⌜ now (out .exit) ≡ samplesRead (now (reel .entry)) code n start (now (out .entry)) ⌝ }
+pub fn read_samples(reel: &[u8], code: usize, n: usize, start: Place, out: &mut [u8])
+    ensures { λ _. ⌜ now (out .exit) ≡ samplesRead (now (reel .entry)) code n (placeNo start) (now (out .entry)) ⌝ }
 {
-    if !do_fit(reel.len(), code, n, start, out.len()) {
+    let at = start.0;
+    if !do_fit(reel.len(), code, n, at, out.len()) {
         return;
     }
-    put_samples(reel, code, n, start, out);
+    put_samples(reel, code, n, at, out);
 }

@@ -28,11 +28,10 @@ use Rattle.value.specs.declared.Written.the-variants as written
 use Rattle.reel.specs.Layout.{number16}
 use Rattle.reel.specs.Causes.{mostSamples, mostTraces, mostInterval, within}
 use Rattle.reel.proofs.CheckLaws.{both-true, in-limits}
-use Rattle.record.specs.Form.{isField, fieldCause, cardsCauses, heldSamples, heldInterval, heldCode, numberCauses, binaryCauses, tracesPlace, heldStride, pairCause, samplesCauses, headerCauses, traceForm, tagsFrom, heldCount, endCauses, bodyCauses, formCauses}
+use Rattle.record.specs.Form.{isField, fieldCause, cardsCauses, heldSamples, heldInterval, heldCode, numberCauses, binaryCauses, tracesPlace, heldStride, pairCause, samplesCauses, headerCauses, traceForm, tagsFrom, heldCount, endCauses, bodyCauses, formCauses, recordFound, numbersIn}
+use Rattle.record.specs.declared.Judged.the-variants as judged
 use Rattle.record.specs.Held.{heldValue}
-use Rattle.record.specs.Target.{isUnfit, fitCause, traceFit, fitCauses, targetCauses}
-use Rattle.write_samples.specs.Samples.{pairRefused, pairCheck}
-use Rattle.record.specs.Parts.{headForm, traceCheck, formFrom, fitFrom}
+use Rattle.record.specs.Parts.{headForm, formFrom}
 
 -- ## Fields
 
@@ -40,67 +39,6 @@ use Rattle.record.specs.Parts.{headForm, traceCheck, formFrom, fitFrom}
 pub field-room : (s : List ℕ) (tag size at : ℕ) → fieldCause s tag size at ≡ Fine → at + (3 + size) ≤ length s
 field-room s tag size at e =
     leb-true (at + (3 + size)) (length s) (both-true (leb (at + (3 + size)) (length s)) (eqb (getD s at 0) tag && eqb (number16 s (at + 1)) size) (passed (not (isField s tag size at)) 12 at e) .0)
-
--- ## Pairs
-
--- writing refuses a canonical pair by 14 only
-abbrev Only14 : Written → Type 0
-Only14 (written.Word n) = Unit {0}
-Only14 (written.Refused number) = number ≡ 14
-
-only-pick : (b : Bool) (x y : Written) → Only14 x → Only14 y → Only14 (pick b x y)
-only-pick true x y p q = p
-only-pick false x y p q = q
-
--- a word where there is one, else 14
-only-word : (b : Bool) (n : ℕ) → Only14 (pick b (written.Word n) (written.Refused 14))
-only-word true n = tt
-only-word false n = refl
-
-word-only : (code : ℕ) (v : ℤ) → Only14 (wordOf code v)
-word-only code v =
-    let c = first (ibmFits v) 128 0 in
-    let g = first (gainFits v) 256 0 in
-    let p = 2 ^ denominatorPower in
-    let a : Only14 (ibmWord v) = only-word (ltb c 128) (ibmBits (isNegative v) c (natAbs v / 16 ^ c)) in
-    let b : Only14 (wholeWord 32 1 v) = only-word (holds 32 p v) (bitsOf 32 (numberOf p v) * 1) in
-    let d : Only14 (wholeWord 16 (2 ^ 16) v) = only-word (holds 16 p v) (bitsOf 16 (numberOf p v) * 2 ^ 16) in
-    let e : Only14 (gainWord v) = only-word (ltb g 256) (g * 2 ^ 16 + bitsOf 16 (numberOf (2 ^ (denominatorPower - g)) v)) in
-    only-pick (eqb code 1) (ibmWord v) _ a (only-pick (eqb code 2) (wholeWord 32 1 v) _ b (only-pick (eqb code 3) (wholeWord 16 (2 ^ 16) v) (gainWord v) d e))
-
-module _ (s : List ℕ) (code : ℕ) (h : isCode code ≡ true) where
-  -- a pair that writing takes is canonical
-  pair-fine : (at : ℕ) → pairCheck s code at ≡ Fine → pairCause s at ≡ Fine
-  pair-fine at e = go (isCanonical p) (rw h at e)
-    where
-      p : Pair
-      p = pairIn (bytesAt s at pairLength)
-
-      go : (b : Bool) → pairRefused (pick b (wordOf code (valueOf p)) (written.Refused 13)) at ≡ Fine → refuseIf (not b) 13 at ≡ Fine
-      go true e = refl
-      go false e = absurd (not-fine e)
-
-  -- a canonical pair is refused where it doesn't fit
-  pair-fit : (at : ℕ) → pairCause s at ≡ Fine → pairCheck s code at ≡ fitCause s code at
-  pair-fit at e =
-      let c = not-false (isCanonical (pairIn (bytesAt s at pairLength))) (passed _ 13 at e) in
-      rw (h, c) (go (wordOf code (heldValue s at)) (word-only code (heldValue s at)))
-    where
-      go : (w : Written) → Only14 w → pairRefused w at ≡ refuseIf (isUnfit w) 14 at
-      go (written.Word n) o = refl
-      go (written.Refused number) o = ap (λ (k : ℕ). Refused k (record { 0 = at })) o
-
-  pairs-fine : (w k at : ℕ) → firstOf (walk (pairCheck s code) w k at) ≡ Fine → firstOf (walk (pairCause s) w k at) ≡ Fine
-  pairs-fine w zero at e = refl
-  pairs-fine w (suc k) at e =
-      let t = then-fine (pairCheck s code at) (firstOf (walk (pairCheck s code) w k (at + w))) e in
-      ap₂ then (pair-fine at (t .0)) (pairs-fine w k (at + w) (t .1))
-
-  pairs-fit : (w k at : ℕ) → firstOf (walk (pairCause s) w k at) ≡ Fine → firstOf (walk (pairCheck s code) w k at) ≡ firstOf (walk (fitCause s code) w k at)
-  pairs-fit w zero at e = refl
-  pairs-fit w (suc k) at e =
-      let t = then-fine (pairCause s at) (firstOf (walk (pairCause s) w k (at + w))) e in
-      ap₂ then (pair-fit at (t .0)) (pairs-fit w k (at + w) (t .1))
 
 -- ## A trace
 
@@ -153,22 +91,6 @@ head-room s n i at e =
 pub form-room : (s : List ℕ) (n i at : ℕ) → traceForm s n i at ≡ Fine → at + (186 + n * 6) ≤ length s
 form-room s n i at e = head-room s n i at (then-fine (headForm s n i at) _ (sym (trace-form s n i at) ∙ e) .0)
 
-module _ (s : List ℕ) (code n i : ℕ) (h : isCode code ≡ true) where
-  -- a trace for which the check finds nothing
-  pub trace-fine : (at : ℕ) → traceCheck s code n i at ≡ Fine → (traceForm s n i at ≡ Fine) × (traceFit s code n at ≡ Fine)
-  unfolding traceCheck traceFit
-  trace-fine at e =
-      let t = then-fine (headForm s n i at) _ e in
-      let p = pairs-fine s code h pairLength n (at + 186) (t .1) in
-      (trace-form s n i at ∙ ap₂ then (t .0) p, sym (pairs-fit s code h pairLength n (at + 186) p) ∙ t .1)
-
-  -- what the check finds in a trace of the right form
-  pub trace-fit : (at : ℕ) → traceForm s n i at ≡ Fine → traceCheck s code n i at ≡ traceFit s code n at
-  unfolding traceCheck traceFit
-  trace-fit at e =
-      let t = then-fine (headForm s n i at) _ (sym (trace-form s n i at) ∙ e) in
-      ap (λ x. then x (firstOf (walk (pairCheck s code) pairLength n (at + 186)))) (t .0) ∙ pairs-fit s code h pairLength n (at + 186) (t .1)
-
 -- ## Traces, one after the other
 
 -- a trace is to be looked for behind t traces
@@ -183,7 +105,7 @@ more-few s t at e = go (ltb t mostTraces) refl e
     go false q e = absurd (subst T (sym e) tt)
 
 -- where one is, the tags that are counted are one more than those behind it
-tags-more : (s : List ℕ) (w t at : ℕ) → isMore s t at ≡ true → tagsFrom (mostTraces - t) s w at ≡ suc (tagsFrom (mostTraces - (t + 1)) s w (at + w))
+pub tags-more : (s : List ℕ) (w t at : ℕ) → isMore s t at ≡ true → tagsFrom (mostTraces - t) s w at ≡ suc (tagsFrom (mostTraces - (t + 1)) s w (at + w))
 unfolding tagsFrom
 tags-more s w t at e =
     let few = more-few s t at e in
@@ -192,7 +114,7 @@ tags-more s w t at e =
     ap (λ (k : ℕ). tagsFrom k s w at) one ∙ rw tag
 
 -- where none is, no tag is counted
-tags-none : (s : List ℕ) (w t at : ℕ) → isMore s t at ≡ false → tagsFrom (mostTraces - t) s w at ≡ 0
+pub tags-none : (s : List ℕ) (w t at : ℕ) → isMore s t at ≡ false → tagsFrom (mostTraces - t) s w at ≡ 0
 unfolding tagsFrom
 tags-none s w t at e = go (ltb t mostTraces) refl e
   where
@@ -250,40 +172,6 @@ module _ (s : List ℕ) (n : ℕ) where
         let k = heldCount s n in
         ap (λ (x : ℕ). then (firstOf (walk (traceForm s n i) (heldStride n) k tracesPlace)) (endCauses s x (tracesPlace + k * heldStride n))) (sym (zero-add k))
 
-  module _ (code : ℕ) where
-    -- the fit of the samples that follow, a trace at a time
-    pub fit-more : (t at : ℕ) → isMore s t at ≡ true
-        → fitFrom s code n (mostTraces - t) at ≡ then (traceFit s code n at) (fitFrom s code n (mostTraces - (t + 1)) (at + heldStride n))
-    unfolding fitFrom
-    fit-more t at e = ap (λ (k : ℕ). firstOf (walk (traceFit s code n) (heldStride n) k at)) (tags-more s (heldStride n) t at e)
-
-    pub fit-end : (t at : ℕ) → isMore s t at ≡ false → fitFrom s code n (mostTraces - t) at ≡ Fine
-    unfolding fitFrom
-    fit-end t at e = ap (λ (k : ℕ). firstOf (walk (traceFit s code n) (heldStride n) k at)) (tags-none s (heldStride n) t at e)
-
-    module _ (i : ℕ) (h : isCode code ≡ true) (t at : ℕ) (e : isMore s t at ≡ true) where
-      -- behind a trace for which the check finds nothing
-      pub body-more : traceCheck s code n i at ≡ Fine
-          → then (formFrom s n i (mostTraces - t) t at) (fitFrom s code n (mostTraces - t) at)
-          ≡ then (formFrom s n i (mostTraces - (t + 1)) (t + 1) (at + heldStride n)) (fitFrom s code n (mostTraces - (t + 1)) (at + heldStride n))
-      body-more f =
-          let x = trace-fine s code n i h at f in
-          ap₂ then
-          (form-more i t at e ∙ ap (λ c. then c (formFrom s n i (mostTraces - (t + 1)) (t + 1) (at + heldStride n))) (x .0))
-          (fit-more t at e ∙ ap (λ c. then c (fitFrom s code n (mostTraces - (t + 1)) (at + heldStride n))) (x .1))
-
-      -- at a trace for which it finds something
-      pub body-stop : {number : ℕ} {place : Place} → traceCheck s code n i at ≡ Refused number place
-          → then (formFrom s n i (mostTraces - t) t at) (traceCheck s code n i at) ≡ then (formFrom s n i (mostTraces - t) t at) (fitFrom s code n (mostTraces - t) at)
-      body-stop {number} {place} f = go (formFrom s n i (mostTraces - t) t at) refl
-        where
-          go : (c : Check) → formFrom s n i (mostTraces - t) t at ≡ c → then c (traceCheck s code n i at) ≡ then c (fitFrom s code n (mostTraces - t) at)
-          go Fine q =
-              let x = then-fine (traceForm s n i at) _ (sym (form-more i t at e) ∙ q) in
-              let y = trace-fit s code n i h at (x .0) in
-              sym (fit-more t at e ∙ ap (λ c. then c (fitFrom s code n (mostTraces - (t + 1)) (at + heldStride n))) (sym y ∙ f) ∙ sym f)
-          go (Refused m p) q = refl
-
 -- ## The whole record
 
 -- a valid record ends behind tag 05
@@ -332,30 +220,25 @@ headed s e =
     let l = in-limits 1 mostSamples (heldSamples s) 13 3226 (d .0) in
     record { room = field-room s 2 60 3203 (b .0); n-low = l .0; n-high = l .1 }
 
--- the causes 11 to 14, where the target code is one of the four and the first two fields are right
-pub target-is : (s : List ℕ) (code : ℕ) → isCode code ≡ true → then (cardsCauses s) (binaryCauses s) ≡ Fine
-    → targetCauses s code ≡ then (formFrom s (heldSamples s) (heldInterval s) mostTraces 0 tracesPlace) (fitFrom s code (heldSamples s) mostTraces tracesPlace)
-unfolding targetCauses formCauses fitCauses fitFrom
-target-is s code h e =
+-- the causes 12 and 13, where the first two fields are right
+pub form-is : (s : List ℕ) → then (cardsCauses s) (binaryCauses s) ≡ Fine
+    → formCauses s ≡ formFrom s (heldSamples s) (heldInterval s) mostTraces 0 tracesPlace
+unfolding formCauses
+form-is s e =
     let n = heldSamples s in
     let a = then-fine (cardsCauses s) _ e in
-    let fit = fitCauses s code n (heldCount s n) in
-    rw h
-    (ap (λ x. then (then x (then (binaryCauses s) (bodyCauses s n (heldInterval s) (heldCount s n)))) fit) (a .0)
-    ∙ ap (λ x. then (then x (bodyCauses s n (heldInterval s) (heldCount s n))) fit) (a .1)
-    ∙ ap (λ x. then x fit) (body-is s n (heldInterval s)))
+    ap (λ x. then x (then (binaryCauses s) (bodyCauses s n (heldInterval s) (heldCount s n)))) (a .0)
+    ∙ ap (λ x. then x (bodyCauses s n (heldInterval s) (heldCount s n))) (a .1)
+    ∙ body-is s n (heldInterval s)
 
 -- and where they are not
-pub target-stop : (s : List ℕ) (code : ℕ) → isCode code ≡ true → {number : ℕ} {place : Place} → then (cardsCauses s) (binaryCauses s) ≡ Refused number place
-    → targetCauses s code ≡ Refused number place
-unfolding targetCauses formCauses
-target-stop s code h {number} {place} e =
-    let n = heldSamples s in
-    let body = bodyCauses s n (heldInterval s) (heldCount s n) in
-    let fit = fitCauses s code n (heldCount s n) in
-    rw h (ap (λ x. then x fit) (sym (then-assoc (cardsCauses s) (binaryCauses s) body) ∙ ap (λ x. then x body) e))
+pub form-stop : (s : List ℕ) {number : ℕ} {place : Place} → then (cardsCauses s) (binaryCauses s) ≡ Refused number place
+    → formCauses s ≡ Refused number place
+unfolding formCauses
+form-stop s e =
+    let body = bodyCauses s (heldSamples s) (heldInterval s) (heldCount s (heldSamples s)) in
+    sym (then-assoc (cardsCauses s) (binaryCauses s) body) ∙ ap (λ x. then x body) e
 
--- a record with no cause against it is valid
-pub target-form : (s : List ℕ) (code : ℕ) → targetCauses s code ≡ Fine → formCauses s ≡ Fine
-unfolding targetCauses
-target-form s code e = then-fine (formCauses s) _ (then-fine (refuseIf (not (isCode code)) 11 0) _ e .1) .0
+-- N and T of a valid record
+pub numbers-held : (s : List ℕ) → formCauses s ≡ Fine → judged.Fine (numbersIn s .samples) (numbersIn s .traces) ≡ recordFound s Fine
+numbers-held s e = ap (judged.Fine (heldSamples s)) (held-count s e)

@@ -1,6 +1,6 @@
 -- The form of a record, and the causes 12 and 13 against it: front to back, each field first by 12, then by 13. Any bytes at all may be
 -- lent as a record. What stands behind a field that is refused plays no part: the refusal at that field comes first.
-use Prim.Native.Nat.{ℕ, zero, suc, _+_, _*_}
+use Prim.Native.Nat.{ℕ, zero, suc, _+_, _-_, _*_}
 use mathlib.Core.List.{List, [], _∷_}
 use mathlib.Core.Bool.{Bool, not, _&&_}
 use lib.ListN.{length, getD}
@@ -10,6 +10,10 @@ use Rattle.numbers.specs.Places.{bytePlace}
 use Rattle.numbers.specs.BigEndian.{number}
 use Rattle.numbers.specs.Cause.{refuseIf, then, firstOf}
 use Rattle.numbers.specs.declared.Check.{Check}
+use Rattle.numbers.specs.declared.Check.the-variants.{Fine, Refused}
+use Rattle.record.specs.declared.Numbers.{Numbers}
+use Rattle.record.specs.declared.Judged.{Judged}
+use Rattle.record.specs.declared.Judged.the-variants as judged
 use Rattle.value.specs.Pair.{isCanonical, pairLength, pairIn}
 use Rattle.reel.specs.Layout.{cardBytes, number16}
 use Rattle.reel.specs.Causes.{mostSamples, mostTraces, mostInterval, within}
@@ -161,3 +165,17 @@ formCauses s =
     then (cardsCauses s)
     (then (binaryCauses s)
     (bodyCauses s (heldSamples s) (heldInterval s) (heldCount s (heldSamples s))))
+
+-- ## What judging finds
+
+-- A record to which no cause of those applies, with its N and T; or the first cause.
+abbrev pub recordFound : List ℕ → Check → Judged
+recordFound s Fine = judged.Fine (heldSamples s) (heldCount s (heldSamples s))
+recordFound s (Refused number place) = judged.Refused number place
+
+abbrev pub recordJudged : List ℕ → Judged
+recordJudged s = recordFound s (formCauses s)
+
+-- N, and the count in the last four bytes, which is T where the record is valid.
+abbrev pub numbersIn : List ℕ → Numbers
+numbersIn s = record { samples = heldSamples s; traces = number (bytesAt s (length s - 4) 4) }

@@ -1,7 +1,6 @@
--- The record of a meaning, its form, what it holds, the causes against it, and what the calls on whole reels and records answer.
+-- The record of a meaning, its form, what it holds, the causes 12 and 13 against it, and what the calls on whole reels and records answer.
 pub mod Record
 pub mod Form
 pub mod Held
-pub mod Target
 pub mod Answer
 pub mod Parts

@@ -1,21 +1,17 @@
-// The causes 11 to 14 against a record that is to be written under a target code.
+// The form of a record: the causes 12 and 13 against any bytes that are lent as one.
 ghost use mathlib.Core.Path.{_≡_};
-ghost use mathlib.Core.Bool.{true, not, _&&_};
-ghost use Prim.Native.Nat.{_+_, _-_, _*_, _^_, _<_, _≤_};
+ghost use mathlib.Core.Bool.{not, _&&_};
+ghost use Prim.Native.Nat.{_+_, _-_, _*_, _≤_, _<_};
 ghost use lib.ListN.{length, getD};
-ghost use lib.Dec.{ltb, eqb};
+ghost use lib.Dec.{leb, ltb, eqb};
 ghost use Rattle.numbers.specs.Walk.{walk, bytesAt};
-ghost use Rattle.numbers.specs.BigEndian.{number};
 ghost use Rattle.numbers.specs.Cause.{refuseIf, then, firstOf};
-ghost use Rattle.numbers.specs.Places.{placeNo, byteNo};
-ghost use Rattle.numbers.specs.declared.Check.the-variants.{Fine};
-ghost use Rattle.value.specs.Value.{isCode};
+ghost use Rattle.numbers.specs.Places.{placeNo, byteNo, bytePlace};
 ghost use Rattle.value.specs.Pair.{pairIn};
 ghost use Rattle.reel.specs.Layout.{number16};
-ghost use Rattle.reel.specs.Causes.{mostSamples, mostTraces};
-ghost use Rattle.record.specs.Form.{fieldCause, cardCause, cardsCauses, numberCauses, binaryCauses, tracesPlace, pairCause, traceForm, endCauses, formCauses};
-ghost use Rattle.record.specs.Target.{targetCauses, recordFound, fitJudged};
-ghost use Rattle.record.specs.Parts.{headForm, traceCheck, formFrom, fitFrom};
+ghost use Rattle.reel.specs.Causes.{mostTraces};
+ghost use Rattle.record.specs.Form.{fieldHead, fieldCause, cardCause, cardsCauses, numberCauses, binaryStart, binaryCauses, pairCause, traceForm, endCauses, formCauses, numbersIn, recordJudged};
+ghost use Rattle.record.specs.Parts.{headForm, formFrom};
 use numbers::ByteNo;
 use numbers::Check;
 use numbers::Place;
@@ -34,35 +30,36 @@ pub enum Answer {
     },
 }
 
-// What checking a record for a target code finds: N and T, where no cause applies, or the first cause.
+// N, and the count of traces that a record says.
+pub struct Numbers {
+    pub samples: usize,
+    pub traces: usize,
+}
+
+// What judging a record finds: N and T, where no cause applies, or the first cause.
 pub enum Judged {
     Fine { samples: usize, traces: usize },
     Refused { number: u8, place: Place },
 }
 
-// The number in the two bytes at a place.
-fn word_at(record: &[u8], p: Place) -> usize
-    requires { ⌜ placeNo p + 1 < length (now «record») ⌝ }
-    ensures { λ r. ⌜ (r ≡ number16 (now («record» .entry)) (placeNo p)) × (r < 2 ^ 16) ⌝ }
+// Whether a field of that length, with its tag and length before it, ends within so many bytes.
+fn ends_within(bytes: usize, size: usize, at: usize) -> bool
+    ensures { λ r. ⌜ r ≡ leb (at + (fieldHead + size)) bytes ⌝ }
 {
-    let at = p.0;
-    numbers::be16(record[at], record[at + 1]) as usize
-}
-
-// The number in the four bytes at a place.
-fn count_at(record: &[u8], at: usize) -> usize
-    requires { ⌜ at + 4 ≤ length (now «record») ⌝ }
-    ensures { λ r. ⌜ r ≡ number (bytesAt (now («record» .entry)) at 4) ⌝ }
-{
-    numbers::be32(record[at], record[at + 1], record[at + 2], record[at + 3]) as usize
+    if bytes < at {
+        return false;
+    }
+    if bytes - at < 3 {
+        return false;
+    }
+    size <= bytes - at - 3
 }
 
 // 12: whether a field of this tag and length stands whole at a place.
 fn check_field(record: &[u8], tag: u8, size: usize, at: usize) -> Check
-    requires { ⌜ (at ≤ length (now «record»)) × (size < 2 ^ 16) ⌝ }
     ensures { λ r. ⌜ r ≡ fieldCause (now («record» .entry)) tag size at ⌝ }
 {
-    if record.len() - at < 3 + size {
+    if !ends_within(record.len(), size, at) {
         return Check::Refused {
             number: 12,
             place: Place(at),
@@ -74,7 +71,7 @@ fn check_field(record: &[u8], tag: u8, size: usize, at: usize) -> Check
             place: Place(at),
         };
     }
-    if word_at(record, Place(at + 1)) != size {
+    if slices::number16_at(record, Place(at + 1)) as usize != size {
         return Check::Refused {
             number: 12,
             place: Place(at),
@@ -115,7 +112,7 @@ fn check_cards(record: &[u8]) -> Check
 }
 
 // 13: a number unlike the one that belongs there.
-fn check_same(n: usize, own: usize, place: Place) -> Check
+fn check_same(n: u16, own: u16, place: Place) -> Check
     ensures { λ r. ⌜ r ≡ refuseIf (not (eqb n own)) 13 (placeNo place) ⌝ }
 {
     if n == own {
@@ -125,14 +122,26 @@ fn check_same(n: usize, own: usize, place: Place) -> Check
 }
 
 // 13 of tag 02: the interval, N and the format code. Byte number 1 would stand at the place 6.
-fn check_numbers(i: usize, n: usize, code: usize) -> Check
+fn check_numbers(i: u16, n: u16, code: u16) -> Check
     ensures { λ r. ⌜ r ≡ numberCauses i n code ⌝ }
 {
-    let a = reel::check_limits(i, 1, 32767, 13, places::field_at(Place(6), ByteNo(3217)));
+    let a = reel::check_limits(
+        i as usize,
+        1,
+        32767,
+        13,
+        places::field_at(Place(6), ByteNo(3217)),
+    );
     let Check::Fine = a else {
         return a;
     };
-    let b = reel::check_limits(n, 1, 8000, 13, places::field_at(Place(6), ByteNo(3221)));
+    let b = reel::check_limits(
+        n as usize,
+        1,
+        8000,
+        13,
+        places::field_at(Place(6), ByteNo(3221)),
+    );
     let Check::Fine = b else {
         return b;
     };
@@ -140,16 +149,15 @@ fn check_numbers(i: usize, n: usize, code: usize) -> Check
 }
 
 // The number in a field of the binary header.
-fn binary_word(record: &[u8], b: ByteNo) -> usize
-    requires { ⌜ (1 ≤ byteNo b) × (byteNo b + 6 < length (now «record»)) ⌝ }
-    ensures { λ r. ⌜ (r ≡ number16 (now («record» .entry)) (byteNo b + 5)) × (r < 2 ^ 16) ⌝ }
+fn binary_number(record: &[u8], b: ByteNo) -> u16
+    requires { ⌜ 1 ≤ byteNo b ⌝ }
+    ensures { λ r. ⌜ r ≡ number16 (now («record» .entry)) (bytePlace binaryStart (byteNo b)) ⌝ }
 {
-    word_at(record, places::field_at(Place(6), b))
+    slices::number16_at(record, places::field_at(Place(6), b))
 }
 
 // 12 and 13 of tag 02.
 fn check_binary(record: &[u8]) -> Check
-    requires { ⌜ 3203 ≤ length (now «record») ⌝ }
     ensures { λ r. ⌜ r ≡ binaryCauses (now («record» .entry)) ⌝ }
 {
     let a = check_field(record, 2, 60, 3203);
@@ -157,9 +165,9 @@ fn check_binary(record: &[u8]) -> Check
         return a;
     };
     check_numbers(
-        binary_word(record, ByteNo(3217)),
-        binary_word(record, ByteNo(3221)),
-        binary_word(record, ByteNo(3225)),
+        binary_number(record, ByteNo(3217)),
+        binary_number(record, ByteNo(3221)),
+        binary_number(record, ByteNo(3225)),
     )
 }
 
@@ -199,105 +207,91 @@ fn check_canonical(record: &[u8], n: usize, start: usize) -> Check
 }
 
 // 13: a trace field unlike the reel's number, by the byte number where it begins.
-fn check_like(record: &[u8], start: usize, b: ByteNo, own: usize) -> Check
+fn check_like(record: &[u8], start: usize, b: ByteNo, own: u16) -> Check
     requires { ⌜ (1 ≤ byteNo b) × (start + byteNo b < length (now «record»)) ⌝ }
-    ensures { λ r. ⌜ r ≡ refuseIf (not (eqb (number16 (now («record» .entry)) (start + (byteNo b - 1))) own)) 13 (start + (byteNo b - 1)) ⌝ }
+    ensures { λ r. ⌜ r ≡ refuseIf (not (eqb (number16 (now («record» .entry)) (bytePlace start (byteNo b))) own)) 13 (bytePlace start (byteNo b)) ⌝ }
 {
     let p = places::field_at(Place(start), b);
-    check_same(word_at(record, p), own, p)
+    check_same(slices::number16_at(record, p), own, p)
 }
 
-// 12 and 13 of a trace, but for its pairs.
-fn check_head(record: &[u8], n: usize, i: usize, at: usize) -> Check
-    requires { ⌜ (at ≤ length (now «record»)) × (n ≤ mostSamples) ⌝ }
-    ensures { λ r. ⌜ r ≡ headForm (now («record» .entry)) n i at ⌝ }
+// 12 and 13 of a trace whose tag 03 stands at a place, but for its pairs.
+pub fn check_head(record: &[u8], n: u16, i: u16, at: Place) -> Check
+    ensures { λ r. ⌜ r ≡ headForm (now («record» .entry)) n i (placeNo at) ⌝ }
 {
-    let a = check_field(record, 3, 180, at);
+    let p = at.0;
+    let a = check_field(record, 3, 180, p);
     let Check::Fine = a else {
         return a;
     };
-    let b = check_like(record, at + 3, ByteNo(115), n);
+    let b = check_like(record, p + 3, ByteNo(115), n);
     let Check::Fine = b else {
         return b;
     };
-    let c = check_like(record, at + 3, ByteNo(117), i);
+    let c = check_like(record, p + 3, ByteNo(117), i);
     let Check::Fine = c else {
         return c;
     };
-    check_field(record, 4, 6 * n, at + 183)
-}
-
-// A trace for which this finds nothing is of the right form, and its samples fit. What it finds first is a cause of 12 or 13, or a 14,
-// which gives way to any 12 or 13 behind it.
-fn check_trace(record: &[u8], code: u32, n: usize, i: usize, at: usize) -> Check
-    requires { ⌜ (isCode code ≡ true) × (at ≤ length (now «record»)) × (n ≤ mostSamples) ⌝ }
-    ensures { λ r. ⌜ r ≡ traceCheck (now («record» .entry)) code n i at ⌝ }
-{
-    let a = check_head(record, n, i, at);
-    let Check::Fine = a else {
-        return a;
-    };
-    write_samples::check_samples(record, code, n, at + 186)
+    check_field(record, 4, 6 * n as usize, p + 183)
 }
 
 // 12 and 13 of a trace.
-fn check_trace_form(record: &[u8], n: usize, i: usize, at: usize) -> Check
-    requires { ⌜ (at ≤ length (now «record»)) × (n ≤ mostSamples) ⌝ }
+fn check_trace_form(record: &[u8], n: u16, i: u16, at: usize) -> Check
     ensures { λ r. ⌜ r ≡ traceForm (now («record» .entry)) n i at ⌝ }
 {
-    let a = check_head(record, n, i, at);
+    let a = check_head(record, n, i, Place(at));
     let Check::Fine = a else {
         return a;
     };
-    check_canonical(record, n, at + 186)
+    check_canonical(record, n as usize, at + 186)
 }
 
 // Whether a trace is to be looked for at a place, behind t traces: tag 03 stands there, and it is not trace 100,001.
-fn more(record: &[u8], t: usize, at: usize) -> bool
-    ensures { λ r. ⌜ r ≡ (ltb t mostTraces && eqb (getD (now («record» .entry)) at 0) 3) ⌝ }
+pub fn is_trace(record: &[u8], t: usize, at: Place) -> bool
+    ensures { λ r. ⌜ r ≡ (ltb t mostTraces && eqb (getD (now («record» .entry)) (placeNo at) 0) 3) ⌝ }
 {
+    let p = at.0;
     if 100000 <= t {
         return false;
     }
-    if record.len() <= at {
+    if record.len() <= p {
         return false;
     }
-    record[at] == 3
+    record[p] == 3
 }
 
 // 12 of tag 05, behind t traces.
-fn check_end(record: &[u8], t: usize, at: usize) -> Check
-    requires { ⌜ at ≤ length (now «record») ⌝ }
-    ensures { λ r. ⌜ r ≡ endCauses (now («record» .entry)) t at ⌝ }
+pub fn check_end(record: &[u8], t: usize, at: Place) -> Check
+    ensures { λ r. ⌜ r ≡ endCauses (now («record» .entry)) t (placeNo at) ⌝ }
 {
-    let a = check_field(record, 5, 4, at);
+    let p = at.0;
+    let a = check_field(record, 5, 4, p);
     let Check::Fine = a else {
         return a;
     };
-    if count_at(record, at + 3) != t {
+    if slices::number32_at(record, Place(p + 3)) as usize != t {
         return Check::Refused {
             number: 12,
-            place: Place(at),
+            place: at,
         };
     }
-    if at + 7 < record.len() {
+    if p + 7 < record.len() {
         return Check::Refused {
             number: 12,
-            place: Place(at + 7),
+            place: Place(p + 7),
         };
     }
     Check::Fine
 }
 
-// 12 and 13 from the place start on, behind done traces.
-fn check_rest(record: &[u8], n: usize, i: usize, done: usize, start: usize) -> Check
-    requires { ⌜ (n ≤ mostSamples) × (done ≤ mostTraces) × (start ≤ length (now «record»)) ⌝ }
-    ensures { λ r. ⌜ r ≡ formFrom (now («record» .entry)) n i (mostTraces - done) done start ⌝ }
+// 12 and 13 from a place on, behind done traces.
+pub fn check_rest(record: &[u8], n: u16, i: u16, done: usize, start: Place) -> Check
+    ensures { λ r. ⌜ r ≡ formFrom (now («record» .entry)) n i (mostTraces - done) done (placeNo start) ⌝ }
 {
-    let w = 186 + 6 * n;
-    let mut at = start;
+    let w = 186 + 6 * n as usize;
+    let mut at = start.0;
     let mut t = done;
-    while more(record, t, at) {
+    while is_trace(record, t, Place(at)) {
         let c = check_trace_form(record, n, i, at);
         let Check::Fine = c else {
             return c;
@@ -305,42 +299,11 @@ fn check_rest(record: &[u8], n: usize, i: usize, done: usize, start: usize) -> C
         at += w;
         t += 1;
     }
-    check_end(record, t, at)
-}
-
-// 12 and 13 from a trace on; where there is none, what was found at that trace, which is then a sample that doesn't fit.
-fn check_later(record: &[u8], n: usize, i: usize, t: usize, at: usize, found: Check) -> Check
-    requires { ⌜ (n ≤ mostSamples) × (t ≤ mostTraces) × (at ≤ length (now «record»)) ⌝ }
-    ensures { λ r. ⌜ r ≡ then (formFrom (now («record» .entry)) n i (mostTraces - t) t at) found ⌝ }
-{
-    let a = check_rest(record, n, i, t, at);
-    let Check::Fine = a else {
-        return a;
-    };
-    found
-}
-
-// 12 and 13 of the traces and of what stands behind them, then 14.
-fn check_body(record: &[u8], code: u32, n: usize, i: usize) -> Check
-    requires { ⌜ (isCode code ≡ true) × (n ≤ mostSamples) × (tracesPlace ≤ length (now «record»)) ⌝ }
-    ensures { λ r. ⌜ r ≡ then (formFrom (now («record» .entry)) n i mostTraces 0 tracesPlace) (fitFrom (now («record» .entry)) code n mostTraces tracesPlace) ⌝ }
-{
-    let w = 186 + 6 * n;
-    let mut at = 3266;
-    let mut t = 0;
-    while more(record, t, at) {
-        let c = check_trace(record, code, n, i, at);
-        let Check::Fine = c else {
-            return check_later(record, n, i, t, at, c);
-        };
-        at += w;
-        t += 1;
-    }
-    check_end(record, t, at)
+    check_end(record, t, Place(at))
 }
 
 // 12 and 13 of the first two fields.
-fn check_front(record: &[u8]) -> Check
+pub fn check_front(record: &[u8]) -> Check
     ensures { λ r. ⌜ r ≡ then (cardsCauses (now («record» .entry))) (binaryCauses (now («record» .entry))) ⌝ }
 {
     let a = check_cards(record);
@@ -350,45 +313,44 @@ fn check_front(record: &[u8]) -> Check
     check_binary(record)
 }
 
-// 11, then 12 and 13, then 14.
-fn check_causes(record: &[u8], code: u32) -> Check
-    ensures { λ r. ⌜ r ≡ targetCauses (now («record» .entry)) code ⌝ }
+// 12 and 13.
+fn check_form(record: &[u8]) -> Check
+    ensures { λ r. ⌜ r ≡ formCauses (now («record» .entry)) ⌝ }
 {
-    let a = reel::check_limits(code as usize, 1, 4, 11, Place(0));
+    let a = check_front(record);
     let Check::Fine = a else {
         return a;
     };
-    let b = check_front(record);
-    let Check::Fine = b else {
-        return b;
-    };
-    check_body(
-        record,
-        code,
-        binary_word(record, ByteNo(3221)),
-        binary_word(record, ByteNo(3217)),
-    )
+    let n = binary_number(record, ByteNo(3221));
+    let i = binary_number(record, ByteNo(3217));
+    check_rest(record, n, i, 0, Place(3266))
 }
 
-// A record's N and T.
-fn own_numbers(record: &[u8]) -> Judged
-    requires { ⌜ formCauses (now «record») ≡ Fine ⌝ }
-    ensures { λ r. ⌜ r ≡ recordFound (now («record» .entry)) Fine ⌝ }
+// N, and the count of traces that the last four bytes say, which is T where the record is valid.
+pub fn numbers_in(record: &[u8]) -> Numbers
+    ensures { λ r. ⌜ r ≡ numbersIn (now («record» .entry)) ⌝ }
 {
-    let n = binary_word(record, ByteNo(3221));
-    Judged::Fine {
-        samples: n,
-        traces: count_at(record, record.len() - 4),
+    let size = record.len();
+    let last = if size < 4 { 0 } else { size - 4 };
+    Numbers {
+        samples: binary_number(record, ByteNo(3221)) as usize,
+        traces: slices::number32_at(record, Place(last)) as usize,
     }
 }
 
-// Whether a record can be written under a code, by the causes 11 to 14, and its N and T where none applies.
-pub fn judge_fit(record: &[u8], code: u32) -> Judged
-    ensures { λ r. ⌜ r ≡ fitJudged (now («record» .entry)) code ⌝ }
+// Whether a record is valid, by the causes 12 and 13, and its N and T where it is.
+pub fn judge_record(record: &[u8]) -> Judged
+    ensures { λ r. ⌜ r ≡ recordJudged (now («record» .entry)) ⌝ }
 {
-    let c = check_causes(record, code);
+    let c = check_form(record);
     match c {
         Check::Refused { number, place } => Judged::Refused { number, place },
-        Check::Fine => own_numbers(record),
+        Check::Fine => {
+            let held = numbers_in(record);
+            Judged::Fine {
+                samples: held.samples,
+                traces: held.traces,
+            }
+        }
     }
 }

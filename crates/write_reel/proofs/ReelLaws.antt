@@ -21,11 +21,12 @@ use Rattle.reel.specs.Meaning.{otherThan, Trace, Meaning}
 use Rattle.record.specs.Record.{numberBytes, withCode, binaryBytes}
 use Rattle.record.specs.Form.{heldSamples, heldInterval, heldStride, heldCount, tracesPlace, pairCause, traceForm, cardsCauses, binaryCauses, bodyCauses, formCauses}
 use Rattle.record.specs.Held.{heldValue, heldTrace, heldBy}
-use Rattle.record.specs.Target.{targetCauses}
+use Rattle.fit.specs.Target.{targetCauses}
 use Rattle.record.specs.Parts.{headForm}
 use Rattle.record.proofs.NumberLaws.{total, fields-again, numbers-append}
 use Rattle.record.proofs.HeaderLaws.{binary-front, binary-back}
-use Rattle.record.proofs.FormLaws.{trace-form, target-form}
+use Rattle.record.proofs.FormLaws.{trace-form}
+use Rattle.fit.proofs.FitLaws.{target-form}
 use Rattle.write_reel.specs.Reel.{sampleWritten, traceWritten, reelOf}
 use Rattle.write_samples.specs.Samples.{wordBytes, writtenAt, sampleWords}
 use Rattle.write_reel.specs.Copied.{reelTraceCopied, reelBinaryCopied, reelCopied}

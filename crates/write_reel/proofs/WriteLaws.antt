@@ -20,13 +20,15 @@ use Rattle.reel.specs.Causes.{mostSamples, mostTraces}
 use Rattle.reel.proofs.CheckLaws.{stride-high}
 use Rattle.record.specs.Form.{heldSamples, heldInterval, heldStride, heldCount, tracesPlace, cardsCauses, binaryCauses, bodyCauses, formCauses}
 use Rattle.record.specs.Held.{heldBy}
-use Rattle.record.specs.Target.{targetCauses, recordFound, fitJudged}
+use Rattle.fit.specs.Target.{targetCauses, fitJudged}
+use Rattle.record.specs.Form.{recordFound}
 use Rattle.record.specs.Answer.{outcome}
 use Rattle.record.specs.declared.Judged.{Judged}
 use Rattle.record.specs.declared.Judged.the-variants as judged
 use Rattle.record.specs.declared.Answer.{Answer}
 use Rattle.record.specs.declared.Answer.the-variants.{Taken, Refused}
-use Rattle.record.proofs.FormLaws.{tags-most, Headed, headed, held-length, target-form}
+use Rattle.record.proofs.FormLaws.{tags-most, Headed, headed, held-length}
+use Rattle.fit.proofs.FitLaws.{target-form}
 use Rattle.write_reel.specs.Reel.{reelOf, reelLength}
 use Rattle.write_reel.specs.Writing.{reelLengthOf, writeCauses, writeEnd, writeOutcome}
 use Rattle.write_reel.specs.Copied.{reelCopied}

@@ -10,7 +10,7 @@ use Rattle.numbers.specs.declared.Check.{Check}
 use Rattle.numbers.specs.declared.Check.the-variants as check
 use Rattle.record.specs.Form.{heldSamples, heldCount}
 use Rattle.record.specs.Held.{heldBy}
-use Rattle.record.specs.Target.{targetCauses}
+use Rattle.fit.specs.Target.{targetCauses}
 use Rattle.write_reel.specs.Reel.{reelOf, reelLength}
 
 -- The length of the reel of a record s under a code.

@@ -1,4 +1,4 @@
-// Writing a record as a reel. Two passes: `record::judge_fit` looks for a cause against the record and its samples, and then the
+// Writing a record as a reel. Two passes: `fit::judge_fit` looks for a cause against the record and its samples, and then the
 // reel is written. Each function that writes is lent exactly the bytes that it writes.
 ghost use mathlib.Core.Path.{_≡_};
 ghost use mathlib.Core.Bool.{true};
@@ -11,7 +11,7 @@ ghost use Rattle.value.specs.Value.{isCode};
 ghost use Rattle.reel.specs.Layout.{sampleBytes, stride};
 ghost use Rattle.reel.specs.Causes.{mostSamples};
 ghost use Rattle.record.specs.Form.{heldStride, tracesPlace};
-ghost use Rattle.record.specs.Target.{fitJudged};
+ghost use Rattle.fit.specs.Target.{fitJudged};
 ghost use Rattle.record.specs.Answer.{outcome};
 ghost use Rattle.write_reel.specs.Writing.{writeOutcome};
 ghost use Rattle.write_reel.specs.Copied.{zerosFor, reelTraceCopied, reelBinaryCopied, reelCopied};
@@ -38,7 +38,7 @@ fn put_trace(record: &[u8], code: u32, n: usize, at: usize, out: &mut [u8])
     let e = out.len();
     slices::copy(&record[at + 3..at + 183], &mut out[0..180]);
     put_zeros(&mut out[180..240]);
-    write_samples::write_samples(record, code, n, at + 186, &mut out[240..e]);
+    write_samples::write_samples(record, code, n, Place(at + 186), &mut out[240..e]);
 }
 
 // The traces, one behind the other.
@@ -116,7 +116,7 @@ fn write_checked(record: &[u8], code: u32, n: usize, t: usize, reel: &mut [u8]) 
 pub fn write_reel(record: &[u8], code: u32, reel: &mut [u8]) -> Answer
     ensures { λ r. ⌜ outcome r (now (reel .exit)) ≡ writeOutcome (now («record» .entry)) code (now (reel .entry)) ⌝ }
 {
-    let c = record::judge_fit(record, code);
+    let c = fit::judge_fit(record, code);
     match c {
         Judged::Refused { number, place } => Answer::Refused { number, place },
         Judged::Fine { samples, traces } => write_checked(record, code, samples, traces, reel),

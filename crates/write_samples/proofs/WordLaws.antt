@@ -98,17 +98,10 @@ module _ (s : List ℕ) (code n at : ℕ) where
   there : isCode code ≡ true → at + n * 6 ≤ length s → pairsThere s code n at ≡ true
   there i w = rw (i, le-leb (at + n * 6) (length s) w)
 
-  -- pairs that are there are looked at, and against others nothing is found
-  pub there-checked : pairsThere s code n at ≡ true → samplesChecked s code n at ≡ firstOf (walk (pairCheck s code) 6 n at)
-  unfolding samplesChecked
-  there-checked e = ap (λ (b : Bool). pick b (firstOf (walk (pairCheck s code) 6 n at)) Fine) e
-
-  pub missing-fine : pairsThere s code n at ≡ false → samplesChecked s code n at ≡ Fine
-  unfolding samplesChecked
-  missing-fine e = ap (λ (b : Bool). pick b (firstOf (walk (pairCheck s code) 6 n at)) Fine) e
-
+  -- pairs that are there are looked at
   pub samples-checked : isCode code ≡ true → at + n * 6 ≤ length s → samplesChecked s code n at ≡ firstOf (walk (pairCheck s code) 6 n at)
-  samples-checked i w = there-checked (there i w)
+  unfolding samplesChecked
+  samples-checked i w = rw (i, le-leb (at + n * 6) (length s) w)
 
   -- pairs that are there and fit are written, and others leave the output as it was
   module _ (out : List ℕ) where

@@ -1,12 +1,12 @@
 -- The samples of a trace as a record holds them: what writing them under a code finds against their pairs, and their words.
 use Prim.Native.Nat.{ℕ, _+_, _*_}
-use mathlib.Core.Bool.{Bool, _&&_}
+use mathlib.Core.Bool.{Bool, not, _&&_}
 use mathlib.Core.List.{List, map}
 use lib.ListN.{length, take}
 use lib.Dec.{leb, eqb}
 use Rattle.numbers.specs.Walk.{pick, walk, flat, bytesAt}
 use Rattle.numbers.specs.BigEndian.{bytesOf}
-use Rattle.numbers.specs.Cause.{firstOf}
+use Rattle.numbers.specs.Cause.{refuseIf, then, firstOf}
 use Rattle.numbers.specs.declared.Check.{Check}
 use Rattle.numbers.specs.declared.Check.the-variants.{Fine, Refused}
 use Rattle.value.specs.Value.{isCode}
@@ -35,9 +35,12 @@ pairCheck s code at = pairRefused (writtenAt s code at) at
 abbrev pub pairsThere : List ℕ → ℕ → ℕ → ℕ → Bool
 pairsThere s code n at = isCode code && leb (at + n * pairLength) (length s)
 
--- The first cause against n pairs from a place on; none where they aren't there.
+-- The causes against writing n pairs from the place `at` on: 11, the code is none; 12, they aren't all there; else 13 or 14 against the
+-- first pair that has one.
 unfoldable pub samplesChecked : List ℕ → ℕ → ℕ → ℕ → Check
-samplesChecked s code n at = pick (pairsThere s code n at) (firstOf (walk (pairCheck s code) pairLength n at)) Fine
+samplesChecked s code n at =
+    then (refuseIf (not (isCode code)) 11 0)
+    (then (refuseIf (not (leb (at + n * pairLength) (length s))) 12 at) (firstOf (walk (pairCheck s code) pairLength n at)))
 
 -- ## Words
 

@@ -8,6 +8,7 @@ ghost use lib.ListN.{length, take};
 ghost use Rattle.numbers.specs.Walk.{walk, bytesAt};
 ghost use Rattle.numbers.specs.BigEndian.{number, bytesOf};
 ghost use Rattle.numbers.specs.Cause.{firstOf};
+ghost use Rattle.numbers.specs.Places.{placeNo};
 ghost use Rattle.value.specs.Value.{isCode};
 ghost use Rattle.value.specs.Writing.{writePair, wordBits};
 ghost use Rattle.reel.specs.Layout.{sampleBytes};
@@ -200,27 +201,38 @@ fn are_there(bytes: usize, code: u32, n: usize, start: usize) -> bool
     slices::are_within(bytes, n, 6, start)
 }
 
-// The first of a trace's samples that can't be written under a code: the cause 13 or 14 against its pair, of n pairs from a place on. Where the
-// code isn't 1 to 4 or the pairs aren't all there, nothing is found.
-pub fn check_samples(record: &[u8], code: u32, n: usize, start: usize) -> Check
-    ensures { λ r. ⌜ r ≡ samplesChecked (now («record» .entry)) code n start ⌝ }
+// Whether a trace's samples can be written under a code: 11 where the code isn't 1 to 4; 12 where n pairs from a place on aren't all there;
+// else the cause 13 or 14 against the first pair that has one.
+pub fn check_samples(record: &[u8], code: u32, n: usize, start: Place) -> Check
+    ensures { λ r. ⌜ r ≡ samplesChecked (now («record» .entry)) code n (placeNo start) ⌝ }
 {
-    if !are_there(record.len(), code, n, start) {
-        return Check::Fine;
+    let at = start.0;
+    if !reel::is_code(code as usize) {
+        return Check::Refused {
+            number: 11,
+            place: Place(0),
+        };
     }
-    check_pairs(record, code, n, start)
+    if !slices::are_within(record.len(), n, 6, at) {
+        return Check::Refused {
+            number: 12,
+            place: start,
+        };
+    }
+    check_pairs(record, code, n, at)
 }
 
 // The samples of a trace: the words of n pairs from a place on. Where the code isn't 1 to 4, the pairs aren't all there or the output isn't as
 // long as n words, it is left as it was.
-pub fn write_samples(record: &[u8], code: u32, n: usize, start: usize, out: &mut [u8])
-    ensures { λ _. ⌜ now (out .exit) ≡ samplesWritten (now («record» .entry)) code n start (now (out .entry)) ⌝ }
+pub fn write_samples(record: &[u8], code: u32, n: usize, start: Place, out: &mut [u8])
+    ensures { λ _. ⌜ now (out .exit) ≡ samplesWritten (now («record» .entry)) code n (placeNo start) (now (out .entry)) ⌝ }
 {
-    if !are_there(record.len(), code, n, start) {
+    let at = start.0;
+    if !are_there(record.len(), code, n, at) {
         return;
     }
     if !slices::make_up(out.len(), n, reel::width_of(code as usize)) {
         return;
     }
-    put_samples(record, code, n, start, out);
+    put_samples(record, code, n, at, out);
 }

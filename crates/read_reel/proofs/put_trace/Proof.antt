@@ -58,8 +58,8 @@ part-put-tag-end-2 c = omega (arith, c .before .before .before .before .before .
 put-tag-requires-2 : tie.Need-put-tag-requires-2
 put-tag-requires-2 c κs = c .put-tag-arg2 .given .2
 
-add-read-samples : tie.Need-add-read-samples
-add-read-samples c = omega (arith, c .before .before .before .before .before .before .before .before .before .before .before .before .before .before .pre .2, c .before .before .before .before .before .before .before .before .before .before .before .before .before .before .good .0)
+add-t20 : tie.Need-add-t20
+add-t20 c = omega (arith, c .before .before .before .before .before .before .before .before .before .before .before .before .before .before .pre .2, c .before .before .before .before .before .before .before .before .before .before .before .before .before .before .good .0)
 
 sub-read-samples : tie.Need-sub-read-samples
 sub-read-samples c = omega arith
@@ -111,7 +111,7 @@ put-trace-spec =
     part-put-tag-start-2
     part-put-tag-end-2
     put-tag-requires-2
-    add-read-samples
+    add-t20
     sub-read-samples
     part-read-samples-start
     part-read-samples-end

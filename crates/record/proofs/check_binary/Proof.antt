@@ -1,26 +1,19 @@
 -- `record::check_binary` meets its contract. Assumes nothing.
-use Rattle.record.proofs.FormLaws.{field-room}
 use Rattle.record.specs.Form.{fieldCause, numberCauses, binaryCauses}
 use Rattle.reel.specs.Layout.{number16}
 use Rattle.numbers.proofs.CauseLaws.{then-stop, then-next}
 use Rattle.numbers.specs.declared.Check.the-variants.{Fine}
-use lib.ListN.{length}
-use Prim.Native.Nat.{ℕ, _≤_}
+use Prim.Native.Nat.{ℕ}
 use mathlib.Core.Path.{_≡_, sym, ap, _∙_}
 use native.Mathlib.Omega.{arith}
-use lib.Dec.{lit<}
 use Rattle.record.proofs.check_binary.Statement.{statement}
 use Rattle.record.proofs.check_binary.Tie as tie
 
 fine : (c : tie.After-enum-told) → fieldCause (c .before .before .before .before .args .«record» .now) 2 60 3203 ≡ Fine
 fine c = sym (c .before .before .check-field .ensures) ∙ c .enum-told .given .1
 
--- the field ends within the record
-room : (c : tie.After-enum-told) → 3266 ≤ length (c .before .before .before .before .args .«record» .now)
-room c = field-room (c .before .before .before .before .args .«record» .now) 2 60 3203 (fine c)
-
 check-field-requires : tie.Need-check-field-requires
-check-field-requires c κs = (c .before .pre, lit< tt)
+check-field-requires c κs = tt
 
 enum-told : tie.Need-enum-told
 enum-told c = c .match .keys1
@@ -32,14 +25,14 @@ returns : tie.Need-returns
 unfolding binaryCauses
 returns c = let e = c .before .before .check-field .ensures in e ∙ then-stop _ _ (sym e ∙ c .enum-told2 .given .1)
 
-binary-word-requires : tie.Need-binary-word-requires
-binary-word-requires c κs = (omega arith, omega (arith, room c))
+binary-number-requires : tie.Need-binary-number-requires
+binary-number-requires c κs = omega arith
 
-binary-word-requires-2 : tie.Need-binary-word-requires-2
-binary-word-requires-2 c κs = (omega arith, omega (arith, room (c .before)))
+binary-number-requires-2 : tie.Need-binary-number-requires-2
+binary-number-requires-2 c κs = omega arith
 
-binary-word-requires-3 : tie.Need-binary-word-requires-3
-binary-word-requires-3 c κs = (omega arith, omega (arith, room (c .before .before)))
+binary-number-requires-3 : tie.Need-binary-number-requires-3
+binary-number-requires-3 c κs = omega arith
 
 check-numbers-requires : tie.Need-check-numbers-requires
 check-numbers-requires c κs = tt
@@ -48,11 +41,11 @@ returns-2 : tie.Need-returns-2
 unfolding binaryCauses
 returns-2 c =
     let s = c .before .before .before .before .before .before .before .before .args .«record» .now in
-    let i = c .before .before .before .binary-word in
-    let n = c .before .before .binary-word2 in
-    let k = c .before .binary-word3 in
-    c .check-numbers .ensures ∙ ap (λ (x : ℕ). numberCauses x (n .result) (k .result)) (i .ensures .0) ∙ ap (λ (x : ℕ). numberCauses (number16 s 3222) x (k .result)) (n .ensures .0)
-    ∙ ap (λ (x : ℕ). numberCauses (number16 s 3222) (number16 s 3226) x) (k .ensures .0)
+    let i = c .before .before .before .binary-number in
+    let n = c .before .before .binary-number2 in
+    let k = c .before .binary-number3 in
+    c .check-numbers .ensures ∙ ap (λ (x : ℕ). numberCauses x (n .result) (k .result)) (i .ensures) ∙ ap (λ (x : ℕ). numberCauses (number16 s 3222) x (k .result)) (n .ensures)
+    ∙ ap (λ (x : ℕ). numberCauses (number16 s 3222) (number16 s 3226) x) (k .ensures)
     ∙ then-next _ _ (fine (c .before .before .before .before))
 
 pub check-binary-spec : {M : Type 1} → statement M
@@ -63,8 +56,8 @@ check-binary-spec =
     enum-told
     enum-told-2
     returns
-    binary-word-requires
-    binary-word-requires-2
-    binary-word-requires-3
+    binary-number-requires
+    binary-number-requires-2
+    binary-number-requires-3
     check-numbers-requires
     returns-2)

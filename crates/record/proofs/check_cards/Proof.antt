@@ -5,7 +5,6 @@ use Rattle.numbers.proofs.CauseLaws.{then-stop, then-next}
 use Rattle.numbers.specs.declared.Check.the-variants.{Fine}
 use mathlib.Core.Path.{_≡_, sym, _∙_}
 use native.Mathlib.Omega.{arith}
-use lib.Dec.{lit<}
 use Rattle.record.proofs.check_cards.Statement.{statement}
 use Rattle.record.proofs.check_cards.Tie as tie
 
@@ -13,7 +12,7 @@ fine : (c : tie.After-enum-told) → fieldCause (c .before .before .before .befo
 fine c = sym (c .before .before .check-field .ensures) ∙ c .enum-told .given .1
 
 check-field-requires : tie.Need-check-field-requires
-check-field-requires c κs = (omega arith, lit< tt)
+check-field-requires c κs = tt
 
 enum-told : tie.Need-enum-told
 enum-told c = c .match .keys1

@@ -4,37 +4,39 @@ use Rattle.record.specs.Form.{fieldCause}
 use Rattle.numbers.specs.Walk.{bytesAt}
 use Rattle.numbers.specs.BigEndian.{number}
 use Rattle.numbers.specs.Cause.{refuseIf}
+use Rattle.numbers.specs.Places.{placeNo}
 use Rattle.numbers.proofs.CauseLaws.{then-stop, then-next}
 use Rattle.numbers.specs.declared.Check.{Check}
 use Rattle.numbers.specs.declared.Check.the-variants.{Fine, Refused}
 use borrow.Author.Tests.{eq-eqb, ne-eqb, lt-ltb, le-ltb}
-use lib.Dec.{lit<, ltb, eqb}
+use lib.Dec.{ltb, eqb}
 use lib.ListN.{length}
 use mathlib.Core.Bool.{not}
 use Prim.Native.Nat.{ℕ, _+_, _≤_}
 use mathlib.Core.Path.{_≡_, refl, sym, ap, _∙_}
 use native.Mathlib.Omega.{arith}
+use borrow.Author.Needs.{needs}
 use Rattle.record.proofs.check_end.Statement.{statement}
 use Rattle.record.proofs.check_end.Tie as tie
 
-fine : (c : tie.After-enum-told) → let a = c .before .before .before .before .args in fieldCause (a .«record» .now) 5 4 (a .at) ≡ Fine
+fine : (c : tie.After-enum-told) → let a = c .before .before .before .before .args in fieldCause (a .«record» .now) 5 4 (placeNo (a .at)) ≡ Fine
 fine c = sym (c .before .before .check-field .ensures) ∙ c .enum-told .given .1
 
 -- the field ends within the record
-room : (c : tie.After-enum-told) → let a = c .before .before .before .before .args in a .at + 7 ≤ length (a .«record» .now)
-room c = let a = c .before .before .before .before .args in field-room (a .«record» .now) 5 4 (a .at) (fine c)
+room : (c : tie.After-enum-told) → let a = c .before .before .before .before .args in placeNo (a .at) + 7 ≤ length (a .«record» .now)
+room c = let a = c .before .before .before .before .args in field-room (a .«record» .now) 5 4 (placeNo (a .at)) (fine c)
 
 -- the cause of a count, by the number that was read
-abbrev count : (c : tie.After-count-at) → ℕ → Check
-count c x = let a = c .before .before .before .before .before .args in refuseIf (not (eqb x (a .t))) 12 (a .at)
+abbrev count : (c : tie.After-number32-at) → ℕ → Check
+count c x = let a = c .before .before .before .before .before .args in refuseIf (not (eqb x (a .t))) 12 (placeNo (a .at))
 
-same : (c : tie.Else1) → let a = c .before .before .before .before .before .before .args in refuseIf (not (eqb (number (bytesAt (a .«record» .now) (a .at + 3) 4)) (a .t))) 12 (a .at) ≡ Fine
+same : (c : tie.Else1) → let a = c .before .before .before .before .before .before .args in refuseIf (not (eqb (number (bytesAt (a .«record» .now) (placeNo (a .at) + 3) 4)) (a .t))) 12 (placeNo (a .at)) ≡ Fine
 same c =
-    let m : count (c .before) (c .before .count-at .result) ≡ Fine = rw (eq-eqb (c .before .count-at .result) (c .before .before .before .before .before .before .args .t) (c .if1 .left)) in
-    sym (ap (count (c .before)) (c .before .count-at .ensures)) ∙ m
+    let m : count (c .before) (c .before .number32-at .result) ≡ Fine = rw (eq-eqb (c .before .number32-at .result) (c .before .before .before .before .before .before .args .t) (c .if1 .left)) in
+    sym (ap (count (c .before)) (c .before .number32-at .ensures)) ∙ m
 
 check-field-requires : tie.Need-check-field-requires
-check-field-requires c κs = (c .before .pre, lit< tt)
+check-field-requires c κs = tt
 
 enum-told : tie.Need-enum-told
 enum-told c = c .match .keys1
@@ -45,35 +47,38 @@ enum-told-2 c = c .match .keys2
 returns : tie.Need-returns
 returns c = let e = c .before .before .check-field .ensures in e ∙ then-stop _ _ (sym e ∙ c .enum-told2 .given .1)
 
-add-count-at : tie.Need-add-count-at
-add-count-at c = omega (arith, room c)
+add-if2 : tie.Need-add-if2
+add-if2 c = omega (arith, room c)
 
-count-at-requires : tie.Need-count-at-requires
-count-at-requires c κs = omega (arith, room c)
+number32-at-requires : tie.Need-number32-at-requires
+number32-at-requires c κs = tt
+
+cast-if1 : tie.Need-cast-if1
+cast-if1 c = search needs
 
 returns-2 : tie.Need-returns-2
 returns-2 c =
     let a = c .before .before .before .before .before .before .args in
-    let m : Refused 12 (record { 0 = a .at }) ≡ count (c .before) (c .before .count-at .result) = rw (ne-eqb (c .before .count-at .result) (a .t) (c .if1 .taken)) in
-    let e = m ∙ ap (count (c .before)) (c .before .count-at .ensures) in
+    let m : Refused 12 (a .at) ≡ count (c .before) (c .before .number32-at .result) = rw (ne-eqb (c .before .number32-at .result) (a .t) (c .if1 .taken)) in
+    let e = m ∙ ap (count (c .before)) (c .before .number32-at .ensures) in
     e ∙ then-stop _ _ (sym e) ∙ then-next _ _ (fine (c .before .before))
 
-add-if2 : tie.Need-add-if2
-add-if2 c = omega (arith, room (c .before .before))
+add-if2-2 : tie.Need-add-if2-2
+add-if2-2 c = omega (arith, room (c .before .before))
 
-add-t9 : tie.Need-add-t9
-add-t9 c = omega (arith, room (c .before .before .before))
+add-t11 : tie.Need-add-t11
+add-t11 c = omega (arith, room (c .before .before .before))
 
 returns-3 : tie.Need-returns-3
 returns-3 c =
     let a = c .before .before .before .before .before .before .before .args in
-    let e : Refused 12 (record { 0 = a .at + 7 }) ≡ refuseIf (ltb (a .at + 7) (length (a .«record» .now))) 12 (a .at + 7) = rw (lt-ltb (a .at + 7) (length (a .«record» .now)) (c .if2 .taken)) in
+    let e : Refused 12 (record { 0 = placeNo (a .at) + 7 }) ≡ refuseIf (ltb (placeNo (a .at) + 7) (length (a .«record» .now))) 12 (placeNo (a .at) + 7) = rw (lt-ltb (placeNo (a .at) + 7) (length (a .«record» .now)) (c .if2 .taken)) in
     e ∙ then-stop _ Fine (sym e) ∙ then-next _ _ (same (c .before)) ∙ then-next _ _ (fine (c .before .before .before))
 
 returns-4 : tie.Need-returns-4
 returns-4 c =
     let a = c .before .before .before .before .before .before .before .args in
-    let e : Fine ≡ refuseIf (ltb (a .at + 7) (length (a .«record» .now))) 12 (a .at + 7) = rw (le-ltb (a .at + 7) (length (a .«record» .now)) (c .if2 .left)) in
+    let e : Fine ≡ refuseIf (ltb (placeNo (a .at) + 7) (length (a .«record» .now))) 12 (placeNo (a .at) + 7) = rw (le-ltb (placeNo (a .at) + 7) (length (a .«record» .now)) (c .if2 .left)) in
     then-next _ Fine (sym e) ∙ then-next _ _ (same (c .before)) ∙ then-next _ _ (fine (c .before .before .before))
 
 pub check-end-spec : {M : Type 1} → statement M
@@ -84,10 +89,11 @@ check-end-spec =
     enum-told
     enum-told-2
     returns
-    add-count-at
-    count-at-requires
-    returns-2
     add-if2
-    add-t9
+    number32-at-requires
+    cast-if1
+    returns-2
+    add-if2-2
+    add-t11
     returns-3
     returns-4)

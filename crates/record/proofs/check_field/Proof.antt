@@ -1,65 +1,70 @@
 -- `record::check_field` meets its contract. Assumes nothing.
-use Rattle.numbers.specs.Cause.{refuseIf}
 use Rattle.reel.specs.Layout.{number16}
-use borrow.Author.Tests.{le-leb, lt-leb, eq-eqb, ne-eqb}
+use borrow.Author.Tests.{leb-true, le-leb, eq-eqb, ne-eqb, not-true, not-false}
+use lib.Dec.{leb}
 use lib.ListN.{length, getD}
 use Prim.Native.Nat.{_+_, _≤_}
+use mathlib.Core.Bool.{true}
 use mathlib.Core.Path.{_≡_, sym, _∙_}
 use native.Mathlib.Omega.{arith}
+use borrow.Author.Needs.{needs}
 use Rattle.record.proofs.check_field.Statement.{statement}
 use Rattle.record.proofs.check_field.Tie as tie
 
 -- the field ends within the record
-room : (c : tie.Else1) → let a = c .before .before .args in a .at + (3 + a .size) ≤ length (a .«record» .now)
-room c = omega (arith, c .if1 .left, c .before .before .pre)
+whole : (c : tie.Else1) → let a = c .before .before .before .args in leb (a .at + (3 + a .size)) (length (a .«record» .now)) ≡ true
+whole c = sym (c .before .ends-within .ensures) ∙ not-false (c .before .ends-within .result) (c .if1 .left)
 
-sub-if1 : tie.Need-sub-if1
-sub-if1 c = omega (arith, c .before .pre .0)
+room : (c : tie.Else1) → let a = c .before .before .before .args in a .at + (3 + a .size) ≤ length (a .«record» .now)
+room c = let a = c .before .before .before .args in leb-true (a .at + (3 + a .size)) (length (a .«record» .now)) (whole c)
 
-add-if1 : tie.Need-add-if1
-add-if1 c = omega (arith, c .before .pre .1)
+ends-within-requires : tie.Need-ends-within-requires
+ends-within-requires c κs = search needs
 
 returns : tie.Need-returns
-returns c =
-    let a = c .before .before .args in
-    rw (lt-leb (a .at + (3 + a .size)) (length (a .«record» .now)) (omega (arith, c .if1 .taken, c .before .before .pre)))
+returns c = rw (sym (c .before .ends-within .ensures) ∙ not-true (c .before .ends-within .result) (c .if1 .taken))
 
 shared-slice-read-if2 : tie.Need-shared-slice-read-if2
 shared-slice-read-if2 c = omega (arith, room (c .before))
 
 returns-2 : tie.Need-returns-2
 returns-2 c =
-    let a = c .before .before .before .before .args in
-    rw (le-leb (a .at + (3 + a .size)) (length (a .«record» .now)) (room (c .before .before)), ne-eqb (getD (a .«record» .now) (a .at) 0) (a .tag) (c .if2 .taken))
+    let a = c .before .before .before .before .before .args in
+    rw (whole (c .before .before), ne-eqb (getD (a .«record» .now) (a .at) 0) (a .tag) (c .if2 .taken))
 
 add-t6 : tie.Need-add-t6
-add-t6 c = omega (arith, room (c .before .before), c .before .before .before .before .good .0)
+add-t6 c = omega (arith, room (c .before .before), c .before .before .before .before .before .good .0)
 
-word-at-requires : tie.Need-word-at-requires
-word-at-requires c κs = omega (arith, room (c .before .before))
+number16-at-requires : tie.Need-number16-at-requires
+number16-at-requires c κs = search needs
+
+cast-if3 : tie.Need-cast-if3
+cast-if3 c = search needs
 
 returns-3 : tie.Need-returns-3
 returns-3 c =
-    let a = c .before .before .before .before .before .before .args in
+    let b = c .before .before in
+    let a = b .before .before .before .before .before .args in
     let s = a .«record» .now in
-    rw (le-leb (a .at + (3 + a .size)) (length s) (room (c .before .before .before .before)), eq-eqb (getD s (a .at) 0) (a .tag) (c .before .before .if2 .left), ne-eqb (number16 s (a .at + 1)) (a .size) (λ q. c .if3 .taken (c .before .word-at .ensures .0 ∙ q)))
+    rw (whole (b .before .before), eq-eqb (getD s (a .at) 0) (a .tag) (b .if2 .left), ne-eqb (number16 s (a .at + 1)) (a .size) (λ q. c .if3 .taken (c .before .number16-at .ensures ∙ q)))
 
 returns-4 : tie.Need-returns-4
 returns-4 c =
-    let a = c .before .before .before .before .before .before .args in
+    let b = c .before .before in
+    let a = b .before .before .before .before .before .args in
     let s = a .«record» .now in
-    rw (le-leb (a .at + (3 + a .size)) (length s) (room (c .before .before .before .before)), eq-eqb (getD s (a .at) 0) (a .tag) (c .before .before .if2 .left), eq-eqb (number16 s (a .at + 1)) (a .size) (sym (c .before .word-at .ensures .0) ∙ c .if3 .left))
+    rw (whole (b .before .before), eq-eqb (getD s (a .at) 0) (a .tag) (b .if2 .left), eq-eqb (number16 s (a .at + 1)) (a .size) (sym (c .before .number16-at .ensures) ∙ c .if3 .left))
 
 pub check-field-spec : {M : Type 1} → statement M
 check-field-spec =
     tie.close
     (tie.spec
-    sub-if1
-    add-if1
+    ends-within-requires
     returns
     shared-slice-read-if2
     returns-2
     add-t6
-    word-at-requires
+    number16-at-requires
+    cast-if3
     returns-3
     returns-4)

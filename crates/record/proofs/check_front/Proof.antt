@@ -1,7 +1,6 @@
 -- `record::check_front` meets its contract. Assumes nothing.
-use Rattle.record.proofs.FormLaws.{field-room}
-use Rattle.record.specs.Form.{fieldCause, cardsCauses}
-use Rattle.numbers.proofs.CauseLaws.{then-stop, then-next, then-fine}
+use Rattle.record.specs.Form.{cardsCauses}
+use Rattle.numbers.proofs.CauseLaws.{then-stop, then-next}
 use Rattle.numbers.specs.declared.Check.the-variants.{Fine}
 use mathlib.Core.Path.{_≡_, sym, _∙_}
 use Rattle.record.proofs.check_front.Statement.{statement}
@@ -23,8 +22,7 @@ returns : tie.Need-returns
 returns c = let e = c .before .before .check-cards .ensures in e ∙ then-stop _ _ (sym e ∙ c .enum-told2 .given .1)
 
 check-binary-requires : tie.Need-check-binary-requires
-unfolding cardsCauses
-check-binary-requires c κs = field-room (c .before .before .before .before .args .«record» .now) 1 3200 0 (then-fine (fieldCause (c .before .before .before .before .args .«record» .now) 1 3200 0) _ (fine c) .0)
+check-binary-requires c κs = tt
 
 returns-2 : tie.Need-returns-2
 returns-2 c = c .check-binary .ensures ∙ then-next _ _ (fine (c .before))

@@ -5,41 +5,42 @@ use Rattle.record.specs.Parts.{headForm}
 use Rattle.reel.specs.Layout.{number16}
 use Rattle.numbers.proofs.CauseLaws.{then-stop, then-next}
 use Rattle.numbers.specs.Cause.{refuseIf}
-use Rattle.numbers.specs.Places.{bytePlace}
+use Rattle.numbers.specs.Places.{placeNo, bytePlace}
 use Rattle.numbers.specs.declared.Check.{Check}
 use Rattle.numbers.specs.declared.Check.the-variants.{Fine}
-use lib.Dec.{lit<, eqb}
+use lib.Dec.{eqb}
 use mathlib.Core.List.{List}
 use lib.ListN.{length}
 use mathlib.Core.Bool.{not}
 use Prim.Native.Nat.{ℕ, _+_, _*_, _≤_}
 use mathlib.Core.Path.{_≡_, sym, ap, _∙_}
 use native.Mathlib.Omega.{arith}
+use borrow.Author.Needs.{needs}
 use Rattle.record.proofs.check_head.Statement.{statement}
 use Rattle.record.proofs.check_head.Tie as tie
 
-fine : (c : tie.After-enum-told) → let a = c .before .before .before .before .args in fieldCause (a .«record» .now) 3 180 (a .at) ≡ Fine
+fine : (c : tie.After-enum-told) → let a = c .before .before .before .before .args in fieldCause (a .«record» .now) 3 180 (placeNo (a .at)) ≡ Fine
 fine c = sym (c .before .before .check-field .ensures) ∙ c .enum-told .given .1
 
 -- the trace's fields end within the record
-room : (c : tie.After-enum-told) → let a = c .before .before .before .before .args in a .at + 183 ≤ length (a .«record» .now)
-room c = let a = c .before .before .before .before .args in field-room (a .«record» .now) 3 180 (a .at) (fine c)
+room : (c : tie.After-enum-told) → let a = c .before .before .before .before .args in placeNo (a .at) + 183 ≤ length (a .«record» .now)
+room c = let a = c .before .before .before .before .args in field-room (a .«record» .now) 3 180 (placeNo (a .at)) (fine c)
 
 -- field 115, and field 117, unlike the reel's
-row115 : (c : tie.After-check-like) → let a = c .before .before .before .before .before .args in c .check-like .result ≡ refuseIf (not (eqb (number16 (a .«record» .now) (bytePlace (a .at + 3) 115)) (a .n))) 13 (bytePlace (a .at + 3) 115)
+row115 : (c : tie.After-check-like) → let a = c .before .before .before .before .before .args in c .check-like .result ≡ refuseIf (not (eqb (number16 (a .«record» .now) (bytePlace (placeNo (a .at) + 3) 115)) (a .n))) 13 (bytePlace (placeNo (a .at) + 3) 115)
 row115 c = c .check-like .ensures
 
-fine115 : (c : tie.After-enum-told3) → let a = c .before .before .before .before .before .before .before .args in refuseIf (not (eqb (number16 (a .«record» .now) (bytePlace (a .at + 3) 115)) (a .n))) 13 (bytePlace (a .at + 3) 115) ≡ Fine
+fine115 : (c : tie.After-enum-told3) → let a = c .before .before .before .before .before .before .before .args in refuseIf (not (eqb (number16 (a .«record» .now) (bytePlace (placeNo (a .at) + 3) 115)) (a .n))) 13 (bytePlace (placeNo (a .at) + 3) 115) ≡ Fine
 fine115 c = sym (row115 (c .before .before)) ∙ c .enum-told3 .given .1
 
-row117 : (c : tie.After-check-like2) → let a = c .before .before .before .before .before .before .before .before .args in c .check-like2 .result ≡ refuseIf (not (eqb (number16 (a .«record» .now) (bytePlace (a .at + 3) 117)) (a .i))) 13 (bytePlace (a .at + 3) 117)
+row117 : (c : tie.After-check-like2) → let a = c .before .before .before .before .before .before .before .before .args in c .check-like2 .result ≡ refuseIf (not (eqb (number16 (a .«record» .now) (bytePlace (placeNo (a .at) + 3) 117)) (a .i))) 13 (bytePlace (placeNo (a .at) + 3) 117)
 row117 c = c .check-like2 .ensures
 
-fine117 : (c : tie.After-enum-told5) → let a = c .before .before .before .before .before .before .before .before .before .before .args in refuseIf (not (eqb (number16 (a .«record» .now) (bytePlace (a .at + 3) 117)) (a .i))) 13 (bytePlace (a .at + 3) 117) ≡ Fine
+fine117 : (c : tie.After-enum-told5) → let a = c .before .before .before .before .before .before .before .before .before .before .args in refuseIf (not (eqb (number16 (a .«record» .now) (bytePlace (placeNo (a .at) + 3) 117)) (a .i))) 13 (bytePlace (placeNo (a .at) + 3) 117) ≡ Fine
 fine117 c = sym (row117 (c .before .before)) ∙ c .enum-told5 .given .1
 
 check-field-requires : tie.Need-check-field-requires
-check-field-requires c κs = (c .before .pre .0, lit< tt)
+check-field-requires c κs = tt
 
 enum-told : tie.Need-enum-told
 enum-told c = c .match .keys1
@@ -51,7 +52,7 @@ returns : tie.Need-returns
 returns c =
     let e = c .before .before .check-field .ensures in
     let a = c .before .before .before .before .args in
-    e ∙ then-stop _ _ (sym e ∙ c .enum-told2 .given .1) ∙ sym (head-form (a .«record» .now) (a .n) (a .i) (a .at))
+    e ∙ then-stop _ _ (sym e ∙ c .enum-told2 .given .1) ∙ sym (head-form (a .«record» .now) (a .n) (a .i) (placeNo (a .at)))
 
 add-check-like : tie.Need-add-check-like
 add-check-like c = omega (arith, room c)
@@ -69,7 +70,7 @@ returns-2 : tie.Need-returns-2
 returns-2 c =
     let e = row115 (c .before .before) in
     let a = c .before .before .before .before .before .before .before .args in
-    e ∙ then-stop _ _ (sym e ∙ c .enum-told4 .given .1) ∙ then-next _ _ (fine (c .before .before .before)) ∙ sym (head-form (a .«record» .now) (a .n) (a .i) (a .at))
+    e ∙ then-stop _ _ (sym e ∙ c .enum-told4 .given .1) ∙ then-next _ _ (fine (c .before .before .before)) ∙ sym (head-form (a .«record» .now) (a .n) (a .i) (placeNo (a .at)))
 
 add-check-like-2 : tie.Need-add-check-like-2
 add-check-like-2 c = omega (arith, room (c .before .before .before))
@@ -88,22 +89,22 @@ returns-3 c =
     let e = row117 (c .before .before) in
     let a = c .before .before .before .before .before .before .before .before .before .before .args in
     e ∙ then-stop _ _ (sym e ∙ c .enum-told6 .given .1) ∙ then-next _ _ (fine115 (c .before .before .before)) ∙ then-next _ _ (fine (c .before .before .before .before .before .before))
-    ∙ sym (head-form (a .«record» .now) (a .n) (a .i) (a .at))
+    ∙ sym (head-form (a .«record» .now) (a .n) (a .i) (placeNo (a .at)))
 
 mul-check-field : tie.Need-mul-check-field
-mul-check-field c = omega (arith, c .before .before .before .before .before .before .before .before .before .before .pre .1)
+mul-check-field c = search needs
 
 add-check-field : tie.Need-add-check-field
 add-check-field c = omega (arith, room (c .before .before .before .before .before .before))
 
 check-field-requires-2 : tie.Need-check-field-requires-2
-check-field-requires-2 c κs = (omega (arith, room (c .before .before .before .before .before .before)), omega (arith, c .before .before .before .before .before .before .before .before .before .before .pre))
+check-field-requires-2 c κs = tt
 
 returns-4 : tie.Need-returns-4
 returns-4 c =
     let a = c .before .before .before .before .before .before .before .before .before .before .before .args in
     c .check-field2 .ensures ∙ then-next _ _ (fine117 (c .before)) ∙ then-next _ _ (fine115 (c .before .before .before .before)) ∙ then-next _ _ (fine (c .before .before .before .before .before .before .before))
-    ∙ sym (head-form (a .«record» .now) (a .n) (a .i) (a .at))
+    ∙ sym (head-form (a .«record» .now) (a .n) (a .i) (placeNo (a .at)))
 
 pub check-head-spec : {M : Type 1} → statement M
 check-head-spec =

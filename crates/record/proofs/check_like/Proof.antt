@@ -1,19 +1,18 @@
 -- `record::check_like` meets its contract. Assumes nothing.
 use Rattle.reel.specs.Layout.{number16}
 use Rattle.numbers.specs.Cause.{refuseIf}
-use Rattle.numbers.specs.Places.{placeNo, byteNo}
+use Rattle.numbers.specs.Places.{placeNo, byteNo, bytePlace}
 use Rattle.numbers.proofs.PlaceLaws.{field-place}
 use lib.Dec.{eqb}
 use mathlib.Core.Bool.{not}
-use Prim.Native.Nat.{ℕ, _+_, _-_, _^_, _<_}
+use Prim.Native.Nat.{ℕ, _+_, _^_, _<_}
 use mathlib.Core.Path.{_≡_, ap, _∙_}
-use native.Mathlib.Omega.{arith}
 use borrow.Author.Needs.{needs}
 use Rattle.record.proofs.check_like.Statement.{statement}
 use Rattle.record.proofs.check_like.Tie as tie
 
 -- the field's place
-place : (c : tie.After-field-at) → let a = c .before .before .args in placeNo (c .field-at .result) ≡ a .start + (byteNo (a .b) - 1)
+place : (c : tie.After-field-at) → let a = c .before .before .args in placeNo (c .field-at .result) ≡ bytePlace (a .start) (byteNo (a .b))
 place c =
     let s = c .before .before in
     let l : s .args .start + byteNo (s .args .b) < 2 ^ 64 = search needs in
@@ -22,8 +21,8 @@ place c =
 field-at-requires : tie.Need-field-at-requires
 field-at-requires c κs = tt
 
-word-at-requires : tie.Need-word-at-requires
-word-at-requires c κs = omega (arith, place c, c .before .before .pre)
+number16-at-requires : tie.Need-number16-at-requires
+number16-at-requires c κs = tt
 
 check-same-requires : tie.Need-check-same-requires
 check-same-requires c κs = tt
@@ -33,9 +32,9 @@ returns c =
     let a = c .before .before .before .before .args in
     let s = a .«record» .now in
     let p = placeNo (c .before .before .field-at .result) in
-    c .check-same .ensures ∙ ap (λ (x : ℕ). refuseIf (not (eqb x (a .own))) 13 p) (c .before .word-at .ensures .0)
+    c .check-same .ensures ∙ ap (λ (x : ℕ). refuseIf (not (eqb x (a .own))) 13 p) (c .before .number16-at .ensures)
     ∙ ap (λ (x : ℕ). refuseIf (not (eqb (number16 s x) (a .own))) 13 x) (place (c .before .before))
 
 pub check-like-spec : {M : Type 1} → statement M
 check-like-spec =
-    tie.close (tie.spec field-at-requires word-at-requires check-same-requires returns)
+    tie.close (tie.spec field-at-requires number16-at-requires check-same-requires returns)

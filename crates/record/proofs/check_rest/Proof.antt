@@ -11,18 +11,19 @@ use mathlib.Core.Bool.{true, false}
 use Prim.Native.Nat.{_+_, _-_, _*_, _≤_, _<_}
 use mathlib.Core.Path.{_≡_, refl, sym, ap, _∙_}
 use native.Mathlib.Omega.{arith}
+use borrow.Author.Needs.{needs}
 use Rattle.record.proofs.check_rest.Statement.{statement}
 use Rattle.record.proofs.check_rest.Tie as tie
 
 abbrev Inv-loop : tie.InvT-loop
-Inv-loop «record» n i done start w at₀ t₀ at t =
-    (formFrom «record» n i (mostTraces - done) done start ≡ formFrom «record» n i (mostTraces - t) t at) × (t ≤ mostTraces) × (at ≤ length «record»)
+Inv-loop «record» n i done w at₀ t₀ at t =
+    formFrom «record» n i (mostTraces - done) done at₀ ≡ formFrom «record» n i (mostTraces - t) t at
 
 abbrev μ-loop : tie.MeasureT-loop
-μ-loop «record» n i done start w at₀ t₀ at t = mostTraces - t
+μ-loop «record» n i done w at₀ t₀ at t = mostTraces - t
 
 is-more : (c : tie.Then1 Inv-loop μ-loop) → isMore (c .before .before .before .before .args .«record» .now) (c .before .before .loop .t) (c .before .before .loop .at) ≡ true
-is-more c = sym (c .before .more .ensures) ∙ c .if1 .taken
+is-more c = sym (c .before .is-trace .ensures) ∙ c .if1 .taken
 
 few : (c : tie.Then1 Inv-loop μ-loop) → c .before .before .loop .t < mostTraces
 few c = more-few (c .before .before .before .before .args .«record» .now) (c .before .before .loop .t) (c .before .before .loop .at) (is-more c)
@@ -35,19 +36,19 @@ room : (c : tie.After-enum-told Inv-loop μ-loop) → let a = c .before .before 
 room c = let a = c .before .before .before .before .before .before .before .args in form-room (a .«record» .now) (a .n) (a .i) (c .before .before .before .before .before .loop .at) (fine c)
 
 mul-w : tie.Need-mul-w Inv-loop μ-loop
-mul-w c = omega (arith, c .before .pre)
+mul-w c = search needs
 
 add-w : tie.Need-add-w Inv-loop μ-loop
-add-w c = omega (arith, c .before .pre)
+add-w c = search needs
 
 loop-holds : tie.Need-loop-holds Inv-loop μ-loop
-loop-holds c = (refl, c .before .pre .1, c .before .pre .2)
+loop-holds c = refl
 
-more-requires : tie.Need-more-requires Inv-loop μ-loop
-more-requires c κs = tt
+is-trace-requires : tie.Need-is-trace-requires Inv-loop μ-loop
+is-trace-requires c κs = tt
 
 check-trace-form-requires : tie.Need-check-trace-form-requires Inv-loop μ-loop
-check-trace-form-requires c κs = (c .before .before .loop .inv .2, c .before .before .before .before .pre .0)
+check-trace-form-requires c κs = tt
 
 enum-told : tie.Need-enum-told Inv-loop μ-loop
 enum-told c = c .match .keys1
@@ -60,7 +61,7 @@ returns c =
     let h = c .before .before .before .before .before in
     let a = c .before .before .before .before .before .before .before .args in
     let e = c .before .before .check-trace-form .ensures in
-    e ∙ then-stop _ _ (sym e ∙ c .enum-told2 .given .1) ∙ sym (h .loop .inv .0 ∙ form-more (a .«record» .now) (a .n) (a .i) (h .loop .t) (h .loop .at) (is-more (c .before .before .before)))
+    e ∙ then-stop _ _ (sym e ∙ c .enum-told2 .given .1) ∙ sym (h .loop .inv ∙ form-more (a .«record» .now) (a .n) (a .i) (h .loop .t) (h .loop .at) (is-more (c .before .before .before)))
 
 add-at : tie.Need-add-at Inv-loop μ-loop
 add-at c = omega (arith, room c)
@@ -75,20 +76,17 @@ loop-again : tie.Need-loop-again Inv-loop μ-loop
 loop-again c =
     let h = c .before .before .before .before .before in
     let a = c .before .before .before .before .before .before .before .args in
-    let s = a .«record» .now in (
-      h .loop .inv .0 ∙ form-more s (a .n) (a .i) (h .loop .t) (h .loop .at) (is-more (c .before .before .before)) ∙ ap (λ x. then x (formFrom s (a .n) (a .i) (mostTraces - (h .loop .t + 1)) (h .loop .t + 1) (h .loop .at + heldStride (a .n)))) (fine c),
-      omega (arith, few (c .before .before .before)),
-      omega (arith, room c),
-    )
+    let s = a .«record» .now in
+    h .loop .inv ∙ form-more s (a .n) (a .i) (h .loop .t) (h .loop .at) (is-more (c .before .before .before)) ∙ ap (λ x. then x (formFrom s (a .n) (a .i) (mostTraces - (h .loop .t + 1)) (h .loop .t + 1) (h .loop .at + heldStride (a .n)))) (fine c)
 
 check-end-requires : tie.Need-check-end-requires Inv-loop μ-loop
-check-end-requires c κs = c .before .before .loop .inv .2
+check-end-requires c κs = tt
 
 returns-2 : tie.Need-returns-2 Inv-loop μ-loop
 returns-2 c =
     let h = c .before .before .before in
     let a = c .before .before .before .before .before .args in
-    c .check-end .ensures ∙ sym (h .loop .inv .0 ∙ form-end (a .«record» .now) (a .n) (a .i) (h .loop .t) (h .loop .at) (sym (c .before .before .more .ensures) ∙ c .before .if1 .left))
+    c .check-end .ensures ∙ sym (h .loop .inv ∙ form-end (a .«record» .now) (a .n) (a .i) (h .loop .t) (h .loop .at) (sym (c .before .before .is-trace .ensures) ∙ c .before .if1 .left))
 
 pub check-rest-spec : {M : Type 1} → statement M
 check-rest-spec =
@@ -99,7 +97,7 @@ check-rest-spec =
     mul-w
     add-w
     loop-holds
-    more-requires
+    is-trace-requires
     check-trace-form-requires
     enum-told
     enum-told-2

@@ -18,7 +18,7 @@ room : (c : tie.After-enum-told) → let a = c .before .before .before .before .
 room c = let a = c .before .before .before .before .args in head-room (a .«record» .now) (a .n) (a .i) (a .at) (fine c)
 
 check-head-requires : tie.Need-check-head-requires
-check-head-requires c κs = c .before .pre
+check-head-requires c κs = tt
 
 enum-told : tie.Need-enum-told
 enum-told c = c .match .keys1

@@ -53,8 +53,8 @@ part-put-zeros-end c = omega (arith, c .before .before .before .before .before .
 put-zeros-requires : tie.Need-put-zeros-requires
 put-zeros-requires c κs = tt
 
-add-write-samples : tie.Need-add-write-samples
-add-write-samples c = omega (arith, c .before .before .before .before .before .before .before .before .before .before .before .pre .1, c .before .before .before .before .before .before .before .before .before .before .before .good .0)
+add-t11 : tie.Need-add-t11
+add-t11 c = omega (arith, c .before .before .before .before .before .before .before .before .before .before .before .pre .1, c .before .before .before .before .before .before .before .before .before .before .before .good .0)
 
 sub-write-samples : tie.Need-sub-write-samples
 sub-write-samples c = omega (arith, c .before .before .before .before .before .before .before .before .before .before .before .pre .2)
@@ -106,7 +106,7 @@ put-trace-spec =
     part-put-zeros-start
     part-put-zeros-end
     put-zeros-requires
-    add-write-samples
+    add-t11
     sub-write-samples
     part-write-samples-start
     part-write-samples-end

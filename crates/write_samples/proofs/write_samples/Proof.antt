@@ -17,9 +17,9 @@ are-there-requires c κs = tt
 returns : tie.Need-returns
 returns c =
     let a = c .before .before .before .before .args in
-    sym (missing-kept (a .«record» .now) (a .code) (a .n) (a .start) (a .out .now) (sym (c .before .are-there .ensures) ∙ not-true (c .before .are-there .result) (c .if1 .taken)))
+    sym (missing-kept (a .«record» .now) (a .code) (a .n) (a .start .0) (a .out .now) (sym (c .before .are-there .ensures) ∙ not-true (c .before .are-there .result) (c .if1 .taken)))
 
-are : (c : tie.Else1) → let a = c .before .before .before .before .args in pairsThere (a .«record» .now) (a .code) (a .n) (a .start) ≡ true
+are : (c : tie.Else1) → let a = c .before .before .before .before .args in pairsThere (a .«record» .now) (a .code) (a .n) (a .start .0) ≡ true
 are c = sym (c .before .are-there .ensures) ∙ not-false (c .before .are-there .result) (c .if1 .left)
 
 width-of-requires : tie.Need-width-of-requires
@@ -33,7 +33,7 @@ returns-2 c =
     let a = c .before .before .before .before .before .before .before .args in
     let n : eqb (length (a .out .now)) (a .n * sampleBytes (a .code)) ≡ false =
     ap (λ (v : ℕ). eqb (length (a .out .now)) (a .n * v)) (sym (c .before .before .width-of .ensures .0)) ∙ sym (c .before .make-up .ensures) ∙ not-true (c .before .make-up .result) (c .if2 .taken) in
-    sym (unfit-kept (a .«record» .now) (a .code) (a .n) (a .start) (a .out .now) (are (c .before .before .before)) n)
+    sym (unfit-kept (a .«record» .now) (a .code) (a .n) (a .start .0) (a .out .now) (are (c .before .before .before)) n)
 
 fits : (c : tie.Else2) → let a = c .before .before .before .before .before .before .before .args in eqb (length (a .out .now)) (a .n * sampleBytes (a .code)) ≡ true
 fits c =
@@ -43,14 +43,14 @@ fits c =
 put-samples-requires : tie.Need-put-samples-requires
 put-samples-requires c κs =
     let a = c .before .before .before .before .before .before .before .before .args in
-    let t = they-are-there (a .«record» .now) (a .code) (a .n) (a .start) (are (c .before .before .before .before)) in
+    let t = they-are-there (a .«record» .now) (a .code) (a .n) (a .start .0) (are (c .before .before .before .before)) in
     (t .0, t .1, eqb-true (length (a .out .now)) (a .n * sampleBytes (a .code)) (fits (c .before)))
 
 returns-3 : tie.Need-returns-3
 returns-3 c =
     let d = c .before .before .before .before in
     let a = d .before .before .before .before .before .before .before .args in
-    c .before .before .put-samples .ensures ∙ sym (fit-written (a .«record» .now) (a .code) (a .n) (a .start) (a .out .now) (are (d .before .before .before)) (fits d))
+    c .before .before .put-samples .ensures ∙ sym (fit-written (a .«record» .now) (a .code) (a .n) (a .start .0) (a .out .now) (are (d .before .before .before)) (fits d))
 
 same-length : tie.Need-same-length
 same-length c = c .before .before .put-samples .kept .1 .1 .1 .1 .0

@@ -1,13 +1,13 @@
--- `record::check_later` meets its contract. Assumes nothing.
+-- `fit::check_later` meets its contract. Assumes nothing.
 use Rattle.record.specs.Parts.{formFrom}
 use Rattle.reel.specs.Causes.{mostTraces}
 use Rattle.numbers.proofs.CauseLaws.{then-stop, then-next}
 use mathlib.Core.Path.{_≡_, sym, _∙_}
-use Rattle.record.proofs.check_later.Statement.{statement}
-use Rattle.record.proofs.check_later.Tie as tie
+use Rattle.fit.proofs.check_later.Statement.{statement}
+use Rattle.fit.proofs.check_later.Tie as tie
 
 check-rest-requires : tie.Need-check-rest-requires
-check-rest-requires c κs = c .before .pre
+check-rest-requires c κs = tt
 
 enum-told : tie.Need-enum-told
 enum-told c = c .match .keys1

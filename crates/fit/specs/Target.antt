@@ -5,16 +5,14 @@ use mathlib.Core.Bool.{Bool, true, false, not}
 use Rattle.numbers.specs.Walk.{walk}
 use Rattle.numbers.specs.Cause.{refuseIf, then, firstOf}
 use Rattle.numbers.specs.declared.Check.{Check}
-use Rattle.numbers.specs.declared.Check.the-variants.{Fine, Refused}
 use Rattle.value.specs.Value.{isCode}
 use Rattle.value.specs.Pair.{pairLength}
 use Rattle.value.specs.Writing.{wordOf}
 use Rattle.value.specs.declared.Written.{Written}
 use Rattle.value.specs.declared.Written.the-variants as written
-use Rattle.record.specs.Form.{toPairs, heldSamples, heldStride, heldCount, tracesPlace, formCauses}
+use Rattle.record.specs.Form.{toPairs, heldSamples, heldStride, heldCount, tracesPlace, formCauses, recordFound}
 use Rattle.record.specs.Held.{heldValue}
 use Rattle.record.specs.declared.Judged.{Judged}
-use Rattle.record.specs.declared.Judged.the-variants as variant
 
 -- There is no word.
 abbrev pub isUnfit : Written → Bool
@@ -41,9 +39,5 @@ targetCauses s code =
     (fitCauses s code (heldSamples s) (heldCount s (heldSamples s))))
 
 -- A record that can be written under a code, with its N and T; or the first cause.
-abbrev pub recordFound : List ℕ → Check → Judged
-recordFound s Fine = variant.Fine (heldSamples s) (heldCount s (heldSamples s))
-recordFound s (Refused number place) = variant.Refused number place
-
 abbrev pub fitJudged : List ℕ → ℕ → Judged
 fitJudged s code = recordFound s (targetCauses s code)

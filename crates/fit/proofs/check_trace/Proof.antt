@@ -1,15 +1,16 @@
--- `record::check_trace` meets its contract. Assumes nothing.
+-- `fit::check_trace` meets its contract. Assumes nothing.
 use Rattle.write_samples.proofs.WordLaws.{samples-checked}
 use Rattle.record.proofs.FormLaws.{head-room}
-use Rattle.record.specs.Parts.{headForm, traceCheck}
+use Rattle.fit.specs.Parts.{traceCheck}
+use Rattle.record.specs.Parts.{headForm}
 use Rattle.numbers.proofs.CauseLaws.{then-stop, then-next}
 use Rattle.numbers.specs.declared.Check.the-variants.{Fine}
 use lib.ListN.{length}
 use Prim.Native.Nat.{_+_, _*_, _≤_}
 use mathlib.Core.Path.{_≡_, sym, _∙_}
 use native.Mathlib.Omega.{arith}
-use Rattle.record.proofs.check_trace.Statement.{statement}
-use Rattle.record.proofs.check_trace.Tie as tie
+use Rattle.fit.proofs.check_trace.Statement.{statement}
+use Rattle.fit.proofs.check_trace.Tie as tie
 
 fine : (c : tie.After-enum-told) → let a = c .before .before .before .before .args in headForm (a .«record» .now) (a .n) (a .i) (a .at) ≡ Fine
 fine c = sym (c .before .before .check-head .ensures) ∙ c .enum-told .given .1
@@ -19,7 +20,7 @@ room : (c : tie.After-enum-told) → let a = c .before .before .before .before .
 room c = let a = c .before .before .before .before .args in head-room (a .«record» .now) (a .n) (a .i) (a .at) (fine c)
 
 check-head-requires : tie.Need-check-head-requires
-check-head-requires c κs = (c .before .pre .1, c .before .pre .2)
+check-head-requires c κs = tt
 
 enum-told : tie.Need-enum-told
 enum-told c = c .match .keys1
@@ -31,8 +32,8 @@ returns : tie.Need-returns
 unfolding traceCheck
 returns c = let e = c .before .before .check-head .ensures in e ∙ then-stop _ _ (sym e ∙ c .enum-told2 .given .1)
 
-add-check-samples : tie.Need-add-check-samples
-add-check-samples c = omega (arith, room c)
+add-t9 : tie.Need-add-t9
+add-t9 c = omega (arith, room c)
 
 check-samples-requires : tie.Need-check-samples-requires
 check-samples-requires c κs = tt
@@ -42,7 +43,7 @@ unfolding traceCheck
 returns-2 c =
     let b = c .before .before .before .before .before in
     let a = b .args in
-    c .check-samples .ensures ∙ samples-checked (a .«record» .now) (a .code) (a .n) (a .at + 186) (b .pre .0) (omega (arith, room (c .before))) ∙ then-next _ _ (fine (c .before))
+    c .check-samples .ensures ∙ samples-checked (a .«record» .now) (a .code) (a .n) (a .at + 186) (b .pre) (omega (arith, room (c .before))) ∙ then-next _ _ (fine (c .before))
 
 pub check-trace-spec : {M : Type 1} → statement M
 check-trace-spec =
@@ -52,6 +53,6 @@ check-trace-spec =
     enum-told
     enum-told-2
     returns
-    add-check-samples
+    add-t9
     check-samples-requires
     returns-2)

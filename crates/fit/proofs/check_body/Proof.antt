@@ -1,7 +1,9 @@
--- `record::check_body` meets its contract. Assumes nothing.
-use Rattle.record.proofs.FormLaws.{isMore, more-few, form-room, trace-fine, form-end, fit-end, body-more, body-stop}
+-- `fit::check_body` meets its contract. Assumes nothing.
+use Rattle.fit.proofs.FitLaws.{trace-fine, fit-end, body-more, body-stop}
+use Rattle.record.proofs.FormLaws.{isMore, more-few, form-room, form-end}
 use Rattle.record.specs.Form.{tracesPlace, traceForm}
-use Rattle.record.specs.Parts.{traceCheck, formFrom, fitFrom}
+use Rattle.fit.specs.Parts.{traceCheck, fitFrom}
+use Rattle.record.specs.Parts.{formFrom}
 use Rattle.reel.specs.Causes.{mostTraces}
 use Rattle.numbers.proofs.CauseLaws.{then-last}
 use Rattle.numbers.specs.Cause.{then}
@@ -11,18 +13,19 @@ use mathlib.Core.Bool.{true, false}
 use Prim.Native.Nat.{_+_, _-_, _*_, _≤_, _<_}
 use mathlib.Core.Path.{_≡_, refl, sym, ap, ap₂, _∙_}
 use native.Mathlib.Omega.{arith}
-use Rattle.record.proofs.check_body.Statement.{statement}
-use Rattle.record.proofs.check_body.Tie as tie
+use borrow.Author.Needs.{needs}
+use Rattle.fit.proofs.check_body.Statement.{statement}
+use Rattle.fit.proofs.check_body.Tie as tie
 
 abbrev Inv-loop : tie.InvT-loop
 Inv-loop «record» code n i w at₀ t₀ at t =
-    (then (formFrom «record» n i mostTraces 0 tracesPlace) (fitFrom «record» code n mostTraces tracesPlace) ≡ then (formFrom «record» n i (mostTraces - t) t at) (fitFrom «record» code n (mostTraces - t) at)) × (t ≤ mostTraces) × (at ≤ length «record»)
+    then (formFrom «record» n i mostTraces 0 tracesPlace) (fitFrom «record» code n mostTraces tracesPlace) ≡ then (formFrom «record» n i (mostTraces - t) t at) (fitFrom «record» code n (mostTraces - t) at)
 
 abbrev μ-loop : tie.MeasureT-loop
 μ-loop «record» code n i w at₀ t₀ at t = mostTraces - t
 
 is-more : (c : tie.Then1 Inv-loop μ-loop) → isMore (c .before .before .before .before .args .«record» .now) (c .before .before .loop .t) (c .before .before .loop .at) ≡ true
-is-more c = sym (c .before .more .ensures) ∙ c .if1 .taken
+is-more c = sym (c .before .is-trace .ensures) ∙ c .if1 .taken
 
 few : (c : tie.Then1 Inv-loop μ-loop) → c .before .before .loop .t < mostTraces
 few c = more-few (c .before .before .before .before .args .«record» .now) (c .before .before .loop .t) (c .before .before .loop .at) (is-more c)
@@ -35,22 +38,22 @@ room : (c : tie.After-enum-told Inv-loop μ-loop) → let a = c .before .before 
 room c =
     let a = c .before .before .before .before .before .before .before .args in
     let s = a .«record» .now in
-    form-room s (a .n) (a .i) (c .before .before .before .before .before .loop .at) (trace-fine s (a .code) (a .n) (a .i) (c .before .before .before .before .before .before .before .pre .0) (c .before .before .before .before .before .loop .at) (fine c) .0)
+    form-room s (a .n) (a .i) (c .before .before .before .before .before .loop .at) (trace-fine s (a .code) (a .n) (a .i) (c .before .before .before .before .before .before .before .pre) (c .before .before .before .before .before .loop .at) (fine c) .0)
 
 mul-w : tie.Need-mul-w Inv-loop μ-loop
-mul-w c = omega (arith, c .before .pre)
+mul-w c = search needs
 
 add-w : tie.Need-add-w Inv-loop μ-loop
-add-w c = omega (arith, c .before .pre)
+add-w c = search needs
 
 loop-holds : tie.Need-loop-holds Inv-loop μ-loop
-loop-holds c = (refl, omega arith, c .before .pre .2)
+loop-holds c = refl
 
-more-requires : tie.Need-more-requires Inv-loop μ-loop
-more-requires c κs = tt
+is-trace-requires : tie.Need-is-trace-requires Inv-loop μ-loop
+is-trace-requires c κs = tt
 
 check-trace-requires : tie.Need-check-trace-requires Inv-loop μ-loop
-check-trace-requires c κs = (c .before .before .before .before .pre .0, c .before .before .loop .inv .2, c .before .before .before .before .pre .1)
+check-trace-requires c κs = c .before .before .before .before .pre
 
 enum-told : tie.Need-enum-told Inv-loop μ-loop
 enum-told c = c .match .keys1
@@ -59,7 +62,7 @@ enum-told-2 : tie.Need-enum-told-2 Inv-loop μ-loop
 enum-told-2 c = c .match .keys2
 
 check-later-requires : tie.Need-check-later-requires Inv-loop μ-loop
-check-later-requires c κs = (c .before .before .before .before .before .before .before .pre .1, c .before .before .before .before .before .loop .inv .1, c .before .before .before .before .before .loop .inv .2)
+check-later-requires c κs = tt
 
 returns : tie.Need-returns Inv-loop μ-loop
 returns c =
@@ -68,7 +71,7 @@ returns c =
     let s = a .«record» .now in
     let e = c .before .before .before .check-trace .ensures in
     c .check-later .ensures ∙ ap (then (formFrom s (a .n) (a .i) (mostTraces - h .loop .t) (h .loop .t) (h .loop .at))) e
-    ∙ body-stop s (a .n) (a .code) (a .i) (c .before .before .before .before .before .before .before .before .pre .0) (h .loop .t) (h .loop .at) (is-more (c .before .before .before .before)) (sym e ∙ c .before .enum-told2 .given .1) ∙ sym (h .loop .inv .0)
+    ∙ body-stop s (a .n) (a .code) (a .i) (c .before .before .before .before .before .before .before .before .pre) (h .loop .t) (h .loop .at) (is-more (c .before .before .before .before)) (sym e ∙ c .before .enum-told2 .given .1) ∙ sym (h .loop .inv)
 
 add-at : tie.Need-add-at Inv-loop μ-loop
 add-at c = omega (arith, room c)
@@ -82,22 +85,19 @@ loop-less c = omega (arith, few (c .before .before .before))
 loop-again : tie.Need-loop-again Inv-loop μ-loop
 loop-again c =
     let h = c .before .before .before .before .before in
-    let a = c .before .before .before .before .before .before .before .args in (
-      h .loop .inv .0 ∙ body-more (a .«record» .now) (a .n) (a .code) (a .i) (c .before .before .before .before .before .before .before .pre .0) (h .loop .t) (h .loop .at) (is-more (c .before .before .before)) (fine c),
-      omega (arith, few (c .before .before .before)),
-      omega (arith, room c),
-    )
+    let a = c .before .before .before .before .before .before .before .args in
+    h .loop .inv ∙ body-more (a .«record» .now) (a .n) (a .code) (a .i) (c .before .before .before .before .before .before .before .pre) (h .loop .t) (h .loop .at) (is-more (c .before .before .before)) (fine c)
 
 check-end-requires : tie.Need-check-end-requires Inv-loop μ-loop
-check-end-requires c κs = c .before .before .loop .inv .2
+check-end-requires c κs = tt
 
 returns-2 : tie.Need-returns-2 Inv-loop μ-loop
 returns-2 c =
     let h = c .before .before .before in
     let a = c .before .before .before .before .before .args in
     let s = a .«record» .now in
-    let none = sym (c .before .before .more .ensures) ∙ c .before .if1 .left in
-    c .check-end .ensures ∙ sym (then-last _) ∙ sym (h .loop .inv .0 ∙ ap₂ then (form-end s (a .n) (a .i) (h .loop .t) (h .loop .at) none) (fit-end s (a .n) (a .code) (h .loop .t) (h .loop .at) none))
+    let none = sym (c .before .before .is-trace .ensures) ∙ c .before .if1 .left in
+    c .check-end .ensures ∙ sym (then-last _) ∙ sym (h .loop .inv ∙ ap₂ then (form-end s (a .n) (a .i) (h .loop .t) (h .loop .at) none) (fit-end s (a .n) (a .code) (h .loop .t) (h .loop .at) none))
 
 pub check-body-spec : {M : Type 1} → statement M
 check-body-spec =
@@ -108,7 +108,7 @@ check-body-spec =
     mul-w
     add-w
     loop-holds
-    more-requires
+    is-trace-requires
     check-trace-requires
     enum-told
     enum-told-2
