@@ -7,13 +7,13 @@ use Rattle.record.specs.Answer.{saidBy, outcome}
 use Rattle.record.specs.declared.Answer.{Answer}
 use Rattle.sample.specs.Calls as single
 use Rattle.sample.specs.declared.Answer as sample
-use Rattle.aukpocket.specs.Interface.{reelAnswer, reelIn, reelHanded, sampleAnswer, sampleIn, sampleHanded}
+use Rattle.aukpocket.specs.Interface.{Handed, handed, reelAnswer, reelIn, reelHanded, sampleAnswer, sampleIn, sampleHanded}
 use Rattle.aukpocket.specs.declared.ReelAnswer.{ReelAnswer}
 use Rattle.aukpocket.specs.declared.SampleAnswer.{SampleAnswer}
 
-pub reel-handed : (r : ReelAnswer) (answer : Answer) (out : List ℕ) (o : Outcome) → r ≡ reelAnswer (saidBy answer) → outcome answer out ≡ o → reelIn r out ≡ reelHanded o
-reel-handed r answer out o p q = ap (λ (a : ReelAnswer). reelIn a out) p ∙ ap reelHanded q
+pub reel-handed : (r : ReelAnswer) (answer : Answer) (out : List ℕ) (o : Outcome) → handed r ≡ reelAnswer (saidBy answer) → outcome answer out ≡ o → reelIn r out ≡ reelHanded o
+reel-handed r answer out o p q = ap (λ (a : Handed ReelAnswer). record { answer = a; bytes = out }) p ∙ ap reelHanded q
 
-pub sample-handed : (r : SampleAnswer) (answer : sample.Answer) (bytes : List ℕ) (o : Outcome) → r ≡ sampleAnswer (single.saidBy answer)
+pub sample-handed : (r : SampleAnswer) (answer : sample.Answer) (bytes : List ℕ) (o : Outcome) → handed r ≡ sampleAnswer (single.saidBy answer)
     → record { said = single.saidBy answer; bytes = bytes } ≡ o → sampleIn r bytes ≡ sampleHanded o
-sample-handed r answer bytes o p q = ap (λ (a : SampleAnswer). sampleIn a bytes) p ∙ ap sampleHanded q
+sample-handed r answer bytes o p q = ap (λ (a : Handed SampleAnswer). record { answer = a; bytes = bytes }) p ∙ ap sampleHanded q

@@ -8,47 +8,56 @@ use Rattle.aukpocket.specs.declared.ReelAnswer.{ReelAnswer}
 use Rattle.aukpocket.specs.declared.FieldAnswer.{FieldAnswer}
 use Rattle.aukpocket.specs.declared.SampleAnswer.{SampleAnswer}
 
+-- What a call says, handed over in a structure; or lost, where the values returned are not as many as the structure's members. A function
+-- hands over a structure, so none of the values can be lost.
+pub data Handed (A : Type 0) : Type 0 where
+  handed : A → Handed A
+  lost : Handed A
+
 -- What a call on a whole reel or record says, in numbers: number 0 and T, N and the length where it is taken; else the number of the
 -- cause and what stands beside it in the table. The other members are 0.
-abbrev pub reelAnswer : Said → ReelAnswer
-reelAnswer (taken []) = record { number = 0; traces = 0; samples = 0; length = 0; beside = 0 }
-reelAnswer (taken (t ∷ [])) = record { number = 0; traces = t; samples = 0; length = 0; beside = 0 }
-reelAnswer (taken (t ∷ n ∷ [])) = record { number = 0; traces = t; samples = n; length = 0; beside = 0 }
-reelAnswer (taken (t ∷ n ∷ l ∷ rest)) = record { number = 0; traces = t; samples = n; length = l; beside = 0 }
-reelAnswer (refused number beside) = record { number = number; traces = 0; samples = 0; length = 0; beside = beside }
+abbrev pub reelAnswer : Said → Handed ReelAnswer
+reelAnswer (taken []) = lost
+reelAnswer (taken (t ∷ [])) = lost
+reelAnswer (taken (t ∷ n ∷ [])) = lost
+reelAnswer (taken (t ∷ n ∷ l ∷ [])) = handed (record { number = 0; traces = t; samples = n; length = l; beside = 0 })
+reelAnswer (taken (t ∷ n ∷ l ∷ more ∷ rest)) = lost
+reelAnswer (refused number beside) = handed (record { number = number; traces = 0; samples = 0; length = 0; beside = beside })
 
 -- The structure and the output's bytes.
 pub record ReelHanded : Type 0 where
-  pub answer : ReelAnswer
+  pub answer : Handed ReelAnswer
   pub bytes : List ℕ
 
 abbrev pub reelIn : ReelAnswer → List ℕ → ReelHanded
-reelIn answer out = record { answer = answer; bytes = out }
+reelIn answer out = record { answer = handed answer; bytes = out }
 
 abbrev pub reelHanded : Outcome → ReelHanded
 reelHanded o = record { answer = reelAnswer (o .said); bytes = o .bytes }
 
 -- What looking up a field says, in numbers: number 0 and the field's number where it is taken; else the number of the cause and what
 -- stands beside it, and 0 for the field's.
-abbrev pub fieldAnswer : Said → ℤ → FieldAnswer
-fieldAnswer (taken values) z = record { number = 0; value = z; beside = 0 }
-fieldAnswer (refused number beside) z = record { number = number; value = z; beside = beside }
+abbrev pub fieldAnswer : Said → ℤ → Handed FieldAnswer
+fieldAnswer (taken []) z = handed (record { number = 0; value = z; beside = 0 })
+fieldAnswer (taken (more ∷ rest)) z = lost
+fieldAnswer (refused number beside) z = handed (record { number = number; value = z; beside = beside })
 
-abbrev pub fieldHanded : NumberOutcome → FieldAnswer
+abbrev pub fieldHanded : NumberOutcome → Handed FieldAnswer
 fieldHanded o = fieldAnswer (o .said) (o .number)
 
 -- What a single-sample call says, in numbers.
-abbrev pub sampleAnswer : Said → SampleAnswer
-sampleAnswer (taken values) = record { number = 0; beside = 0 }
-sampleAnswer (refused number beside) = record { number = number; beside = beside }
+abbrev pub sampleAnswer : Said → Handed SampleAnswer
+sampleAnswer (taken []) = handed (record { number = 0; beside = 0 })
+sampleAnswer (taken (more ∷ rest)) = lost
+sampleAnswer (refused number beside) = handed (record { number = number; beside = beside })
 
 -- The structure and the bytes handed out.
 pub record SampleHanded : Type 0 where
-  pub answer : SampleAnswer
+  pub answer : Handed SampleAnswer
   pub bytes : List ℕ
 
 abbrev pub sampleIn : SampleAnswer → List ℕ → SampleHanded
-sampleIn answer out = record { answer = answer; bytes = out }
+sampleIn answer out = record { answer = handed answer; bytes = out }
 
 abbrev pub sampleHanded : Outcome → SampleHanded
 sampleHanded o = record { answer = sampleAnswer (o .said); bytes = o .bytes }

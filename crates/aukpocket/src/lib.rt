@@ -7,7 +7,7 @@ ghost use Rattle.record.specs.Answer.{saidBy};
 ghost use Rattle.read_reel.specs.Reading.{readOutcome};
 ghost use Rattle.write_reel.specs.Writing.{writeOutcome};
 ghost use Rattle.look_up.specs.LookUp.{lookedUp, lookUpOutcome};
-ghost use Rattle.aukpocket.specs.Interface.{reelAnswer, reelIn, reelHanded, fieldHanded, sampleAnswer, sampleIn, sampleHanded};
+ghost use Rattle.aukpocket.specs.Interface.{handed, reelAnswer, reelIn, reelHanded, fieldHanded, sampleAnswer, sampleIn, sampleHanded};
 use numbers::ByteNo;
 use record::Answer;
 
@@ -39,7 +39,7 @@ pub struct SampleAnswer {
 
 // An answer in numbers.
 fn reel_answer(answer: Answer) -> ReelAnswer
-    ensures { λ r. ⌜ r ≡ reelAnswer (saidBy answer) ⌝ }
+    ensures { λ r. ⌜ handed r ≡ reelAnswer (saidBy answer) ⌝ }
 {
     match answer {
         Answer::Taken {
@@ -82,7 +82,7 @@ pub extern "C" fn aukpocket_write_reel(record: &[u8], code: u32, out: &mut [u8])
 // Looks up the field that begins at a byte number, of the binary header for trace 0, else of that trace.
 #[no_mangle]
 pub extern "C" fn aukpocket_look_up(reel: &[u8], trace: usize, byte: u32) -> FieldAnswer
-    ensures { λ r. ⌜ r ≡ fieldHanded (lookUpOutcome (now (reel .entry)) trace (record { 0 = byte })) ⌝ }
+    ensures { λ r. ⌜ handed r ≡ fieldHanded (lookUpOutcome (now (reel .entry)) trace (record { 0 = byte })) ⌝ }
 {
     match look_up::look_up(reel, trace, ByteNo(byte)) {
         look_up::Answer::Taken { number } => FieldAnswer {
@@ -100,7 +100,7 @@ pub extern "C" fn aukpocket_look_up(reel: &[u8], trace: usize, byte: u32) -> Fie
 
 // A single sample's answer in numbers.
 fn sample_answer(answer: sample::Answer) -> SampleAnswer
-    ensures { λ r. ⌜ r ≡ sampleAnswer (single.saidBy answer) ⌝ }
+    ensures { λ r. ⌜ handed r ≡ sampleAnswer (single.saidBy answer) ⌝ }
 {
     match answer {
         sample::Answer::Taken => SampleAnswer {
