@@ -39,12 +39,24 @@ SAMPLE = TOP / "examples" / "sample.sgy"
 ARCHIVE = TOP / "target" / "staticlib" / "libaukpocket.a"
 COMMAND = None  # a copy of the command, which other users may run too
 ROOM = None  # the folder of the whole test
-SECONDS = 120  # how long one run may take
+SECONDS = 600  # a run that takes as long hangs
 MEGABYTE = 1_000_000
 
 
 def with_bytes(data, place, other):
     return data[:place] + other + data[place + len(other) :]
+
+
+def with_signals(*ignored):
+    """What a child does first: ignores these signals and no other that tells it to end, however this test was started. Under nohup, and
+    in the background of a shell, children inherit ignored signals."""
+
+    def first():
+        signal.pthread_sigmask(signal.SIG_SETMASK, ())
+        for number in (signal.SIGHUP, signal.SIGINT, signal.SIGQUIT, signal.SIGTERM):
+            signal.signal(number, signal.SIG_IGN if number in ignored else signal.SIG_DFL)
+
+    return first
 
 
 def limited(kind, most):
@@ -650,60 +662,6 @@ class Large(Case):
         with open(self.reel, "rb") as file:
             self.assertEqual(self.fine("check", stdin=file), f"taken {self.T} {self.N} {self.length}\n")
 
-    def killed(self, output, *words):
-        """Runs it and kills it as soon as a temporary file is seen. The temporary file's size by then, or None where it got away."""
-        run = subprocess.Popen([str(COMMAND), "read", str(self.reel), str(output), *words], stdout=subprocess.DEVNULL)
-        size = None
-        while run.poll() is None and size is None:
-            for path in self.folder.glob("*.partial"):
-                run.kill()
-                run.wait()
-                size = path.stat().st_size if path.exists() else None
-        run.wait()
-        for path in self.folder.glob("*.partial"):
-            path.unlink()
-        return size
-
-    def test_killed_while_it_writes(self):
-        output = self.folder / "output"
-        halves = 0
-        for _ in range(8):
-            size = self.killed(output)
-            if output.exists():
-                self.assertEqual(output.stat().st_size, self.length)
-                output.unlink()
-            elif size is not None and size < self.length:
-                halves += 1
-        self.assertGreater(halves, 0, "no run was killed while it wrote")
-        halves = 0
-        for _ in range(8):
-            output.write_bytes(b"old")
-            size = self.killed(output, "--force")
-            if output.stat().st_size == 3:
-                self.assertEqual(output.read_bytes(), b"old")
-                halves += size is not None and size < self.length
-            else:
-                self.assertEqual(output.stat().st_size, self.length)
-        self.assertGreater(halves, 0, "no run was killed while it wrote")
-
-    def test_told_to_end_while_it_writes(self):
-        """Unlike a kill, a signal that asks for the end leaves no temporary file either."""
-        output = self.folder / "output"
-        for number in (signal.SIGINT, signal.SIGTERM, signal.SIGHUP):
-            ended = False
-            for _ in range(8):
-                run = subprocess.Popen([str(COMMAND), "read", str(self.reel), str(output)], stdout=subprocess.DEVNULL)
-                while run.poll() is None and not list(self.folder.glob("*.partial")):
-                    pass
-                time.sleep(0.001)
-                run.send_signal(number)
-                ended |= run.wait() == -number
-                self.assertLessEqual(set(self.names()), {"output"})
-                if output.exists():
-                    self.assertEqual(output.stat().st_size, self.length)
-                    output.unlink()
-            self.assertTrue(ended, "no run was ended while it wrote")
-
     def test_killed_at_any_time(self):
         output = self.folder / "output"
         for i in range(12):
@@ -815,6 +773,76 @@ class Wrong(Built):
             env={**os.environ, "CARGO_TARGET_DIR": str(self.folder / "built")})
         self.assertNotEqual(run.returncode, 0)
         self.assertIn("is missing: run `rt staticlib aukpocket` in the repository's root, which makes it.", run.stderr)
+
+
+# Stops a run when half of the sample's record is written, until it is told to go on.
+HALFWAY = r"""
+#define _GNU_SOURCE
+#include <dlfcn.h>
+#include <signal.h>
+#include <unistd.h>
+ssize_t write(int fd, const void *bytes, size_t count)
+{
+    ssize_t (*next)(int, const void *, size_t) = (ssize_t (*)(int, const void *, size_t))dlsym(RTLD_NEXT, "write");
+    ssize_t half;
+    if (count != 13029)
+        return next(fd, bytes, count);
+    half = next(fd, bytes, 6514);
+    raise(SIGSTOP);
+    return half;
+}
+"""
+
+
+class Halfway(Built):
+    """A run that is ended while it writes. It stops by itself there, so that no clock plays a part."""
+
+    def setUp(self):
+        super().setUp()
+        library = Path(ROOM) / "halfway.so"
+        if not library.exists():
+            self.built("cc", "-shared", "-fPIC", "-o", library, self.file("halfway.c", HALFWAY.encode()), "-ldl")
+            (self.folder / "halfway.c").unlink()
+        self.preload = {"LD_PRELOAD": str(library)}
+        self.output = self.folder / "output"
+        self.record = reels.record_of(SAMPLE.read_bytes())
+
+    def halfway(self, *words, ignored=()):
+        """A run that has written half its output, and the temporary file that it has written it to."""
+        run = subprocess.Popen([str(COMMAND), "read", str(SAMPLE), str(self.output), *words], stdout=subprocess.DEVNULL,
+                               env={**os.environ, **self.preload}, preexec_fn=with_signals(*ignored))
+        self.assertTrue(os.WIFSTOPPED(os.waitpid(run.pid, os.WUNTRACED)[1]))
+        temporary, = self.folder.glob("*.partial")
+        self.assertEqual(temporary.read_bytes(), self.record[:6514])
+        return run, temporary
+
+    def ended(self, run, number):
+        run.send_signal(number)
+        run.send_signal(signal.SIGCONT)
+        return run.wait(SECONDS)
+
+    def test_killed(self):
+        for before, words in ((None, ()), (b"old", ("--force",))):
+            if before is not None:
+                self.output.write_bytes(before)
+            run, temporary = self.halfway(*words)
+            self.assertEqual(self.ended(run, signal.SIGKILL), -signal.SIGKILL)
+            self.assertEqual(self.output.read_bytes() if self.output.exists() else None, before)
+            temporary.unlink()
+
+    def test_told_to_end(self):
+        """Unlike a kill, a signal that asks for the end leaves no temporary file either."""
+        for number in (signal.SIGINT, signal.SIGTERM, signal.SIGHUP):
+            run, _ = self.halfway()
+            self.assertEqual(self.ended(run, number), -number)
+            self.assertEqual(self.names(), [])
+
+    def test_told_to_end_where_that_is_ignored(self):
+        for number in (signal.SIGINT, signal.SIGTERM, signal.SIGHUP):
+            run, _ = self.halfway(ignored=(number,))
+            self.assertEqual(self.ended(run, number), 0)
+            self.assertEqual((self.names(), self.output.read_bytes()), (["output"], self.record))
+            self.output.unlink()
 
 
 # Notes each sync, link and rename of a run.
