@@ -250,6 +250,17 @@ class Help(Case):
         self.assertEqual(whole, self.fine("help"))
         self.assertEqual(whole, self.fine("help", "fetch"))
 
+    def test_the_man_page(self):
+        """It has every command, option and exit status."""
+        page = (TOP / "docs" / "aukpocket.1").read_text(encoding="utf-8").replace("\\-", "-")
+        for command in ("read", "write", "look", "info", "verify", "check"):
+            self.assertIn(f"\n.B aukpocket {command}\n", page)
+            self.assertIn(f"\n.TP\n.B {command}\n", page)
+        for option in re.findall(r"--[a-z]+", self.fine("--help")):
+            self.assertIn(option, page)
+        for status, meaning in re.findall(r"^  ([0-3])  (.*)$", self.fine("--help"), re.M):
+            self.assertIn(f"\n.B {status}\n{meaning}\n", page.replace("\n.B verify\nfound", "\nverify found"))
+
     def test_wrong_words(self):
         for words in (
             (), ("fetch",), ("",), ("READ", SAMPLE, "x"), ("--force",), ("read",), ("read", SAMPLE), ("read", SAMPLE, "x", "y"),
@@ -802,6 +813,8 @@ class Large(Case):
             f"loading {self.reel}, 32 MB", f"making the record of {self.reel}, 48 MB", f"writing {output}, 48 MB")))
         self.assertEqual(output.stat().st_size, self.length)
         self.assertIn("aukpocket: reading the reel in code 3 again, 16 MB\n", self.terminal("verify", self.reel))
+        said = self.terminal("verify", self.reel, output)
+        self.assertTrue(said.endswith(f"aukpocket: summing {self.reel}, 32 MB\naukpocket: comparing {output}, 48 MB\n"), said)
         self.assertEqual(self.terminal("read", SAMPLE, self.folder / "small"), "")
         self.fine("read", self.reel, output, "--force")
         with open(self.reel, "rb") as file:

@@ -118,9 +118,10 @@ aukpocket verify REEL
 aukpocket verify REEL RECORD
 
 With a record, before a tape is destroyed: reads the reel and compares its record with the file RECORD,
-byte for byte. The first difference is named by trace and field or sample. What it prints can be kept and
-handed to `sha256sum -c`: the SHA-256 of both files, and a line that begins with # and says whether the
-file is the reel's record. The reel and its record have to fit in memory.
+byte for byte. The file is read from the disk itself, where the system allows that. The first difference is
+named by trace and field or sample. What it prints can be kept and handed to `sha256sum -c`: the SHA-256 of
+both files, and a line that begins with # and says whether the file is the reel's record. The reel and its
+record have to fit in memory.
 
 Without one: reads the reel, writes its record in each of the codes 1 to 4, reads each written reel again
 and compares the records byte for byte. Says which codes hold the reel's samples exactly. The record, one

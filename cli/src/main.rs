@@ -511,6 +511,7 @@ fn verify_record(reel_path: &Path, record_path: &Path) -> Result<(), Trouble> {
     let reel_sum = sha256::sum(&reel);
     drop(reel);
     step(format_args!("comparing {record_name}"), length);
+    system::forget(&file);
     let compared = compare::compare(&mut file, &record, &record_name)?;
     let difference = match compare::difference(&record, &compared) {
         Some(_) if length >= layout::HEADERS as u64 && is_reel_file(record_path) => {
