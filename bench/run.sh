@@ -1,14 +1,14 @@
 #!/bin/sh
 # Builds the benchmark and prints the tables of docs/BENCHMARKS.md, from any current directory. The
-# static library is made first where it is missing. Nothing else should run meanwhile.
+# library is made first where it is missing or older than its sources. Nothing else should run meanwhile.
 #
 #   sh bench/run.sh                         the whole
 #   sh bench/run.sh --mb 16 --runs 3        on reels of 16 MB and less, to try it
 set -eu
 cd "$(dirname "$0")/.."
 
-[ -f target/staticlib/libaukpocket.a ] || rt staticlib aukpocket >&2
-cargo build --release --offline --quiet --manifest-path bench/Cargo.toml --target-dir target/bench
+make --silent --no-print-directory build/libaukpocket.a >&2
+cargo build --release --offline --quiet --manifest-path bench/Cargo.toml --target-dir build/cargo/bench
 
 # segyio is a Debian package, python3-segyio, of the system's own Python.
 reader=''
@@ -19,5 +19,5 @@ done
 model=$(sed -n 's/^model name[^:]*: *//p' /proc/cpuinfo | head -n 1)
 memory=$(awk '/^MemTotal/ { printf "%.0f", $2 / 1e6 }' /proc/meminfo)
 echo "Processor: $model, $(nproc) cores; memory: $memory GB; $(rustc --version | cut -d ' ' -f 1-2)."
-target/bench/release/bench ${reader:+--segyio "$reader"} "$@"
-target/bench/release/bench growth "$@"
+build/cargo/bench/release/bench ${reader:+--segyio "$reader"} "$@"
+build/cargo/bench/release/bench growth "$@"

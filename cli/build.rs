@@ -6,12 +6,12 @@ use std::process::exit;
 
 fn main() {
     let project = env::var_os("CARGO_MANIFEST_DIR").expect("cargo names the project's folder");
-    let folder = PathBuf::from(project).join("../target/staticlib");
+    let folder = PathBuf::from(project).join("../build");
     let archive = folder.join("libaukpocket.a");
     println!("cargo:rerun-if-changed={}", archive.display());
     if !archive.is_file() {
         eprintln!(
-            "The static library {} is missing: run `rt staticlib aukpocket` in the repository's root, which makes it.",
+            "The static library {} is missing: run `make` in the repository's root, which makes it.",
             archive.display()
         );
         exit(1);

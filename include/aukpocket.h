@@ -1,9 +1,9 @@
 /* Aukpocket: SEG-Y revision 0 reels and their canonical records.
  *
- * Link with libaukpocket.a (`rt staticlib aukpocket` makes target/staticlib/libaukpocket.a, for x86-64 Linux). Nothing is allocated
- * and nothing is kept: each call works on the buffers that it is lent, takes every input, and ends. A refused call on a reel or record
- * changes no byte of its output, and the rest of a longer output keeps its content; a refused single-sample call sets its output to 00.
- * Calls on different buffers may run at the same time.
+ * Link with libaukpocket.a (`make` makes build/libaukpocket.a, for x86-64 Linux). Nothing is allocated and nothing is kept: each call
+ * works on the buffers that it is lent, takes every input, and ends. A refused call on a reel or record changes no byte of its output,
+ * and the rest of a longer output keeps its content; a refused single-sample call sets its output to 00. Calls on different buffers may
+ * run at the same time.
  *
  * A buffer is a pointer and a length. The pointer must be valid for that many bytes, and not null, even where the length is 0; an
  * output must not overlap an input.
@@ -30,6 +30,11 @@
  *   16      no assigned field begins at that byte number              0
  *
  * For a single word or pair the place beside 2, 9, 11, 13 and 14 is 0.
+ *
+ * A record leaves out what carries no meaning in revision 0: bytes 3261 to 3600, and bytes 181 to 240 of each trace header. Reading
+ * takes any bytes there and says nothing of them; writing sets them to 0. A caller who wants to know looks at the reel's bytes. A record
+ * has no format code either, and of the spellings taken as one it has the meaning: a card byte 00 is a blank (40), a 0 in trace fields
+ * 115 and 117 is the reel's number, and a sample is its exact value. docs/FORMAT.md has both byte by byte.
  */
 #ifndef AUKPOCKET_H
 #define AUKPOCKET_H

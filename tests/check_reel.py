@@ -28,7 +28,7 @@ from reels import (  # noqa: E402
 )
 
 CODES = (1, 2, 3, 4)
-SECONDS = 20  # how long the program may take for one input
+SECONDS = 600  # a run that takes as long hangs
 
 
 class Inputs:

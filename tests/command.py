@@ -3,9 +3,10 @@
     python3 tests/command.py PATH_OF_COMMAND
 
 What it writes and answers is compared with tools/vectors, which was written from document 01 alone. The inputs are the same at every
-run. What the examples need is built in a temporary folder, over target/staticlib/libaukpocket.a.
+run. What the examples need is built in a temporary folder, over build/libaukpocket.a.
 """
 
+import hashlib
 import os
 import pty
 import random
@@ -36,15 +37,41 @@ from reels import example, gain, make_reel, make_trace, random_reel, trace_size,
 from samples import pair_bytes  # noqa: E402
 
 SAMPLE = TOP / "examples" / "sample.sgy"
-ARCHIVE = TOP / "target" / "staticlib" / "libaukpocket.a"
+ARCHIVE = TOP / "build" / "libaukpocket.a"
 COMMAND = None  # a copy of the command, which other users may run too
 ROOM = None  # the folder of the whole test
-SECONDS = 120  # how long one run may take
+SECONDS = 600  # a run that takes as long hangs
 MEGABYTE = 1_000_000
 
 
 def with_bytes(data, place, other):
     return data[:place] + other + data[place + len(other) :]
+
+
+def warning(path, reel):
+    """What `read`, `info` and `verify` warn of: the bytes that the record leaves out and that aren't 0."""
+    n, code = (int.from_bytes(reel[place : place + 2], "big") for place in (3220, 3224))
+    binary = sum(map(bool, reel[3260:3600]))
+    traces = [sum(map(bool, reel[place + 180 : place + 240])) for place in range(3600, len(reel), trace_size(code, n))]
+    parts = [f"{binary} of bytes 3261 to 3600"] if binary else []
+    if any(traces):
+        first = next(i for i, count in enumerate(traces, 1) if count)
+        parts.append(f"{sum(traces)} of bytes 181 to 240 in {sum(map(bool, traces))} of the trace headers, first in trace {first}")
+    count = binary + sum(traces)
+    what = "an unassigned byte that isn't 0" if count == 1 else f"{count} unassigned bytes that aren't 0"
+    return f"aukpocket: warning: {path}: the record leaves out {what}: {', and '.join(parts)}\n" if count else ""
+
+
+def with_signals(*ignored):
+    """What a child does first: ignores these signals and no other that tells it to end, however this test was started. Under nohup, and
+    in the background of a shell, children inherit ignored signals."""
+
+    def first():
+        signal.pthread_sigmask(signal.SIG_SETMASK, ())
+        for number in (signal.SIGHUP, signal.SIGINT, signal.SIGQUIT, signal.SIGTERM):
+            signal.signal(number, signal.SIG_IGN if number in ignored else signal.SIG_DFL)
+
+    return first
 
 
 def limited(kind, most):
@@ -81,10 +108,10 @@ class Case(unittest.TestCase):
         named.setdefault("stderr", subprocess.PIPE)
         return subprocess.run([str(COMMAND), *map(str, words)], timeout=SECONDS, **named)
 
-    def fine(self, *words, **named):
-        """Runs it; it must end well and say nothing on standard error. What it prints."""
+    def fine(self, *words, warned="", **named):
+        """Runs it; it must end well and say nothing on standard error but this warning. What it prints."""
         run = self.run_command(*words, **named)
-        self.assertEqual((run.returncode, run.stderr), (0, b""), words)
+        self.assertEqual((run.returncode, run.stderr.decode("utf-8")), (0, warned), words)
         return run.stdout.decode("utf-8")
 
     def trouble(self, status, *words, stdout="", **named):
@@ -196,19 +223,14 @@ class Readme(Case):
 
     def test_the_session(self):
         shutil.copytree(TOP / "examples", self.folder / "examples")
-        (self.folder / "target").mkdir()
-        part = (TOP / "README.md").read_text().split("\n## The command\n")[1].split("\n## ")[0]
+        part = (TOP / "README.md").read_text(encoding="utf-8").split("\n## The command\n")[1].split("\n## ")[0]
         session = "\n".join(line[4:] for line in part.splitlines() if line.startswith("    "))
         typed = re.findall(r"^\$ (.*)\n((?:(?!\$ ).*\n?)*)", session + "\n", re.M)
-        self.assertGreater(len(typed), 5)
-        first = re.search(r"^    target/cli/release/(aukpocket read .*)$", (TOP / "README.md").read_text(), re.M).group(1)
+        self.assertGreater(len(typed), 15)
         path = {**os.environ, "PATH": f"{COMMAND.parent}:{os.environ['PATH']}"}
-        for line, shown in [(first, None), *typed]:
+        for line, shown in typed:
             run = subprocess.run(line, shell=True, cwd=self.folder, env=path, stdout=subprocess.PIPE, stderr=subprocess.STDOUT, text=True)
-            if shown is not None:
-                self.assertEqual(run.stdout, shown, line)
-            else:
-                self.assertEqual(run.returncode, 0, run.stdout)
+            self.assertEqual(run.stdout, shown, line)
 
 
 class Help(Case):
@@ -228,6 +250,17 @@ class Help(Case):
         self.assertEqual(whole, self.fine("help"))
         self.assertEqual(whole, self.fine("help", "fetch"))
 
+    def test_the_man_page(self):
+        """It has every command, option and exit status."""
+        page = (TOP / "docs" / "aukpocket.1").read_text(encoding="utf-8").replace("\\-", "-")
+        for command in ("read", "write", "look", "info", "verify", "check"):
+            self.assertIn(f"\n.B aukpocket {command}\n", page)
+            self.assertIn(f"\n.TP\n.B {command}\n", page)
+        for option in re.findall(r"--[a-z]+", self.fine("--help")):
+            self.assertIn(option, page)
+        for status, meaning in re.findall(r"^  ([0-3])  (.*)$", self.fine("--help"), re.M):
+            self.assertIn(f"\n.B {status}\n{meaning}\n", page.replace("\n.B verify\nfound", "\nverify found"))
+
     def test_wrong_words(self):
         for words in (
             (), ("fetch",), ("",), ("READ", SAMPLE, "x"), ("--force",), ("read",), ("read", SAMPLE), ("read", SAMPLE, "x", "y"),
@@ -236,7 +269,7 @@ class Help(Case):
             ("write", SAMPLE, "4294967297", "x"), ("look", SAMPLE, "first", 1), ("look", SAMPLE, 1), ("look", SAMPLE, 1, "colour"),
             ("look", SAMPLE, 1, "code"), ("look", SAMPLE, 0, "offset"), ("look", SAMPLE, 1, "-1"), ("look", SAMPLE, "-1", 1),
             ("info",), ("info", SAMPLE, "--cards"), ("info", SAMPLE, "--cards", "41"), ("info", SAMPLE, "--cards", "all"),
-            ("verify",), ("verify", SAMPLE, SAMPLE), ("check", SAMPLE),
+            ("verify",), ("verify", SAMPLE, SAMPLE, SAMPLE), ("check", SAMPLE),
         ):
             self.trouble(1, *words, cwd=self.folder)
         self.assertEqual(self.names(), [])
@@ -390,12 +423,13 @@ class Refusals(Case):
             said, path = reels.read_reel(reel, 10**9)[0], self.file("reel", reel)
             if said[0] == "taken":
                 self.assertEqual(self.fine("check", stdin=reel), "taken %d %d %d\n" % said[1:4])
-                self.fine("verify", path)
+                self.fine("verify", path, warned=warning(path, reel))
+                self.fine("info", path, warned=warning(path, reel))
                 record = reels.record_of(reel)
             else:
                 self.trouble(2, "check", stdin=reel, stdout="refused %d %d\n" % said[1:])
+                self.trouble(2, "info", path, stdout=None)
                 record = reels.record_of(random_reel(rnd, code, n, t))
-            self.trouble_or_fine(path)
             damaged = bytearray(record)
             for _ in range(rnd.randint(1, 2)):
                 place = rnd.choice((rnd.randrange(len(record)), rnd.randrange(3200, len(record)), rnd.randrange(min(len(record), 3300))))
@@ -406,15 +440,12 @@ class Refusals(Case):
             if said[0] == "taken":
                 self.fine("write", path, target, output, "--force")
                 self.assertEqual(output.read_bytes(), records.reel_of(damaged, target))
+                self.fine("info", path)
             else:
                 sentence = self.trouble(2, "write", path, target, output, "--force")
                 self.assertIn(f": refused by {said[1]}: ", sentence)
                 self.assertIn(f"place {said[2]}", sentence)
-            self.trouble_or_fine(path)
-
-    def trouble_or_fine(self, path):
-        run = self.run_command("info", path)
-        self.assertEqual((run.returncode, run.stderr != b""), (2, True) if run.stderr else (0, False))
+                self.assertEqual(self.run_command("info", path).returncode, 0 if said[1] == 14 else 2)
 
 
 class Codes(Case):
@@ -437,8 +468,145 @@ class Codes(Case):
             record = reels.record_of(reel)
             holding = [c for c in (1, 2, 3, 4) if records.write_reel(record, c, 10**9)[0] == "taken"]
             self.assertIn(code, holding)
-            said = self.fine("verify", self.file("reel", reel))
+            path = self.file("reel", reel)
+            said = self.fine("verify", path, warned=warning(path, reel))
             self.assertTrue(said.endswith("codes that hold it: " + " ".join(map(str, holding)) + "\n"), (said, holding))
+
+
+class Verify(Case):
+    """A record on disk against its reel."""
+
+    def setUp(self):
+        super().setUp()
+        self.record = reels.record_of(SAMPLE.read_bytes())
+
+    def sums(self, *paths):
+        return "".join(f"{hashlib.sha256(path.read_bytes()).hexdigest()}  {path}\n" for path in paths)
+
+    def different(self, record, *parts):
+        path = self.file("a.record", record)
+        said = self.trouble(3, "verify", SAMPLE, path, stdout=(
+            f"# {path} is NOT the record of {SAMPLE}: 6 traces of 240 samples, 13029 bytes\n{self.sums(SAMPLE, path)}"))
+        self.assertTrue(said.startswith(f"{path}: isn't the record of {SAMPLE}: ") and said.endswith("; keep the tape"), said)
+        for part in parts:
+            self.assertIn(part, said)
+
+    def test_the_same(self):
+        path = self.file("a.record", self.record)
+        said = self.fine("verify", SAMPLE, path)
+        self.assertEqual(said, f"# {path} is the record, byte for byte, of {SAMPLE}: 6 traces of 240 samples, 13029 bytes\n"
+                               + self.sums(SAMPLE, path))
+        # What it prints is what sha256sum takes.
+        for strict in (("--strict",), ()):
+            run = subprocess.run(["sha256sum", "-c", *strict], input=said.encode(), capture_output=True, timeout=SECONDS)
+            self.assertEqual((run.returncode, run.stderr), (0, b""))
+            self.assertEqual(run.stdout.decode(), f"{SAMPLE}: OK\n{path}: OK\n")
+
+    def test_strange_names(self):
+        for name in (b"-", b"a b", b"# c", b"\\", b"x\ny\\n", b"\xff\xfe"):
+            with open(os.fsencode(self.folder) + b"/" + name, "wb") as file:
+                file.write(self.record)
+            run = self.run_command("verify", SAMPLE, os.fsdecode(name), cwd=self.folder)
+            self.assertEqual((run.returncode, run.stderr), (0, b""), name)
+            check = subprocess.run(["sha256sum", "-c", "--strict"], input=run.stdout, capture_output=True, cwd=self.folder, timeout=SECONDS)
+            self.assertEqual((check.returncode, check.stderr, check.stdout.count(b": OK\n")), (0, b"", 2), name)
+
+    def test_one_bit_anywhere(self):
+        """Each bit of some bytes of each part, and what the sentence says of it."""
+        n, before = 240, self.record
+        header, pair, end = place_of_trace(3, n), place_of_pair(3, n, 7), place_of_end(6, n)
+        for place, name in (
+            (0, "the tag and length of the cards is tag 01, length 3200 by"), (2, "the tag and length of the cards"),
+            (3, "card 1, column 1 is C3, `C`, by"), (3202, "card 40, column 80 is 40 by"),
+            (3204, "the tag and length of the binary header"),
+            (place_of_binary(3205) + 3, "binary header, field 3205, line is 12 by"), (place_of_binary(3221), "field 3221, samples is 240 by"),
+            (place_of_binary(3225), "binary header, field 3225, code is 0 by"), (place_of_binary(3259) + 1, "field 3259, vibrator is 0 by"),
+            (header, "the tag and length of trace 3's header is tag 03, length 180 by"),
+            (place_of_field(3, n, 37) + 1, "trace 3, field 37, offset is 0 by"), (place_of_field(3, n, 179), "trace 3, field 179, overtravel"),
+            (place_of_samples(3, n) + 1, "the tag and length of trace 3's samples is tag 04, length 1440 by"),
+            (pair, "trace 3, sample 7 is 0 * 2^0 by"), (place_of_pair(6, n, 240) + 5, "trace 6, sample 240 is 0 * 2^0 by"),
+            (place_of_pair(1, n, 90) + 5, "trace 1, sample 90 is -431 * 2^-3 by"),
+            (end + 1, "the tag and length of the count of traces is tag 05, length 4 by"), (end + 6, "the count of traces is 6 by"),
+        ):
+            for bit in range(8):
+                self.different(with_bytes(before, place, bytes([before[place] ^ 1 << bit])), name, f"(place {place}; 1 of 13029 bytes differ)")
+        flipped = with_bytes(before, place_of_pair(1, n, 90) + 5, bytes([before[place_of_pair(1, n, 90) + 5] ^ 2]))
+        self.different(flipped, "trace 1, sample 90 is -431 * 2^-3 by the reel and -429 * 2^-3 in the file (place 3991; 1 of 13029 bytes")
+
+    def test_other_files(self):
+        n = 240
+        self.different(self.record[:-1], "it has 13028 bytes of 13029, and the count of traces is missing or cut short (place 13028)")
+        self.different(self.record[: place_of_pair(2, n, 5)], "and trace 2, sample 5 is missing or cut short")
+        self.different(b"", "it has 0 bytes of 13029, and the tag and length of the cards is missing or cut short (place 0)")
+        self.different(self.record + b"xy", "2 bytes follow the record's end (place 13029)")
+        self.different(SAMPLE.read_bytes(), "it is a reel, not a record")
+        self.different(SAMPLE.read_bytes()[:-7], "it is a reel, not a record")
+        cut = with_bytes(self.record, place_of_pair(2, n, 5), b"\x01")[: place_of_pair(2, n, 5) + 3]
+        self.different(cut, "trace 2, sample 5 is 0 * 2^0 by the reel and cut short in the file")
+        other = reels.record_of(make_reel(2000, 240, 1, [make_trace([bytes(4)] * 240)]))
+        self.different(other, "card 1, column 1 is C3, `C`, by the reel and 40 in the file")
+        # The reel is judged first, and a record in its stead is told.
+        path = self.file("a.record", self.record)
+        self.assertIn("is a record, not a reel: refused by 2", self.trouble(2, "verify", path, path))
+        self.assertIn("can't be opened", self.trouble(1, "verify", SAMPLE, self.folder / "none"))
+        self.assertIn("is a folder", self.trouble(1, "verify", SAMPLE, self.folder))
+
+    def test_sums_of_any_length(self):
+        """Lengths about the ends of a block, against Python's own."""
+        for length in (*range(0, 130), 1_048_575, 1_048_576, 1_048_577):
+            path = self.file("a.record", bytes(i % 251 for i in range(length)))
+            said = self.run_command("verify", SAMPLE, path).stdout.decode()
+            self.assertTrue(said.endswith(self.sums(path)), length)
+
+
+class LeftOut(Case):
+    def test_warnings(self):
+        """Bytes 3261 to 3600 and 181 to 240 that aren't 0 are counted, and nothing else is."""
+        plain = SAMPLE.read_bytes()
+        for places in (
+            (), (3260,), (3599,), (3260, 3300, 3599), (3600 + 180,), (3600 + 239, 3600 + 1200 + 180), (3500, 3600 + 5 * 1200 + 200),
+            (3255, 3600 + 179, 3600 + 1200 + 239), (3600 + 240, 3600 + 1200 + 241),
+        ):
+            reel = plain
+            for place in places:
+                reel = with_bytes(reel, place, bytes([1 + place % 255]))
+            path, record = self.file("a.sgy", reel), self.folder / "a.record"
+            warned = warning(path, reel)
+            self.assertEqual(bool(warned), any(3260 <= p < 3600 or p >= 3600 and (p - 3600) % 1200 in range(180, 240) for p in places))
+            self.fine("read", path, record, "--force", warned=warned)
+            self.fine("info", path, warned=warned)
+            self.fine("verify", path, warned=warned)
+            self.fine("verify", path, record, warned=warned)
+            self.fine("info", record)
+            self.fine("look", path, 0, 3225)
+        path = self.file("a.sgy", with_bytes(with_bytes(plain, 3500, b"\x01"), 3600 + 1200 + 180, b"\x07\x07"))
+        self.assertEqual(warning(path, path.read_bytes()), (
+            f"aukpocket: warning: {path}: the record leaves out 3 unassigned bytes that aren't 0: 1 of bytes 3261 to 3600, "
+            "and 2 of bytes 181 to 240 in 1 of the trace headers, first in trace 2\n"))
+        # A refused reel has no record.
+        self.trouble(2, "info", self.file("a.sgy", path.read_bytes()[:-1]), stdout=None)
+
+
+class Kinds(Case):
+    """A reel is not a record: that is said before the number and place."""
+
+    def test_a_record_for_a_reel(self):
+        for record in (reels.record_of(SAMPLE.read_bytes()), reels.record_of(example()), reels.record_of(make_reel(1, 1, 1))):
+            path = self.file("a.record", record)
+            for words in (("read", path, self.folder / "none"), ("look", path, 0, 3225), ("verify", path), ("verify", path, path)):
+                self.assertRegex(self.trouble(2, *words), f"^{path}: is a record, not a reel: refused by [12]: ")
+            self.assertRegex(self.trouble(2, "check", stdin=record, stdout=None), "^standard input: is a record, not a reel: refused by ")
+        self.assertEqual(self.names(), ["a.record"])
+
+    def test_a_reel_for_a_record(self):
+        """Whole, or with something wrong in its traces."""
+        for reel in (SAMPLE.read_bytes(), SAMPLE.read_bytes()[:-1], example(), make_reel(1, 1, 3)):
+            path = self.file("a.sgy", reel)
+            said = self.trouble(2, "write", path, 1, self.folder / "none")
+            self.assertRegex(said, f"^{path}: is a reel, not a record: refused by 12: tag .. stands where a field should begin ")
+        for other in (b"text\n" * 2000, b"", with_bytes(SAMPLE.read_bytes(), 3224, b"\0\x09")):
+            said = self.trouble(2, "write", self.file("other", other), 1, self.folder / "none")
+            self.assertIn("other: refused by 12: ", said)
 
 
 class Info(Case):
@@ -645,64 +813,12 @@ class Large(Case):
             f"loading {self.reel}, 32 MB", f"making the record of {self.reel}, 48 MB", f"writing {output}, 48 MB")))
         self.assertEqual(output.stat().st_size, self.length)
         self.assertIn("aukpocket: reading the reel in code 3 again, 16 MB\n", self.terminal("verify", self.reel))
+        said = self.terminal("verify", self.reel, output)
+        self.assertTrue(said.endswith(f"aukpocket: summing {self.reel}, 32 MB\naukpocket: comparing {output}, 48 MB\n"), said)
         self.assertEqual(self.terminal("read", SAMPLE, self.folder / "small"), "")
         self.fine("read", self.reel, output, "--force")
         with open(self.reel, "rb") as file:
             self.assertEqual(self.fine("check", stdin=file), f"taken {self.T} {self.N} {self.length}\n")
-
-    def killed(self, output, *words):
-        """Runs it and kills it as soon as a temporary file is seen. The temporary file's size by then, or None where it got away."""
-        run = subprocess.Popen([str(COMMAND), "read", str(self.reel), str(output), *words], stdout=subprocess.DEVNULL)
-        size = None
-        while run.poll() is None and size is None:
-            for path in self.folder.glob("*.partial"):
-                run.kill()
-                run.wait()
-                size = path.stat().st_size if path.exists() else None
-        run.wait()
-        for path in self.folder.glob("*.partial"):
-            path.unlink()
-        return size
-
-    def test_killed_while_it_writes(self):
-        output = self.folder / "output"
-        halves = 0
-        for _ in range(8):
-            size = self.killed(output)
-            if output.exists():
-                self.assertEqual(output.stat().st_size, self.length)
-                output.unlink()
-            elif size is not None and size < self.length:
-                halves += 1
-        self.assertGreater(halves, 0, "no run was killed while it wrote")
-        halves = 0
-        for _ in range(8):
-            output.write_bytes(b"old")
-            size = self.killed(output, "--force")
-            if output.stat().st_size == 3:
-                self.assertEqual(output.read_bytes(), b"old")
-                halves += size is not None and size < self.length
-            else:
-                self.assertEqual(output.stat().st_size, self.length)
-        self.assertGreater(halves, 0, "no run was killed while it wrote")
-
-    def test_told_to_end_while_it_writes(self):
-        """Unlike a kill, a signal that asks for the end leaves no temporary file either."""
-        output = self.folder / "output"
-        for number in (signal.SIGINT, signal.SIGTERM, signal.SIGHUP):
-            ended = False
-            for _ in range(8):
-                run = subprocess.Popen([str(COMMAND), "read", str(self.reel), str(output)], stdout=subprocess.DEVNULL)
-                while run.poll() is None and not list(self.folder.glob("*.partial")):
-                    pass
-                time.sleep(0.001)
-                run.send_signal(number)
-                ended |= run.wait() == -number
-                self.assertLessEqual(set(self.names()), {"output"})
-                if output.exists():
-                    self.assertEqual(output.stat().st_size, self.length)
-                    output.unlink()
-            self.assertTrue(ended, "no run was ended while it wrote")
 
     def test_killed_at_any_time(self):
         output = self.folder / "output"
@@ -814,7 +930,77 @@ class Wrong(Built):
             ["cargo", "build", "--offline"], cwd=self.folder / "cli", capture_output=True, text=True, timeout=SECONDS,
             env={**os.environ, "CARGO_TARGET_DIR": str(self.folder / "built")})
         self.assertNotEqual(run.returncode, 0)
-        self.assertIn("is missing: run `rt staticlib aukpocket` in the repository's root, which makes it.", run.stderr)
+        self.assertIn("is missing: run `make` in the repository's root, which makes it.", run.stderr)
+
+
+# Stops a run when half of the sample's record is written, until it is told to go on.
+HALFWAY = r"""
+#define _GNU_SOURCE
+#include <dlfcn.h>
+#include <signal.h>
+#include <unistd.h>
+ssize_t write(int fd, const void *bytes, size_t count)
+{
+    ssize_t (*next)(int, const void *, size_t) = (ssize_t (*)(int, const void *, size_t))dlsym(RTLD_NEXT, "write");
+    ssize_t half;
+    if (count != 13029)
+        return next(fd, bytes, count);
+    half = next(fd, bytes, 6514);
+    raise(SIGSTOP);
+    return half;
+}
+"""
+
+
+class Halfway(Built):
+    """A run that is ended while it writes. It stops by itself there, so that no clock plays a part."""
+
+    def setUp(self):
+        super().setUp()
+        library = Path(ROOM) / "halfway.so"
+        if not library.exists():
+            self.built("cc", "-shared", "-fPIC", "-o", library, self.file("halfway.c", HALFWAY.encode()), "-ldl")
+            (self.folder / "halfway.c").unlink()
+        self.preload = {"LD_PRELOAD": str(library)}
+        self.output = self.folder / "output"
+        self.record = reels.record_of(SAMPLE.read_bytes())
+
+    def halfway(self, *words, ignored=()):
+        """A run that has written half its output, and the temporary file that it has written it to."""
+        run = subprocess.Popen([str(COMMAND), "read", str(SAMPLE), str(self.output), *words], stdout=subprocess.DEVNULL,
+                               env={**os.environ, **self.preload}, preexec_fn=with_signals(*ignored))
+        self.assertTrue(os.WIFSTOPPED(os.waitpid(run.pid, os.WUNTRACED)[1]))
+        temporary, = self.folder.glob("*.partial")
+        self.assertEqual(temporary.read_bytes(), self.record[:6514])
+        return run, temporary
+
+    def ended(self, run, number):
+        run.send_signal(number)
+        run.send_signal(signal.SIGCONT)
+        return run.wait(SECONDS)
+
+    def test_killed(self):
+        for before, words in ((None, ()), (b"old", ("--force",))):
+            if before is not None:
+                self.output.write_bytes(before)
+            run, temporary = self.halfway(*words)
+            self.assertEqual(self.ended(run, signal.SIGKILL), -signal.SIGKILL)
+            self.assertEqual(self.output.read_bytes() if self.output.exists() else None, before)
+            temporary.unlink()
+
+    def test_told_to_end(self):
+        """Unlike a kill, a signal that asks for the end leaves no temporary file either."""
+        for number in (signal.SIGINT, signal.SIGTERM, signal.SIGHUP):
+            run, _ = self.halfway()
+            self.assertEqual(self.ended(run, number), -number)
+            self.assertEqual(self.names(), [])
+
+    def test_told_to_end_where_that_is_ignored(self):
+        for number in (signal.SIGINT, signal.SIGTERM, signal.SIGHUP):
+            run, _ = self.halfway(ignored=(number,))
+            self.assertEqual(self.ended(run, number), 0)
+            self.assertEqual((self.names(), self.output.read_bytes()), (["output"], self.record))
+            self.output.unlink()
 
 
 # Notes each sync, link and rename of a run.

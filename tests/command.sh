@@ -1,13 +1,10 @@
 #!/bin/sh
-# Builds the command over the proved static library, which is made where it is missing, tests its safe
-# module, and tries the command and the examples as a user would.
+# Makes the command over the proved library where it is missing or older than its sources, tests its modules, tries the command and the
+# examples as a user would, and holds docs/FORMAT.md to what the command does.
 set -eu
 cd "$(dirname "$0")/.."
 
-[ -f target/staticlib/libaukpocket.a ] || rt staticlib aukpocket
-
-CARGO_TARGET_DIR=$PWD/target/cli
-export CARGO_TARGET_DIR
-(cd cli && cargo build --release --offline --quiet && cargo test --release --offline --quiet --lib)
-
-python3 tests/command.py target/cli/release/aukpocket
+make --silent --no-print-directory build/aukpocket build/check_reel
+cargo test --release --offline --quiet --manifest-path cli/Cargo.toml --target-dir build/cargo/cli
+python3 tests/command.py build/aukpocket
+python3 tests/format.py build/aukpocket

@@ -1,12 +1,11 @@
 #!/bin/sh
-# Compares the library's C interface with an independent implementation of document 01, from any
-# current directory. Makes the archive of the library first if it is missing.
+# Compares the library's C interface with an independent implementation of document 01, from any current directory. Makes the library
+# first where it is missing or older than its sources.
 set -eu
 cd "$(dirname "$0")/.."
-if [ ! -f target/staticlib/libaukpocket.a ]; then
-    rt staticlib aukpocket
-fi
-CARGO_TARGET_DIR=$(pwd)/target/cargo
+
+make --silent --no-print-directory build/libaukpocket.a
+CARGO_TARGET_DIR=$(pwd)/build/cargo/tests
 export CARGO_TARGET_DIR
 cargo test --release --offline --quiet --manifest-path tests/independent/Cargo.toml
 cargo run --release --offline --quiet --manifest-path tests/differential/Cargo.toml

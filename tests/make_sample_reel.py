@@ -58,41 +58,47 @@ def header(length, first, fields):
     return bytes(content)
 
 
-def binary_header():
-    return header(400, 3201, (
-        (3201, 4, 1975), (3205, 4, 12), (3209, 4, 1),
-        (3213, 2, T), (3217, 2, INTERVAL), (3219, 2, INTERVAL), (3221, 2, N), (3223, 2, N), (3225, 2, CODE),
-        (3227, 2, 1), (3229, 2, 1), (3231, 2, 1), (3255, 2, 1), (3257, 2, 1),
-    ))
+BINARY_FIELDS = (
+    (3201, 4, 1975), (3205, 4, 12), (3209, 4, 1),
+    (3213, 2, T), (3217, 2, INTERVAL), (3219, 2, INTERVAL), (3221, 2, N), (3223, 2, N), (3225, 2, CODE),
+    (3227, 2, 1), (3229, 2, 1), (3231, 2, 1), (3255, 2, 1), (3257, 2, 1),
+)
 
 
-def trace_header(i):
+def trace_fields(i):
     filled = i != 2
-    return header(240, 1, (
+    return (
         (1, 4, 100 + i), (5, 4, i), (9, 4, 7), (13, 4, i), (17, 4, 31),
         (29, 2, 1), (31, 2, 1), (33, 2, 1), (35, 2, 1),
         (37, 4, 25 * i - 75), (41, 4, 1250 - 4 * i), (45, 4, 1242), (49, 4, 60), (69, 2, -10), (71, 2, 1),
         (73, 4, 441200), (77, 4, -612300), (81, 4, 441200 + 25 * i), (85, 4, -612300 - 5 * i), (89, 2, 1),
         (115, 2, N if filled else 0), (117, 2, INTERVAL if filled else 0),
         (157, 2, 1975), (159, 2, 201), (161, 2, 14), (163, 2, 3), (165, 2, 20 + i), (167, 2, 2),
-    ))
+    )
+
+
+def eighths(i):
+    """The values of a trace, in eighths."""
+    values = [0] * N
+    for first, delay, size in REFLECTIONS:
+        for k, height in enumerate(WAVELET):
+            values[first + delay * i + k - 1] += height * size
+    if i == T:
+        values[0:2] = 0, 8
+    assert all(abs(x) < 8 * 4096 for x in values)
+    return values
 
 
 def samples(i):
-    eighths = [0] * N
-    for first, delay, size in REFLECTIONS:
-        for k, height in enumerate(WAVELET):
-            eighths[first + delay * i + k - 1] += height * size
-    assert all(abs(x) < 8 * 4096 for x in eighths)
-    words = [ibm_word(x) for x in eighths]
+    words = [ibm_word(x) for x in eighths(i)]
     if i == T:
         words[0:2] = bytes.fromhex("80000000"), bytes.fromhex("42010000")
     return b"".join(words)
 
 
 def sample_reel():
-    traces = b"".join(trace_header(i) + samples(i) for i in range(1, T + 1))
-    return cards() + binary_header() + traces
+    traces = b"".join(header(240, 1, trace_fields(i)) + samples(i) for i in range(1, T + 1))
+    return cards() + header(400, 3201, BINARY_FIELDS) + traces
 
 
 def main():

@@ -258,7 +258,7 @@ class Comparison:
 
 
 def run(command, *words):
-    done = subprocess.run([command, *map(str, words)], stdout=subprocess.PIPE, stderr=subprocess.STDOUT, timeout=60)
+    done = subprocess.run([command, *map(str, words)], stdout=subprocess.PIPE, stderr=subprocess.STDOUT, timeout=600)
     if done.returncode != 0:
         sys.exit(f"segyio_reels: {' '.join(map(str, words))}: {done.stdout.decode('utf-8', 'replace')}")
 

@@ -33,10 +33,10 @@ pub fn size(bytes: u64) -> String {
     }
 }
 
-/// The whole content of a file.
-pub fn load(path: &Path) -> Result<Vec<u8>, Trouble> {
+/// A file to be read, and the length that it tells.
+pub fn open(path: &Path) -> Result<(File, u64), Trouble> {
     let name = path.display();
-    let mut file =
+    let file =
         File::open(path).map_err(|e| Trouble::file(format!("{name}: can't be opened: {e}")))?;
     let about = file
         .metadata()
@@ -44,8 +44,15 @@ pub fn load(path: &Path) -> Result<Vec<u8>, Trouble> {
     if about.is_dir() {
         return Err(Trouble::file(format!("{name}: is a folder, not a file")));
     }
-    step(format_args!("loading {name}"), about.len());
-    load_from(&mut file, about.len(), name)
+    Ok((file, about.len()))
+}
+
+/// The whole content of a file.
+pub fn load(path: &Path) -> Result<Vec<u8>, Trouble> {
+    let name = path.display();
+    let (mut file, length) = open(path)?;
+    step(format_args!("loading {name}"), length);
+    load_from(&mut file, length, name)
 }
 
 /// The whole content of a source that is expected to have that many bytes, and may have more or fewer.

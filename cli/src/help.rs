@@ -10,6 +10,7 @@ aukpocket: SEG-Y revision 0 reels and their canonical records
   aukpocket look REEL TRACE BYTE               print one header field, by byte number or name
   aukpocket info FILE [--cards COUNT]          say what a file is and what it holds
   aukpocket verify REEL                        write and read again in each code, and compare
+  aukpocket verify REEL RECORD                 compare a record on disk with its reel
   aukpocket check                              print one line about the reel on standard input
 
   aukpocket COMMAND --help                     say more about one command
@@ -19,7 +20,11 @@ Exit status:
   0  fine
   1  wrong words on the command line, or trouble with a file or memory
   2  refused: a sentence on standard error has the number of the cause, what is wrong and where
-  3  verify found a difference, which must never happen
+  3  verify found a difference
+
+A record leaves out what carries no meaning in revision 0: bytes 3261 to 3600, and bytes 181 to 240 of
+each trace header. read, info and verify count those that aren't 0 and warn of them on standard error;
+the exit status stays as it is.
 
 Places are counted from 0, byte numbers, as in the standard, from 1. A whole reel and its record have
 to fit in memory.
@@ -34,6 +39,12 @@ there already is kept.
   --force   replace a file that is there already; the input is never replaced
 ";
 
+const LEFT_OUT: &str = "
+The record leaves out bytes 3261 to 3600, and bytes 181 to 240 of each trace header, which carry no
+meaning in revision 0. Those that aren't 0 are counted, and a warning on standard error says how many;
+the exit status stays as it is.
+";
+
 const STATUS: &str = "
 Exit status: 0 fine, 1 wrong words or trouble with a file or memory, 2 refused.
 ";
@@ -45,7 +56,7 @@ aukpocket read REEL RECORD [--force]
 
 Reads the reel and writes its canonical record: the cards, every header number and the exact value of
 every sample. Two reels have the same record exactly when they mean the same.
-{OUTPUT}{STATUS}"
+{LEFT_OUT}{OUTPUT}{STATUS}"
     )
 }
 
@@ -96,22 +107,33 @@ interval and the code; for a record, the codes that hold it; and the first cards
 page 037, a dot for a control character). A refused file is shown as far as its headers go.
 
   --cards COUNT   how many cards, 0 to 40; 5 unless given
-{STATUS}"
+{LEFT_OUT}{STATUS}"
     )
 }
 
 pub fn verify() -> String {
-    "\
+    format!(
+        "\
 aukpocket verify REEL
+aukpocket verify REEL RECORD
 
-Reads the reel, writes its record in each of the codes 1 to 4, reads each written reel again and compares
-the records byte for byte. Says which codes hold the reel's samples exactly. Writes no file; the record,
-one written reel and a second record have to fit in memory.
+With a record, before a tape is destroyed: reads the reel and compares its record with the file RECORD,
+byte for byte. The file is read from the disk itself, where the system allows that. The first difference is
+named by trace and field or sample. What it prints can be kept and handed to `sha256sum -c`: the SHA-256 of
+both files, and a line that begins with # and says whether the file is the reel's record. The reel and its
+record have to fit in memory.
 
-Exit status: 0 fine, 1 wrong words or trouble with a file or memory, 2 the reel is refused, 3 a record
-came back otherwise or the reel's own code doesn't hold it, which must never happen.
+Without one: reads the reel, writes its record in each of the codes 1 to 4, reads each written reel again
+and compares the records byte for byte. Says which codes hold the reel's samples exactly. The record, one
+written reel and a second record have to fit in memory.
+
+Neither writes a file.
+{LEFT_OUT}
+Exit status: 0 fine, 1 wrong words or trouble with a file or memory, 2 the reel is refused, 3 the file is
+not the reel's record; or a record came back otherwise or the reel's own code doesn't hold it, which must
+never happen.
 "
-    .to_string()
+    )
 }
 
 pub fn check() -> String {

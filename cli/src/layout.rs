@@ -90,8 +90,3 @@ impl Shape {
 pub fn binary_place(byte_number: usize) -> usize {
     BINARY + TAG + byte_number - 3201
 }
-
-/// Whether a file begins as a record does, with tag 01 and its length. On a reel these would be three control characters.
-pub fn begins_as_record(bytes: &[u8]) -> bool {
-    bytes.starts_with(&[0x01, 0x0C, 0x80])
-}

@@ -1,21 +1,27 @@
 //! The command `aukpocket`: reels into records, records into reels, and what they hold.
 
 mod cards;
+mod compare;
 mod fields;
 mod files;
 mod help;
+mod kinds;
 mod layout;
+mod left_out;
 mod refusals;
+mod sha256;
 mod system;
 mod trouble;
 
 use aukpocket::{look_up, read_reel, write_reel, Refusal, Taken};
 use files::{step, Target};
-use layout::{begins_as_record, number, Shape};
+use kinds::{is_record, is_reel, record_fault, reel_fault};
+use layout::{number, Shape};
 use std::env;
 use std::ffi::{OsStr, OsString};
 use std::fmt::Write as _;
 use std::io::{self, ErrorKind, Write};
+use std::os::unix::ffi::OsStrExt;
 use std::path::Path;
 use std::process::ExitCode;
 use std::str::FromStr;
@@ -49,10 +55,11 @@ impl Words {
     }
 }
 
-/// A command: its name, the words that it takes, the options that it knows, its help and its work.
+/// A command: its name, the words that it takes, a last word that may be left out, the options that it knows, its help and its work.
 struct Command {
     name: &'static str,
     words: &'static [&'static str],
+    optional: Option<&'static str>,
     force: bool,
     cards: bool,
     help: fn() -> String,
@@ -63,6 +70,7 @@ static COMMANDS: [Command; 6] = [
     Command {
         name: "read",
         words: &["REEL", "RECORD"],
+        optional: None,
         force: true,
         cards: false,
         help: help::read,
@@ -71,6 +79,7 @@ static COMMANDS: [Command; 6] = [
     Command {
         name: "write",
         words: &["RECORD", "CODE", "REEL"],
+        optional: None,
         force: true,
         cards: false,
         help: help::write,
@@ -79,6 +88,7 @@ static COMMANDS: [Command; 6] = [
     Command {
         name: "look",
         words: &["REEL", "TRACE", "BYTE"],
+        optional: None,
         force: false,
         cards: false,
         help: help::look,
@@ -87,6 +97,7 @@ static COMMANDS: [Command; 6] = [
     Command {
         name: "info",
         words: &["FILE"],
+        optional: None,
         force: false,
         cards: true,
         help: help::info,
@@ -95,6 +106,7 @@ static COMMANDS: [Command; 6] = [
     Command {
         name: "verify",
         words: &["REEL"],
+        optional: Some("RECORD"),
         force: false,
         cards: false,
         help: help::verify,
@@ -103,6 +115,7 @@ static COMMANDS: [Command; 6] = [
     Command {
         name: "check",
         words: &[],
+        optional: None,
         force: false,
         cards: false,
         help: help::check,
@@ -188,10 +201,13 @@ fn take_words(command: &Command, arguments: &[OsString]) -> Result<Option<Words>
             _ => taken.words.push(argument.clone()),
         }
     }
-    if taken.words.len() != command.words.len() {
-        return Err(wrong(match command.words {
-            [] => "it takes no words".to_string(),
-            words => format!("it takes {}", words.join(" ")),
+    let least = command.words.len();
+    let most = least + usize::from(command.optional.is_some());
+    if !(least..=most).contains(&taken.words.len()) {
+        return Err(wrong(match (command.words, command.optional) {
+            ([], _) => "it takes no words".to_string(),
+            (words, None) => format!("it takes {}", words.join(" ")),
+            (words, Some(optional)) => format!("it takes {} [{optional}]", words.join(" ")),
         }));
     }
     Ok(Some(taken))
@@ -223,14 +239,25 @@ fn tell(text: &str) -> Result<(), Trouble> {
 
 /// Prints to standard output. Where its reader has gone there is nobody left to tell.
 fn print(text: &str) -> Result<(), Trouble> {
+    print_bytes(text.as_bytes())
+}
+
+fn print_bytes(bytes: &[u8]) -> Result<(), Trouble> {
     let mut output = io::stdout().lock();
     output
-        .write_all(text.as_bytes())
+        .write_all(bytes)
         .and_then(|()| output.flush())
         .map_err(|e| match e.kind() {
             ErrorKind::BrokenPipe => Trouble::file(""),
             _ => Trouble::file(format!("standard output: can't be written: {e}")),
         })
+}
+
+/// Warns of what the record of a reel that was taken leaves out.
+fn warn_of_left_out(reel: &[u8], name: &str) {
+    if let Some(sentence) = left_out::warning(reel) {
+        let _ = writeln!(io::stderr(), "aukpocket: warning: {name}: {sentence}");
+    }
 }
 
 /// Traces and samples, for people.
@@ -298,11 +325,12 @@ fn read(words: &Words) -> Result<(), Trouble> {
     let (from, to) = (words.path(0), words.path(1));
     let target = Target::new(to, words.force, from)?;
     let reel = files::load(from)?;
-    let (record, taken) = record_of(&reel, &from.display().to_string())?;
+    let name = from.display().to_string();
+    let (record, taken) = record_of(&reel, &name)?;
     target.put(&record)?;
+    warn_of_left_out(&reel, &name);
     tell(&format!(
-        "{}: {}; {}: its record, {} bytes\n",
-        from.display(),
+        "{name}: {}; {}: its record, {} bytes\n",
         extent(taken.traces, taken.samples),
         to.display(),
         taken.length
@@ -378,23 +406,6 @@ fn info(words: &Words) -> Result<(), Trouble> {
     }
 }
 
-/// Whether a file is to be judged as a record: it begins as one, and isn't refused as one and taken as a reel.
-fn is_record(bytes: &[u8]) -> bool {
-    begins_as_record(bytes)
-        && (record_fault(write_reel(bytes, 1, &mut [])).is_none()
-            || reel_fault(read_reel(bytes, &mut [])).is_some())
-}
-
-/// Why a record isn't valid. With no room for the reel, a code that holds a valid record is refused by 10, one that doesn't by 14.
-fn record_fault(answer: Result<Taken, Refusal>) -> Option<Refusal> {
-    answer.err().filter(|r| matches!(r.number, 12 | 13))
-}
-
-/// Why a reel isn't taken. With no room for the record, a reel that would be taken is refused by 10 with the length of its record.
-fn reel_fault(answer: Result<Taken, Refusal>) -> Option<Refusal> {
-    answer.err().filter(|r| r.number != 10)
-}
-
 fn info_of_reel(reel: &[u8], name: &str, cards: usize) -> Result<(), Trouble> {
     let refusal = reel_fault(read_reel(reel, &mut []));
     let kind = match refusal {
@@ -424,7 +435,10 @@ fn info_of_reel(reel: &[u8], name: &str, cards: usize) -> Result<(), Trouble> {
     }
     print(&text)?;
     match refusal {
-        None => Ok(()),
+        None => {
+            warn_of_left_out(reel, name);
+            Ok(())
+        }
         Some(refusal) => Err(Trouble::refused(name, refusals::of_reel(reel, refusal))),
     }
 }
@@ -479,7 +493,88 @@ fn add_cards(text: &mut String, bytes: &[u8], count: usize) {
 }
 
 fn verify(words: &Words) -> Result<(), Trouble> {
-    let path = words.path(0);
+    match words.words.len() {
+        1 => verify_reel(words.path(0)),
+        _ => verify_record(words.path(0), words.path(1)),
+    }
+}
+
+/// Compares a record on disk with the record of its reel. All of standard output can be handed to `sha256sum -c`.
+fn verify_record(reel_path: &Path, record_path: &Path) -> Result<(), Trouble> {
+    let name = reel_path.display().to_string();
+    let record_name = record_path.display().to_string();
+    let (mut file, length) = files::open(record_path)?;
+    let reel = files::load(reel_path)?;
+    let (record, taken) = record_of(&reel, &name)?;
+    warn_of_left_out(&reel, &name);
+    step(format_args!("summing {name}"), reel.len() as u64);
+    let reel_sum = sha256::sum(&reel);
+    drop(reel);
+    step(format_args!("comparing {record_name}"), length);
+    system::forget(&file);
+    let compared = compare::compare(&mut file, &record, &record_name)?;
+    let difference = match compare::difference(&record, &compared) {
+        Some(_) if length >= layout::HEADERS as u64 && is_reel_file(record_path) => {
+            Some("it is a reel, not a record".to_string())
+        }
+        difference => difference,
+    };
+    let said = match difference {
+        None => "is the record, byte for byte, of",
+        Some(_) => "is NOT the record of",
+    };
+    let mut text = b"# ".to_vec();
+    text.extend(listed(record_path).1);
+    text.extend(format!(" {said} ").as_bytes());
+    text.extend(listed(reel_path).1);
+    text.extend(
+        format!(
+            ": {}, {} bytes\n",
+            extent(taken.traces, taken.samples),
+            record.len()
+        )
+        .as_bytes(),
+    );
+    for (sum, path) in [(reel_sum, reel_path), (compared.sum, record_path)] {
+        let (escaped, name) = listed(path);
+        text.extend(format!("{}{sum}  ", if escaped { "\\" } else { "" }).as_bytes());
+        text.extend(name);
+        text.push(b'\n');
+    }
+    print_bytes(&text)?;
+    match difference {
+        None => Ok(()),
+        Some(difference) => Err(Trouble::differs(format!(
+            "{record_name}: isn't the record of {name}: {difference}; keep the tape"
+        ))),
+    }
+}
+
+/// Whether a file that isn't the record it should be is a reel. One that can't be read twice is none.
+fn is_reel_file(path: &Path) -> bool {
+    path.is_file() && files::load(path).is_ok_and(|bytes| is_reel(&bytes))
+}
+
+/// A file's name as `sha256sum` lists it: a name with a line's end or a backslash is escaped, which a backslash before the sum says.
+fn listed(path: &Path) -> (bool, Vec<u8>) {
+    let bytes = match path.as_os_str().as_bytes() {
+        b"-" => b"./-", // the name alone would be standard input
+        bytes => bytes,
+    };
+    let name: Vec<u8> = bytes
+        .iter()
+        .flat_map(|byte| match byte {
+            b'\n' => b"\\n".to_vec(),
+            b'\r' => b"\\r".to_vec(),
+            b'\\' => b"\\\\".to_vec(),
+            other => vec![*other],
+        })
+        .collect();
+    (name != bytes, name)
+}
+
+/// Writes a reel's record in each code and reads it again.
+fn verify_reel(path: &Path) -> Result<(), Trouble> {
     let name = path.display().to_string();
     let reel = files::load(path)?;
     let (record, taken) = record_of(&reel, &name)?;
@@ -490,6 +585,7 @@ fn verify(words: &Words) -> Result<(), Trouble> {
         reel.len(),
         record.len()
     ))?;
+    warn_of_left_out(&reel, &name);
     drop(reel);
     let mut holding = Vec::new();
     let mut differences = Vec::new();

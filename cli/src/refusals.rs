@@ -1,6 +1,7 @@
 //! A refusal in a sentence: the number, what is wrong, the place, and the trace and field that it falls in.
 
 use crate::fields::header;
+use crate::kinds::{is_record, is_reel};
 use crate::layout::{
     binary_place, number, Shape, BINARY, CARDS, FIRST_PAIR, FIRST_TRACE, HEADERS, SAMPLES, TAG,
 };
@@ -9,8 +10,15 @@ use aukpocket::Refusal;
 /// The most traces that a reel or record has.
 const MOST_TRACES: usize = 100_000;
 
-/// A reel's refusal, by 1 to 10.
+/// A reel's refusal, by 1 to 10. That it is a record is said first.
 pub fn of_reel(reel: &[u8], refusal: Refusal) -> String {
+    if is_record(reel) {
+        return format!("is a record, not a reel: {}", as_reel(reel, refusal));
+    }
+    as_reel(reel, refusal)
+}
+
+fn as_reel(reel: &[u8], refusal: Refusal) -> String {
     let shape = Shape::of_reel(reel);
     let place = place_of(refusal);
     let signed = number(reel, place) as i16;
@@ -82,8 +90,18 @@ pub fn of_look_up(reel: &[u8], trace: usize, byte_number: u32, refusal: Refusal)
     sentence(refusal, &what)
 }
 
-/// A record's refusal under a target code, by 10 to 14.
+/// A record's refusal under a target code, by 10 to 14. That it is a reel is said first.
 pub fn of_record(record: &[u8], code: u32, refusal: Refusal) -> String {
+    if refusal.number == 12 && refusal.beside == 0 && is_reel(record) {
+        return format!(
+            "is a reel, not a record: {}",
+            as_record(record, code, refusal)
+        );
+    }
+    as_record(record, code, refusal)
+}
+
+fn as_record(record: &[u8], code: u32, refusal: Refusal) -> String {
     let place = place_of(refusal);
     let what = match refusal.number {
         11 => format!("the target code is {code}, not 1 to 4"),
@@ -91,7 +109,7 @@ pub fn of_record(record: &[u8], code: u32, refusal: Refusal) -> String {
         13 => wrong_number(record, place),
         14 => format!(
             "a sample, {}, doesn't fit code {code} ({})",
-            value(record, place),
+            pair_value(record, place),
             record_at(record, place)
         ),
         _ => return other(refusal),
@@ -122,7 +140,7 @@ fn place_of(refusal: Refusal) -> usize {
 }
 
 /// The name of the field that begins at a byte number.
-fn field(trace: usize, byte_number: usize) -> String {
+pub fn field(trace: usize, byte_number: usize) -> String {
     let name = header(trace)
         .iter()
         .find(|field| field.0 as usize == byte_number)
@@ -210,7 +228,10 @@ fn wrong_number(record: &[u8], place: usize) -> String {
             "the sample interval of a trace is {signed}, not the reel's {} ({at})",
             shape.interval
         ),
-        _ => format!("a pair, {}, isn't canonical ({at})", value(record, place)),
+        _ => format!(
+            "a pair, {}, isn't canonical ({at})",
+            pair_value(record, place)
+        ),
     }
 }
 
@@ -291,10 +312,10 @@ fn wrong_field(record: &[u8], place: usize, tag: u8, length: usize, what: &str) 
     }
 }
 
-/// The value of the pair at a place in a record.
-fn value(record: &[u8], place: usize) -> String {
-    let e = number(record, place) as i16;
+/// The value of the pair at a place.
+pub fn pair_value(bytes: &[u8], place: usize) -> String {
+    let e = number(bytes, place) as i16;
     let m =
-        (u32::from(number(record, place + 2)) << 16 | u32::from(number(record, place + 4))) as i32;
+        (u32::from(number(bytes, place + 2)) << 16 | u32::from(number(bytes, place + 4))) as i32;
     format!("{m} * 2^{e}")
 }

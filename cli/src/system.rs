@@ -1,8 +1,10 @@
 //! What std leaves to the C library: a limit on file sizes is an error like others, a run that is told to end takes its temporary file
-//! along, and whether a folder may be written to is asked before the work.
+//! along, whether a folder may be written to is asked before the work, and a file is read from the disk itself.
 
 use std::ffi::{c_char, c_int, CString};
+use std::fs::File;
 use std::io;
+use std::os::fd::AsRawFd;
 use std::os::unix::ffi::OsStrExt;
 use std::path::Path;
 use std::ptr;
@@ -14,6 +16,7 @@ extern "C" {
     fn raise(number: c_int) -> c_int;
     fn unlink(path: *const c_char) -> c_int;
     fn access(path: *const c_char, mode: c_int) -> c_int;
+    fn posix_fadvise(file: c_int, place: i64, length: i64, advice: c_int) -> c_int;
 }
 
 const DEFAULT: usize = 0;
@@ -23,6 +26,7 @@ const INTERRUPT: c_int = 2;
 const TERMINATE: c_int = 15;
 const FILE_SIZE: c_int = 25;
 const WRITE_AND_SEARCH: c_int = 3;
+const NOT_NEEDED: c_int = 4;
 
 /// The name of the temporary file while there is one.
 static TEMPORARY: AtomicPtr<c_char> = AtomicPtr::new(ptr::null_mut());
@@ -41,6 +45,13 @@ pub fn may_write(folder: &Path) -> io::Result<()> {
         0 => Ok(()),
         _ => Err(io::Error::last_os_error()),
     }
+}
+
+/// Has the system forget what it keeps of a file in memory, so that the disk is read. It may keep it all the same, as where another
+/// program has the file open; that is no trouble.
+pub fn forget(file: &File) {
+    // SAFETY: the file is open. A length of 0 is the whole file.
+    unsafe { posix_fadvise(file.as_raw_fd(), 0, 0, NOT_NEEDED) };
 }
 
 /// Has a file removed where the run is told to end, from before it is made. The name is kept for good, since a signal may come at any

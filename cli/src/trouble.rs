@@ -23,7 +23,7 @@ impl Trouble {
         Trouble::new(2, format!("{name}: {sentence}"))
     }
 
-    /// A reel that came back otherwise than it went out.
+    /// A reel that came back otherwise than it went out, or a file that isn't the record of its reel.
     pub fn differs(sentence: impl Display) -> Trouble {
         Trouble::new(3, sentence)
     }

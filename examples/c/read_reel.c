@@ -3,7 +3,7 @@
  *     taken T N LENGTH       T traces of N samples, and the length of the record
  *     refused NUMBER BESIDE  the number of the cause, and what stands beside it (see aukpocket.h)
  *
- *     cc -I include examples/c/read_reel.c target/staticlib/libaukpocket.a -o read_reel
+ *     cc -I include examples/c/read_reel.c build/libaukpocket.a -o read_reel
  *     ./read_reel examples/sample.sgy c.record
  */
 #include "aukpocket.h"

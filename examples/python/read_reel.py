@@ -5,7 +5,7 @@
 
 ctypes wants a shared object, which the C compiler makes of the static library:
 
-    cc -shared -o libaukpocket.so -Wl,--whole-archive target/staticlib/libaukpocket.a -Wl,--no-whole-archive
+    cc -shared -o libaukpocket.so -Wl,--whole-archive build/libaukpocket.a -Wl,--no-whole-archive
     python3 examples/python/read_reel.py ./libaukpocket.so examples/sample.sgy python.record
 """
 

@@ -1,0 +1,292 @@
+//! A record on disk against the record of its reel.
+
+use crate::cards;
+use crate::layout::{number, Shape, BINARY, FIRST_PAIR, FIRST_TRACE, SAMPLES, TAG};
+use crate::refusals::{field, pair_value};
+use crate::sha256::Sum;
+use crate::trouble::Trouble;
+use std::fmt::Display;
+use std::io::Read;
+use std::ops::Range;
+
+/// What is read at a time, and the most bytes of a part that can differ at its first.
+const PIECE: usize = 1 << 20;
+const PART: usize = 6;
+
+/// What a file turned out to be beside the bytes that it should have.
+pub struct Compared {
+    pub sum: String,
+    pub length: u64,
+    /// How many bytes differ, of those that both have.
+    pub differing: u64,
+    /// The first place that differs, or at which one of the two has ended, and the file's bytes from there on.
+    pub first: Option<(usize, Vec<u8>)>,
+}
+
+/// Reads a file to its end and compares it.
+pub fn compare(
+    file: &mut impl Read,
+    expected: &[u8],
+    name: impl Display,
+) -> Result<Compared, Trouble> {
+    let mut sum = Sum::new();
+    let mut piece = Vec::with_capacity(PIECE);
+    let mut place = 0;
+    let mut differing = 0;
+    let mut first: Option<(usize, Vec<u8>)> = None;
+    loop {
+        piece.clear();
+        file.by_ref()
+            .take(PIECE as u64)
+            .read_to_end(&mut piece)
+            .map_err(|e| Trouble::file(format!("{name}: can't be read: {e}")))?;
+        if piece.is_empty() {
+            break;
+        }
+        sum.add(&piece);
+        let rest = expected.get(place..).unwrap_or(&[]);
+        if let Some((_, found)) = &mut first {
+            found.extend(piece.iter().take(PART.saturating_sub(found.len())));
+        }
+        if !rest.starts_with(&piece) {
+            differing += piece.iter().zip(rest).filter(|(a, b)| a != b).count() as u64;
+            if first.is_none() {
+                let same = piece.iter().zip(rest).take_while(|(a, b)| a == b).count();
+                first = Some((
+                    place + same,
+                    piece[same..].iter().take(PART).copied().collect(),
+                ));
+            }
+        }
+        place += piece.len();
+    }
+    if first.is_none() && place < expected.len() {
+        first = Some((place, Vec::new()));
+    }
+    Ok(Compared {
+        sum: sum.finish(),
+        length: place as u64,
+        differing,
+        first,
+    })
+}
+
+/// The first difference in words: where it stands, what the reel has there and what the file has.
+pub fn difference(record: &[u8], compared: &Compared) -> Option<String> {
+    let (place, found) = compared.first.as_ref()?;
+    let place = *place;
+    if place == record.len() {
+        let more = compared.length - place as u64;
+        return Some(format!(
+            "{more} bytes follow the record's end (place {place})"
+        ));
+    }
+    let part = part_at(record, place);
+    if found.is_empty() {
+        return Some(format!(
+            "it has {} bytes of {}, and {} is missing or cut short (place {place})",
+            compared.length,
+            record.len(),
+            part.name
+        ));
+    }
+    let mut other = record[part.bytes.start..place].to_vec();
+    other.extend(found.iter().take(part.bytes.end - place));
+    let in_file = if other.len() == part.bytes.len() {
+        (part.shown)(&other)
+    } else {
+        "cut short".to_string()
+    };
+    Some(format!(
+        "{} is {} by the reel and {in_file} in the file (place {place}; {} of {} bytes differ)",
+        part.name,
+        (part.shown)(&record[part.bytes.clone()]),
+        compared.differing,
+        record.len()
+    ))
+}
+
+/// A part of a record that has one meaning: its name, its bytes, and how these are shown.
+struct Part {
+    name: String,
+    bytes: Range<usize>,
+    shown: fn(&[u8]) -> String,
+}
+
+/// The part that a place in a record falls in.
+fn part_at(record: &[u8], place: usize) -> Part {
+    let tag = |start: usize, name: String| Part {
+        name,
+        bytes: start..start + TAG,
+        shown: tag_and_length,
+    };
+    if place < TAG {
+        return tag(0, "the tag and length of the cards".to_string());
+    }
+    if place < BINARY {
+        let from = place - TAG;
+        return Part {
+            name: format!(
+                "card {}, column {}",
+                from / cards::CARD + 1,
+                from % cards::CARD + 1
+            ),
+            bytes: place..place + 1,
+            shown: card,
+        };
+    }
+    if place < BINARY + TAG {
+        return tag(
+            BINARY,
+            "the tag and length of the binary header".to_string(),
+        );
+    }
+    if place < FIRST_TRACE {
+        return header_field(0, BINARY + TAG, place, "binary header".to_string());
+    }
+    let length = Shape::of_record(record).trace_length;
+    let (i, rest) = (
+        (place - FIRST_TRACE) / length,
+        (place - FIRST_TRACE) % length,
+    );
+    let (trace, start) = (i + 1, FIRST_TRACE + i * length);
+    if start + TAG + 4 == record.len() {
+        return if rest < TAG {
+            tag(
+                start,
+                "the tag and length of the count of traces".to_string(),
+            )
+        } else {
+            Part {
+                name: "the count of traces".to_string(),
+                bytes: start + TAG..record.len(),
+                shown: whole,
+            }
+        };
+    }
+    if rest < TAG {
+        return tag(
+            start,
+            format!("the tag and length of trace {trace}'s header"),
+        );
+    }
+    if rest < SAMPLES {
+        return header_field(trace, start + TAG, place, format!("trace {trace}"));
+    }
+    if rest < FIRST_PAIR {
+        return tag(
+            start + SAMPLES,
+            format!("the tag and length of trace {trace}'s samples"),
+        );
+    }
+    let sample = (rest - FIRST_PAIR) / PART;
+    let first = start + FIRST_PAIR + sample * PART;
+    Part {
+        name: format!("trace {trace}, sample {}", sample + 1),
+        bytes: first..first + PART,
+        shown: |pair| pair_value(pair, 0),
+    }
+}
+
+/// The field of a header, whose content begins at a place in the record, that another place falls in.
+fn header_field(trace: usize, content: usize, place: usize, of: String) -> Part {
+    let numbers = crate::fields::header(trace);
+    let first = numbers[0].0 as usize;
+    let end = if trace == 0 { 60 } else { 180 };
+    let starts = || numbers.iter().map(|field| field.0 as usize - first);
+    let from = place - content;
+    let start = starts()
+        .take_while(|&start| start <= from)
+        .last()
+        .unwrap_or(0);
+    let next = starts().find(|&start| start > from).unwrap_or(end);
+    Part {
+        name: format!("{of}, {}", field(trace, first + start)),
+        bytes: content + start..content + next,
+        shown: whole,
+    }
+}
+
+fn tag_and_length(bytes: &[u8]) -> String {
+    format!("tag {:02X}, length {}", bytes[0], number(bytes, 1))
+}
+
+fn card(bytes: &[u8]) -> String {
+    let text = cards::text(bytes, 1);
+    match text.trim() {
+        "" => format!("{:02X}", bytes[0]),
+        character => format!("{:02X}, `{character}`,", bytes[0]),
+    }
+}
+
+/// A signed number of two or four bytes.
+fn whole(bytes: &[u8]) -> String {
+    match *bytes {
+        [a, b] => i16::from_be_bytes([a, b]).to_string(),
+        [a, b, c, d] => i32::from_be_bytes([a, b, c, d]).to_string(),
+        _ => String::new(),
+    }
+}
+
+#[cfg(test)]
+mod tests {
+    use super::*;
+    use crate::layout::CARDS;
+    use aukpocket::record_length;
+
+    /// The part of every place of a record: each begins where the one before ends, and all have a name of their own.
+    #[test]
+    fn parts_make_up_a_record() {
+        let mut record = vec![0; record_length(2, 3).unwrap() as usize];
+        record[crate::layout::binary_place(3221) + 1] = 3;
+        let mut names = std::collections::HashSet::new();
+        let mut place = 0;
+        while place < record.len() {
+            let part = part_at(&record, place);
+            assert_eq!(part.bytes.start, place, "{}", part.name);
+            for within in part.bytes.clone() {
+                assert_eq!(part_at(&record, within).bytes, part.bytes);
+            }
+            place = part.bytes.end;
+            assert!(names.insert(part.name));
+        }
+        assert_eq!(place, record.len());
+        assert_eq!(names.len(), 1 + CARDS + 1 + 27 + 2 * (1 + 71 + 1 + 3) + 2);
+    }
+
+    /// A difference is found wherever it stands, also where a piece that is read ends within it.
+    #[test]
+    fn pieces() {
+        let record: Vec<u8> = (0..3 * PIECE).map(|i| (i % 251) as u8).collect();
+        for place in [
+            0,
+            1,
+            PIECE - 3,
+            PIECE - 1,
+            PIECE,
+            2 * PIECE + 7,
+            3 * PIECE - 1,
+        ] {
+            let mut other = record.clone();
+            other[place] ^= 0x10;
+            let compared = compare(&mut &other[..], &record, "").ok().unwrap();
+            let (first, found) = compared.first.unwrap();
+            assert_eq!((first, compared.differing), (place, 1));
+            assert_eq!(found, other[place..(place + PART).min(other.len())]);
+        }
+        for length in [0, 1, PIECE, 3 * PIECE - 1] {
+            let compared = compare(&mut &record[..length], &record, "").ok().unwrap();
+            assert_eq!(compared.first, Some((length, Vec::new())));
+            let compared = compare(&mut &record[..], &record[..length], "")
+                .ok()
+                .unwrap();
+            assert_eq!(compared.first.unwrap().0, length);
+            assert_eq!((compared.length, compared.differing), (3 * PIECE as u64, 0));
+        }
+        assert!(compare(&mut &record[..], &record, "")
+            .ok()
+            .unwrap()
+            .first
+            .is_none());
+    }
+}

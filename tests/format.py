@@ -1,0 +1,108 @@
+"""Holds docs/FORMAT.md to what the command does.
+
+    python3 tests/format.py PATH_OF_COMMAND
+
+The record that the command makes of the sample reel, and the reel itself, are decoded by tests/format_reader.py, which was written from
+the page alone, and compared with the numbers and values that tests/make_sample_reel.py made the reel of. So are records and reels in
+every code. The page's example is held to the command's bytes, and its tables to the layout and to code page 037.
+"""
+
+import random
+import re
+import subprocess
+import sys
+import tempfile
+import time
+from fractions import Fraction
+from pathlib import Path
+
+sys.dont_write_bytecode = True
+TOP = Path(__file__).resolve().parents[1]
+sys.path[:0] = [str(TOP / "tools" / "vectors"), str(TOP / "tests")]
+
+import make_sample_reel as sample  # noqa: E402
+import reels  # noqa: E402
+from format_reader import WIDTHS, read_record, read_reel  # noqa: E402
+
+PAGE = (TOP / "docs" / "FORMAT.md").read_text(encoding="utf-8")
+
+
+def run(command, *words):
+    # A warning of bytes that are left out is none of this test's business.
+    subprocess.run([command, *map(str, words)], check=True, stdout=subprocess.DEVNULL, stderr=subprocess.DEVNULL, timeout=600)
+
+
+def record_of(command, folder, reel):
+    (folder / "reel").write_bytes(reel)
+    run(command, "read", "--force", folder / "reel", folder / "record")
+    return (folder / "record").read_bytes()
+
+
+def sample_meaning():
+    """What the sample reel was made of."""
+    cards = [("C%2d %s" % (i, sample.CARDS.get(i, ""))).ljust(80) for i in range(1, 41)]
+    binary = {**dict.fromkeys(WIDTHS["binary"], 0), **{b: number for b, _, number in sample.BINARY_FIELDS}}
+    del binary[3225]
+    traces = []
+    for i in range(1, sample.T + 1):
+        header = {**dict.fromkeys(WIDTHS["trace"], 0), **{b: number for b, _, number in sample.trace_fields(i)}}
+        header.update({115: sample.N, 117: sample.INTERVAL})
+        traces.append((header, [Fraction(eighths, 8) for eighths in sample.eighths(i)]))
+    return cards, binary, traces
+
+
+def example_bytes(text):
+    """The bytes of an example on the page, each line of which has its place, its bytes and a remark."""
+    content = b""
+    for place, shown in re.findall(r"^    (\d+) +((?:[0-9A-F]{2})+(?: (?:[0-9A-F]{2})+)*(?: x \d+)?) +\S", text, re.M):
+        assert int(place) == len(content), place
+        byte, _, times = shown.partition(" x ")
+        content += bytes.fromhex(byte) * int(times or 1)
+    return content
+
+
+def check_page(command, folder):
+    reel, record = map(example_bytes, PAGE.split("## An example")[1].split("Its record, of"))
+    assert len(reel) == 3848 and reel == reels.example()
+    assert len(record) == 3471 and record == record_of(command, folder, reel)
+    # What the remarks say of the two samples.
+    assert [value for _, values in read_record(record)[2] for value in values] == [1, Fraction("-118.625")]
+    rows = [tuple(map(int, row)) for row in re.findall(r"^\| (\d+) \| (\d) \| (\d+) \| \w", PAGE, re.M)]
+    assert rows == [(b, width, 3206 + b - 3201) for b, width in reels.BINARY_FIELDS.items()]
+    rows = [tuple(map(int, row)) for row in re.findall(r"^\| (\d+) \| (\d) \| [A-Za-z]", PAGE, re.M)]
+    assert rows == list(reels.TRACE_FIELDS.items())
+    signs = {}
+    for row, cells in re.findall(r"^    ([4-F])-   (.*)$", PAGE, re.M):
+        for column in range(16):
+            signs[int(row, 16) * 16 + column] = cells[3 * column : 3 * column + 2].rstrip()
+    assert set(signs) == set(range(0x40, 0x100))
+    for byte, sign in signs.items():
+        character = bytes([byte]).decode("cp037")
+        assert sign == {" ": "SP", "\xa0": "NB", "\xad": "SH", "\x9f": ".."}.get(character, character), hex(byte)
+
+
+def main():
+    if len(sys.argv) != 2:
+        sys.exit("usage: format.py PATH_OF_COMMAND")
+    command, begun = str(Path(sys.argv[1]).absolute()), time.monotonic()
+    with tempfile.TemporaryDirectory() as folder:
+        folder = Path(folder)
+        check_page(command, folder)
+        reel = sample.SAMPLE.read_bytes()
+        meant = sample_meaning()
+        assert read_record(record_of(command, folder, reel)) == meant
+        assert read_reel(reel) == meant
+        for code in (1, 4):
+            run(command, "write", folder / "record", code, folder / f"{code}.sgy")
+            assert read_reel((folder / f"{code}.sgy").read_bytes()) == meant
+        rnd, count = random.Random(181), 0
+        for code in (1, 2, 3, 4):
+            for n, t in ((1, 0), (1, 1), (2, 3), (500, 4)):
+                reel = reels.random_reel(rnd, code, n, t)
+                assert read_record(record_of(command, folder, reel)) == read_reel(reel), (code, n, t)
+                count += n * t
+    print(f"format: the page's example and tables, the sample's record and {count} further samples agree, {time.monotonic() - begun:.0f} s")
+
+
+if __name__ == "__main__":
+    main()

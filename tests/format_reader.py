@@ -1,0 +1,116 @@
+"""A reader of records and reels, written from docs/FORMAT.md alone: it uses nothing else of the repository.
+
+    python3 tests/format_reader.py record FILE
+    python3 tests/format_reader.py reel FILE
+
+prints what the file means.
+"""
+
+import sys
+from fractions import Fraction
+
+WIDTHS = {
+    "binary": {**dict.fromkeys((3201, 3205, 3209), 4), **dict.fromkeys(range(3213, 3260, 2), 2)},
+    "trace": {
+        **dict.fromkeys((*range(1, 26, 4), *range(37, 66, 4), *range(73, 86, 4)), 4),
+        **dict.fromkeys((29, 31, 33, 35, 69, 71, *range(89, 180, 2)), 2),
+    },
+}
+INTERVAL, COUNT, CODE, TRACE_COUNT, TRACE_INTERVAL = 3217, 3221, 3225, 115, 117
+
+
+def check(fact, what):
+    if not fact:
+        raise ValueError(what)
+
+
+def signed(content):
+    return int.from_bytes(content, "big", signed=True)
+
+
+def numbers(header, content):
+    """The numbers of a header by byte number, side by side."""
+    first, widths = min(WIDTHS[header]), WIDTHS[header]
+    return {b: signed(content[b - first : b - first + widths[b]]) for b in sorted(widths)}
+
+
+def card_text(content):
+    return [content[i : i + 80].decode("cp037") for i in range(0, 3200, 80)]
+
+
+def read_record(data):
+    """What a record holds: its cards, binary header numbers without the format code, and traces of numbers and values."""
+    place = 0
+
+    def field(tag, length):
+        nonlocal place
+        head, content = data[place : place + 3], data[place + 3 : place + 3 + length]
+        check(head == bytes([tag]) + length.to_bytes(2, "big") and len(content) == length, f"no field {tag} at place {place}")
+        place += 3 + length
+        return content
+
+    cards = field(1, 3200)
+    check(0 not in cards, "a card byte 00")
+    binary = numbers("binary", field(2, 60))
+    n, t = binary[COUNT], int.from_bytes(data[-4:], "big")
+    check(1 <= n <= 8000 and 1 <= binary[INTERVAL] <= 32767 and binary.pop(CODE) == 0, "the binary header")
+    traces = []
+    for _ in range(t):
+        header = numbers("trace", field(3, 180))
+        check((header[TRACE_COUNT], header[TRACE_INTERVAL]) == (n, binary[INTERVAL]), "a trace header")
+        pairs = field(4, 6 * n)
+        traces.append((header, [pair_value(pairs[i : i + 6]) for i in range(0, 6 * n, 6)]))
+    field(5, 4)
+    check(place == len(data) == 3273 + t * (186 + 6 * n), "bytes after the record")
+    return card_text(cards), binary, traces
+
+
+def pair_value(pair):
+    e, m = signed(pair[:2]), signed(pair[2:])
+    check(e == m == 0 or m % 2 == 1 and -280 <= e <= 251 and m > -(2**31), "a pair")
+    value = m * Fraction(2) ** e
+    check(Fraction(float(value)) == value, "a 64-bit number doesn't hold it")
+    return value
+
+
+def read_reel(data):
+    """What a reel means, in the same form."""
+    binary = numbers("binary", data[3200:3260])
+    interval, n, code = binary[INTERVAL], binary[COUNT], binary.pop(CODE)
+    check(len(data) >= 3600 and code in (1, 2, 3, 4) and 1 <= n <= 8000 and interval >= 1, "the headers")
+    width = 2 if code == 3 else 4
+    length = 240 + n * width
+    check((len(data) - 3600) % length == 0, "bytes after the last trace")
+    traces = []
+    for start in range(3600, len(data), length):
+        header = numbers("trace", data[start : start + 180])
+        check(header[TRACE_COUNT] in (0, n) and header[TRACE_INTERVAL] in (0, interval), "a trace header")
+        header.update({TRACE_COUNT: n, TRACE_INTERVAL: interval})
+        words = data[start + 240 : start + length]
+        traces.append((header, [word_value(code, words[i : i + width]) for i in range(0, len(words), width)]))
+    return card_text(data[:3200].replace(b"\x00", b"\x40")), binary, traces
+
+
+def word_value(code, word):
+    if code == 1:
+        fraction = int.from_bytes(word[1:], "big") * Fraction(16) ** (word[0] % 128 - 70)
+        return -fraction if word[0] >= 128 else fraction
+    if code == 4:
+        check(word[0] == 0, "a gain word")
+        return Fraction(signed(word[2:]), 2 ** word[1])
+    return Fraction(signed(word))
+
+
+def main():
+    if len(sys.argv) != 3 or sys.argv[1] not in ("record", "reel"):
+        sys.exit("usage: format_reader.py record|reel FILE")
+    with open(sys.argv[2], "rb") as file:
+        cards, binary, traces = {"record": read_record, "reel": read_reel}[sys.argv[1]](file.read())
+    print(*cards, sep="\n")
+    print("binary header", binary)
+    for i, (header, values) in enumerate(traces, 1):
+        print(f"trace {i}", header, *map(str, values))
+
+
+if __name__ == "__main__":
+    main()
