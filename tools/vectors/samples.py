@@ -466,11 +466,18 @@ def canonical(x, rnd):
         x.pair(4, rnd.between(-258, 2), odd(rnd.between(12, 16)) * (1 - 2 * rnd.bits(1)))
 
 
+def words_of_segyio(x, rnd):
+    """The IBM words whose reading by segyio is stored, so that the proved code reads them too."""
+    for line in Path(__file__).with_name("segyio_words.txt").read_text().splitlines():
+        if not line.startswith("#"):
+            x.r(1, bytes.fromhex(line[:8]))
+
+
 def main():
     check_edges()
     x = Vectors()
     for seed, part in enumerate(
-        (edges, ibm_words, whole_words, gain_words, bad_codes, not_canonical, canonical)
+        (edges, ibm_words, whole_words, gain_words, bad_codes, not_canonical, canonical, words_of_segyio)
     ):
         part(x, Numbers(1975 + seed))
     assert all(len(line) == 23 for line in x.lines)
