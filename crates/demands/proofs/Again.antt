@@ -12,8 +12,9 @@ use lib.IntN.{pos}
 use Rattle.numbers.specs.Walk.{walk, flat, bytesAt}
 use Rattle.numbers.specs.BigEndian.{bytesOf}
 use Rattle.numbers.specs.declared.Check.the-variants.{Fine}
-use Rattle.numbers.proofs.WalkLaws.{cons-eq, size-walk, size-bytes, bytes-part}
-use Rattle.numbers.proofs.ByteLaws.{Bytes, bytes-at, bytes-again, bytes-append}
+use Rattle.numbers.specs.Terms.{Bytes}
+use Rattle.numbers.proofs.WalkLaws.{cons-eq, size-walk, size-bytes, bytes-part, at-zero, at-suc}
+use Rattle.numbers.proofs.ByteLaws.{bytes-at, bytes-again, bytes-append}
 use Rattle.value.specs.Pair.{pairLength, pairBytes, pairIn}
 use Rattle.value.specs.declared.Pair.{Pair}
 use Rattle.sample_theorems.proofs.Pairs.{value-pair-back, pair-bytes}
@@ -24,8 +25,8 @@ use Rattle.record.specs.Form.{heldSamples, heldCode, tracesPlace, heldStride, h
 use Rattle.record.specs.Held.{heldValue, heldTrace, heldBy}
 use Rattle.record.proofs.NumberLaws.{fields-again, numbers-append}
 use Rattle.record.proofs.HeaderLaws.{binary-front, binary-back, counts}
-use Rattle.reel_theorems.proofs.TestLaws.{at-zero, at-suc}
-use Rattle.demands.proofs.Valid.{Stands, CanonicalAt, tracePlace, pairPlace, TraceRight, RecordRight, record-right}
+use Rattle.demands.proofs.Valid.{record-right}
+use Rattle.demands.specs.ValidRecord.{Stands, CanonicalAt, tracePlace, pairPlace, TraceRight, RecordRight}
 
 -- ## Lists joined
 

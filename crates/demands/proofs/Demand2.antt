@@ -21,16 +21,14 @@
 -- 256, which `written` doesn't ask for; nothing else is assumed. Every reel, record, code and output is meant.
 use mathlib.Core.Path.{_≡_, sym, ap, ap₂, _∙_}
 use mathlib.Core.List.{List, [], _∷_, _++_}
-use mathlib.Core.Bool.{true}
 use Prim.Native.Nat.{ℕ, _+_, _*_, _≤_}
 use lib.ListN.{length, take, drop}
 use lib.Seq.{take-at, drop-at}
 use Rattle.numbers.specs.Outcome.{taken, Outcome}
 use Rattle.numbers.specs.declared.Check.the-variants.{Fine}
-use Rattle.numbers.proofs.ByteLaws.{Bytes}
-use Rattle.value.specs.Value.{isCode}
-use Rattle.sample_theorems.proofs.Pairs.{Iff}
-use Rattle.reel.specs.Layout.{samplesOf, tracesOf, sampleBytes}
+use Rattle.numbers.specs.Terms.{Bytes}
+use Rattle.numbers.specs.Iff.{Iff}
+use Rattle.reel.specs.Layout.{sampleBytes}
 use Rattle.reel.specs.Meaning.{meaningOf}
 use Rattle.record.specs.Record.{recordOf}
 use Rattle.record.specs.Form.{heldInterval, heldSamples, heldCount, formCauses}
@@ -41,23 +39,12 @@ use Rattle.write_reel.specs.Writing.{writeEnd, writeOutcome}
 use Rattle.reel_theorems.proofs.Same.{record-size}
 use Rattle.reel_theorems.proofs.Output.{taken-reel, taken-outcome, taken-numbers, output-record}
 use Rattle.demands.proofs.ProperLaws.{held-proper}
-use Rattle.demands.proofs.Fitting.{fit-is, Worded}
+use Rattle.demands.proofs.Fitting.{fit-is}
 use Rattle.demands.proofs.WrittenSize.{reel-size}
 use Rattle.demands.proofs.Taken.{fitting-words, needs, written-needs, write-taken, written-read}
+use Rattle.demands.specs.Results.{RecordRead, CanBeWritten, ReelWritten}
 
 -- ## A reel becomes its record
-
--- What reading a reel gives, where it returns t, n and the length l.
-pub record RecordRead (s out : List ℕ) (t n l : ℕ) : Type 0 where
-  -- T and N are those of the reel, and the length is that of a record of T traces of N samples.
-  pub traces : t ≡ tracesOf s
-  pub samples : n ≡ samplesOf s
-  pub size : l ≡ 3273 + t * (186 + 6 * n)
-  -- The output's first bytes are the record of what the reel means, and they are all of it.
-  pub content : take l (readOutcome s out .bytes) ≡ recordOf (meaningOf s)
-  pub whole : length (recordOf (meaningOf s)) ≡ l
-  -- The rest of the output keeps its content.
-  pub rest : drop l (readOutcome s out .bytes) ≡ drop l out
 
 -- Three numbers that are returned are the same as the three that are known to be.
 same-numbers : {t n l t₂ n₂ l₂ : ℕ} → taken (t ∷ n ∷ l ∷ []) ≡ taken (t₂ ∷ n₂ ∷ l₂ ∷ []) → (t ≡ t₂) × (n ≡ n₂) × (l ≡ l₂)
@@ -84,12 +71,6 @@ reading s out t n l b e =
 
 -- ## A record becomes a reel
 
--- What it takes to write a record: the code is from 1 to 4, it holds every sample exactly, and the output is long enough.
-pub record CanBeWritten (r : List ℕ) (code : ℕ) (out : List ℕ) : Type 0 where
-  pub code-is : isCode code ≡ true
-  pub held : Worded code (heldBy r .traces)
-  pub room : 3600 + heldCount r (heldSamples r) * (240 + heldSamples r * sampleBytes code) ≤ length out
-
 -- THEOREM. A valid record is written as a reel in any code that holds every sample exactly, if the output is long enough; and in no other
 -- case.
 -- Rules out a writer that declines every record, one that says output too short before working out the length (the rest of that is
@@ -106,20 +87,6 @@ writing r code out b v = (
       },
   λ h. ap (λ (o : Outcome). o .said) (write-taken r code out (needs r code out b v (h .code-is) (h .held) (h .room))),
 )
-
--- What writing a record gives, where it returns t, n and the length l.
-pub record ReelWritten (r : List ℕ) (code : ℕ) (out : List ℕ) (t n l : ℕ) : Type 0 where
-  -- The record is valid.
-  pub valid : formCauses r ≡ Fine
-  -- T and N are those of the record, and the length is that of a reel of T traces of N samples.
-  pub traces : t ≡ heldCount r (heldSamples r)
-  pub samples : n ≡ heldSamples r
-  pub size : l ≡ 3600 + t * (240 + n * sampleBytes code)
-  -- The output's first bytes are the reel of what the record holds, and they are all of it.
-  pub content : take l (writeOutcome r code out .bytes) ≡ reelOf code (heldBy r)
-  pub whole : length (reelOf code (heldBy r)) ≡ l
-  -- The rest of the output keeps its content.
-  pub rest : drop l (writeOutcome r code out .bytes) ≡ drop l out
 
 -- THEOREM. What is written is the reel of what the record holds: under code 1 each sample by its normal word (`writing-normal`), under code 4
 -- with the smallest gain (`writing-least`), unassigned bytes 0.

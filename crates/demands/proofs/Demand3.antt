@@ -21,8 +21,8 @@
 use mathlib.Core.Path.{_≡_, refl, sym, ap, ap₂, _∙_, subst}
 use mathlib.Core.List.{List, [], _∷_, _++_, map}
 use mathlib.Core.Bool.{true}
-use Prim.Native.Nat.{ℕ, zero, suc, _+_, _-_, _*_, _^_, _≤_, _<_}
-use native.Mathlib.Nat.{div-add-mod', not-suc-le-zero}
+use Prim.Native.Nat.{ℕ, _+_, _-_, _*_, _^_, _≤_, _<_}
+use native.Mathlib.Nat.{div-add-mod'}
 use native.Mathlib.Omega.{arith}
 use borrow.Author.Tests.{le-leb}
 use lib.ListN.{length, take, drop}
@@ -31,11 +31,12 @@ use Rattle.numbers.specs.Walk.{walk, bytesAt}
 use Rattle.numbers.specs.Cause.{refuseIf}
 use Rattle.numbers.specs.Outcome.{taken, Outcome}
 use Rattle.numbers.specs.declared.Check.the-variants.{Fine}
-use Rattle.numbers.proofs.WalkLaws.{All, cons-eq, size-bytes}
-use Rattle.numbers.proofs.ByteLaws.{Bytes, bytes-at}
+use Rattle.numbers.specs.Terms.{All, Bytes}
+use Rattle.numbers.specs.Iff.{Iff}
+use Rattle.numbers.proofs.WalkLaws.{cons-eq, size-bytes, walk-each, map-walk}
+use Rattle.numbers.proofs.ByteLaws.{bytes-at}
 use Rattle.numbers.proofs.CauseLaws.{passed, then-fine, first-all}
 use Rattle.value.specs.Value.{denominatorPower, isCode, exactValue}
-use Rattle.sample_theorems.proofs.Pairs.{Iff}
 use Rattle.reel.specs.Layout.{firstTrace, traceHeader, number16, intervalOf, samplesOf, codeOf, sampleBytes, strideOf, tracesOf}
 use Rattle.reel.specs.Causes.{neither, wordCause, traceCauses, causesOf}
 use Rattle.reel.specs.Meaning.{Trace, traceMeaning, Meaning, meaningOf, MeanTheSame}
@@ -44,14 +45,13 @@ use Rattle.record.specs.Record.{reelRecord}
 use Rattle.read_reel.specs.Reading.{readOutcome}
 use Rattle.write_reel.specs.Reel.{reelLength}
 use Rattle.write_reel.specs.Writing.{writeOutcome}
-use Rattle.reel_theorems.proofs.TestLaws.{at-zero, at-suc}
-use Rattle.reel_theorems.proofs.Refusals.{sampleAt}
 use Rattle.reel_theorems.proofs.Same.{same-records}
 use Rattle.reel_theorems.proofs.Output.{taken-reel, same-outputs}
-use Rattle.demands.proofs.Fitting.{HasWord, Worded}
 use Rattle.demands.proofs.Taken.{written-needs, needs, write-taken, written-bytes, written-no-cause, written-code, written-record}
 use Rattle.demands.proofs.Demand2.{reading, written, read-back}
 use Rattle.demands.proofs.Determined.{read-valid}
+use Rattle.demands.specs.Words.{HasWord, Worded}
+use Rattle.demands.specs.Results.{sampleValue, ReelAgain, OwnCode}
 
 -- ## Two reels
 
@@ -69,26 +69,6 @@ records-equal = same-outputs
 -- THEOREM. The denominator of every exact value is 16^70. Alone it rules out none of the list.
 pub sixteen : 2 ^ denominatorPower ≡ 16 ^ 70
 sixteen = refl
-
--- Where two walks give the same, each step of the one gives what that step of the other gives.
-walk-each : {A : Type 0} (f g : ℕ → A) (w v k m a b : ℕ) → walk f w k a ≡ walk g v m b → (j : ℕ) → j < k → f (a + j * w) ≡ g (b + j * v)
-walk-each f g w v zero m a b e j l = absurd (not-suc-le-zero l)
-walk-each f g w v (suc k) zero a b e j l = absurd (let z = ap length e in omega arith)
-walk-each f g w v (suc k) (suc m) a b e zero l =
-    let h : f a ≡ g b = cc in
-    ap f (at-zero a w) ∙ h ∙ sym (ap g (at-zero b v))
-walk-each f g w v (suc k) (suc m) a b e (suc j) l =
-    let t : walk f w k (a + w) ≡ walk g v m (b + v) = cc in
-    ap f (at-suc a w j) ∙ walk-each f g w v k m (a + w) (b + v) t j (omega arith) ∙ sym (ap g (at-suc b v j))
-
--- A function of each thing that a walk gives is a walk.
-map-walk : {A B : Type 0} (h : A → B) (f : ℕ → A) (w k a : ℕ) → map h (walk f w k a) ≡ walk (λ x. h (f x)) w k a
-map-walk h f w zero a = refl
-map-walk h f w (suc k) a = ap (λ l. h (f a) ∷ l) (map-walk h f w k (a + w))
-
--- The exact value V, over 16^70, of sample j of trace k, both counted from 0, by the four bytes where it stands.
-abbrev pub sampleValue : List ℕ → ℕ → ℕ → ℤ
-sampleValue s k j = exactValue (codeOf s) (bytesAt s (sampleAt s k j) 4)
 
 -- The values of the trace at a place.
 traceValues : List ℕ → ℕ → List ℤ
@@ -109,23 +89,6 @@ by-sample s₁ s₂ m k j l h =
     walk-each _ _ (sampleBytes (codeOf s₁)) (sampleBytes (codeOf s₂)) (samplesOf s₁) (samplesOf s₂) _ _ t j h
 
 -- ## A reel written from a record
-
--- What a reel is that was written, under a code, from the record r of the reel s, where the reading returned t, n and l and the writing
--- returned t₂, n₂ and l₂.
-pub record ReelAgain (s : List ℕ) (t n l : ℕ) (r : List ℕ) (code t₂ n₂ l₂ : ℕ) (reel : List ℕ) : Type 0 where
-  -- The writing returned the same T and N, and the length of a reel of T traces of N samples under the code.
-  pub traces : t₂ ≡ t
-  pub samples : n₂ ≡ n
-  pub size : l₂ ≡ 3600 + t * (240 + n * sampleBytes code)
-  -- No cause of 1 to 9 applies to the reel that was written, and its format code is the one asked for.
-  pub no-cause : causesOf reel ≡ Fine
-  pub code-is : codeOf reel ≡ code
-  -- It means the same as the reel s.
-  pub means : MeanTheSame s reel
-  -- Its record is r,
-  pub has : reelRecord reel ≡ r
-  -- and reading it into any output that is long enough returns t, n and l and gives r.
-  pub read : (out : List ℕ) → l ≤ length out → readOutcome reel out ≡ record { said = taken (t ∷ n ∷ l ∷ []); bytes = r ++ drop l out }
 
 -- THEOREM. Every reel written from such a record is read without refusal, means the same and has the same record.
 -- Rules out a writer that writes nothing and says taken, a writer or a reader that converts the first trace and copies it for the rest, and
@@ -207,14 +170,6 @@ own-size : (s : List ℕ) → causesOf s ≡ Fine → reelLength (codeOf s) (tra
 own-size s f =
     let v = reel-fine s f in
     omega (arith, v .long, v .whole, div-add-mod' (length s - firstTrace) (strideOf s))
-
--- What the reel s, whose reading returned t, n and l and gave the record r, has under its own code.
-pub record OwnCode (s : List ℕ) (t n : ℕ) (r : List ℕ) : Type 0 where
-  -- The code is one of the four, and each sample value has a word under it.
-  pub code-is : isCode (codeOf s) ≡ true
-  pub words : Worded (codeOf s) (meaningOf s .traces)
-  -- The record is written under it into any output with room for the reel, as a reel of the same length.
-  pub writes : (out : List ℕ) → length s ≤ length out → writeOutcome r (codeOf s) out .said ≡ taken (t ∷ n ∷ length s ∷ [])
 
 -- THEOREM. The reel's own code has a word for each of the reel's sample values, and its record is written under that code.
 -- Rules out a writer that declines every record, and one whose T or length is invented.

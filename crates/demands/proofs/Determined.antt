@@ -16,7 +16,8 @@ use Prim.Native.Nat.{ℕ}
 use lib.ListN.{take}
 use Rattle.numbers.specs.Outcome.{taken}
 use Rattle.numbers.specs.declared.Check.the-variants.{Fine}
-use Rattle.numbers.proofs.ByteLaws.{Bytes}
+use Rattle.numbers.specs.Terms.{Bytes}
+use Rattle.numbers.specs.Iff.{Iff}
 use Rattle.reel.specs.Layout.{samplesOf, intervalOf, tracesOf}
 use Rattle.reel.specs.Causes.{causesOf}
 use Rattle.reel.specs.Meaning.{meaningOf}
@@ -24,28 +25,18 @@ use Rattle.record.specs.Record.{recordOf}
 use Rattle.record.specs.Form.{heldSamples, heldCount, formCauses}
 use Rattle.record.specs.Held.{heldBy}
 use Rattle.read_reel.specs.Reading.{readOutcome}
-use Rattle.sample_theorems.proofs.Pairs.{Iff}
 use Rattle.reel_theorems.proofs.Output.{taken-reel}
 use Rattle.demands.proofs.Again.{held-again}
 use Rattle.demands.proofs.Proper.{Proper}
 use Rattle.demands.proofs.ProperLaws.{reel-proper}
 use Rattle.demands.proofs.RecordBack.{record-bytes, record-samples, record-traces, record-no-cause, record-again}
 use Rattle.demands.proofs.Taken.{meant-count}
-use Rattle.demands.proofs.Valid.{RecordRight, record-fine, record-right}
+use Rattle.demands.proofs.Valid.{record-fine, record-right}
 use Rattle.demands.proofs.Demand2.{reading}
+use Rattle.demands.specs.ValidRecord.{RecordRight}
+use Rattle.demands.specs.Results.{RecordHolds}
 
 -- ## The record that reading gives
-
--- r is a valid record, with the T and N of t and n, that holds what the reel s means.
-pub record RecordHolds (s : List ℕ) (t n : ℕ) (r : List ℕ) : Type 0 where
-  -- It is a list of bytes, and it is valid: neither 12 nor 13 applies to it, which `valid-is` spells out.
-  pub bytes : Bytes r
-  pub valid : formCauses r ≡ Fine
-  -- It holds what the reel means.
-  pub holds : heldBy r ≡ meaningOf s
-  -- Its T and N are t and n.
-  pub traces : heldCount r (heldSamples r) ≡ t
-  pub samples : heldSamples r ≡ n
 
 -- The record of what a reel means to which no cause of 1 to 9 applies.
 meant : (s : List ℕ) → Bytes s → causesOf s ≡ Fine → RecordHolds s (tracesOf s) (samplesOf s) (recordOf (meaningOf s))

@@ -2,7 +2,7 @@
 --
 -- A record is valid when neither 12 nor 13 applies to it: its fields stand whole one behind the other, and its numbers are within their
 -- limits. Assumes nothing.
-use mathlib.Core.Path.{_≡_, refl, sym, ap, _∙_, subst}
+use mathlib.Core.Path.{_≡_, refl, sym, ap, _∙_}
 use mathlib.Core.List.{List}
 use mathlib.Core.Logic.{_⊎_, inl, inr, ⊎-elim}
 use mathlib.Core.Bool.{Bool, true, false, not}
@@ -18,80 +18,16 @@ use Rattle.numbers.specs.BigEndian.{number}
 use Rattle.numbers.specs.Cause.{refuseIf, firstOf}
 use Rattle.numbers.specs.declared.Check.{Check}
 use Rattle.numbers.specs.declared.Check.the-variants.{Fine}
-use Rattle.numbers.proofs.WalkLaws.{All}
 use Rattle.numbers.proofs.CauseLaws.{then-fine}
+use Rattle.numbers.proofs.BoolLaws.{and-true, and-both}
+use Rattle.numbers.proofs.RowLaws.{Tests, test-by, fine-where, holds-where, then-second, test-between, test-same, test-room, none-is, none-of, walk-fine, walk-holds}
+use Rattle.numbers.proofs.WalkLaws.{at-zero, at-suc}
 use Rattle.value.specs.Pair.{isCanonical, pairLength, pairIn}
-use Rattle.sample_theorems.proofs.Held.{and-true}
 use Rattle.reel.specs.Layout.{number16}
 use Rattle.reel.specs.Causes.{mostSamples, mostTraces, mostInterval, within}
 use Rattle.record.specs.Form.{isField, fieldCause, cardCause, cardsCauses, heldInterval, heldSamples, heldCode, binaryCauses, tracesPlace, heldStride, pairCause, samplesCauses, traceForm, tagsFrom, heldCount, endCauses, bodyCauses, formCauses}
-use Rattle.reel_theorems.proofs.TestLaws.{Between, Tests, test-by, fine-where, holds-where, then-second, and-both, test-between, test-same, test-room, at-zero, at-suc, none-is, none-of, walk-fine, walk-holds}
 use Rattle.record.proofs.FormLaws.{trace-parts, tags-most}
-
--- ## The terms
-
--- A field of this tag and length stands whole at the place `at`.
-pub record Stands (s : List ℕ) (tag size at : ℕ) : Type 0 where
-  pub whole : at + (3 + size) ≤ length s
-  pub tag-is : getD s at 0 ≡ tag
-  pub size-is : number16 s (at + 1) ≡ size
-
--- The pair at a place is canonical.
-abbrev pub CanonicalAt : List ℕ → ℕ → Type 0
-CanonicalAt s at = isCanonical (pairIn (bytesAt s at pairLength)) ≡ true
-
--- The place of trace k in a record, counted from 0; behind the last trace it is the place of tag 05.
-abbrev pub tracePlace : List ℕ → ℕ → ℕ
-tracePlace s k = tracesPlace + k * heldStride (heldSamples s)
-
--- The place of pair j of trace k, behind tag 03 with its 180 bytes and tag 04 with its length.
-abbrev pub pairPlace : List ℕ → ℕ → ℕ → ℕ
-pairPlace s k j = tracePlace s k + 186 + j * pairLength
-
--- Tag 01 stands at the front with its 3,200 card bytes, none of them 00.
-pub record CardsRight (s : List ℕ) : Type 0 where
-  pub cards : Stands s 1 3200 0
-  pub card-bytes : (j : ℕ) → j < 3200 → ¬ (getD s (3 + j) 0 ≡ 0)
-
--- Then tag 02 stands with its 60 bytes: interval and N are within their limits, and the format code is 0.
-pub record HeadRight (s : List ℕ) : Type 0 where
-  pub front : CardsRight s
-  pub binary : Stands s 2 60 3203
-  pub interval : Between 1 32767 (heldInterval s)
-  pub samples : Between 1 8000 (heldSamples s)
-  pub code : heldCode s ≡ 0
-
--- Trace k stands: tag 03 with its 180 bytes, of which field 115 is N and field 117 the interval, then tag 04 with N canonical pairs.
-pub record TraceRight (s : List ℕ) (k : ℕ) : Type 0 where
-  pub header : Stands s 3 180 (tracePlace s k)
-  pub count : number16 s (bytePlace (tracePlace s k + 3) 115) ≡ heldSamples s
-  pub interval : number16 s (bytePlace (tracePlace s k + 3) 117) ≡ heldInterval s
-  pub samples : Stands s 4 (6 * heldSamples s) (tracePlace s k + 183)
-  pub pairs : (j : ℕ) → j < heldSamples s → CanonicalAt s (pairPlace s k j)
-
--- All is right up to trace k: tags 01 and 02, and the k traces before it.
-pub record RightUntil (s : List ℕ) (k : ℕ) : Type 0 where
-  pub head : HeadRight s
-  pub before : (i : ℕ) → i < k → TraceRight s i
-
--- All is right up to trace k, and another trace begins there: its tag is 03, and it is none beyond the 100,000th.
-pub record TraceNext (s : List ℕ) (k : ℕ) : Type 0 where
-  pub until : RightUntil s k
-  pub few : k < 100000
-  pub tag : getD s (tracePlace s k) 0 ≡ 3
-
--- All is right up to the end of t traces, and tag 05 should follow: no tag 03 does, or it would be that of trace 100,001.
-pub record EndNext (s : List ℕ) (t : ℕ) : Type 0 where
-  pub until : RightUntil s t
-  pub few : t ≤ 100000
-  pub end : (t ≡ 100000) ⊎ (¬ (getD s (tracePlace s t) 0 ≡ 3))
-
--- A valid record of t traces, to which neither 12 nor 13 applies: behind its traces tag 05 holds their count, and no byte comes after it.
-pub record RecordRight (s : List ℕ) (t : ℕ) : Type 0 where
-  pub end : EndNext s t
-  pub field : Stands s 5 4 (tracePlace s t)
-  pub count : number (bytesAt s (tracePlace s t + 3) 4) ≡ t
-  pub last : length s ≤ tracePlace s t + 7
+use Rattle.demands.specs.ValidRecord.{Stands, CanonicalAt, tracePlace, pairPlace, CardsRight, HeadRight, TraceRight, RightUntil, TraceNext, EndNext, RecordRight}
 
 -- ## The tests, one by one
 
@@ -385,11 +321,3 @@ module _ (s : List ℕ) where
       let h = head-right s (cards-right s (a .0)) (b .0) in
       let c = then-fine (firstOf (walk (formAt s) (heldStride (heldSamples s)) (countIn s) tracesPlace)) _ (b .1) in
       end-right (countIn s) (end-next h (c .0)) (c .1)
-
--- ## Along a walk
-
--- What holds at each step of a walk holds of all that it gives.
-pub all-each : {A : Type 0} (P : A → Type 0) (f : ℕ → A) (w k at : ℕ) → ((j : ℕ) → j < k → P (f (at + j * w))) → All P (walk f w k at)
-all-each P f w zero at h = tt
-all-each P f w (suc k) at h =
-    (subst (λ (a : ℕ). P (f a)) (at-zero at w) (h 0 (omega arith)), all-each P f w k (at + w) (λ j l. subst (λ (a : ℕ). P (f a)) (at-suc at w j) (h (suc j) (omega arith))))

@@ -18,86 +18,28 @@ use Rattle.numbers.specs.BigEndian.{number}
 use Rattle.numbers.specs.Cause.{refuseIf, firstOf}
 use Rattle.numbers.specs.declared.Check.{Check}
 use Rattle.numbers.specs.declared.Check.the-variants.{Fine, Refused}
+use Rattle.numbers.specs.Iff.{Iff}
+use Rattle.numbers.specs.Terms.{atPlace, Between}
 use Rattle.numbers.proofs.CauseLaws.{not-fine, then-fine}
+use Rattle.numbers.proofs.RowLaws.{Tests, apart, fine-where, refused-where, holds-where, row-where, then-row, then-first, then-second, test-between, test-same, test-room, not-enough, too-short, first-is, first-of, none-is, none-of, walk-fine, walk-holds, walk-refused, walk-row, fine-none}
+use Rattle.numbers.proofs.BoolLaws.{and-both}
 use Rattle.value.specs.Value.{isCode}
 use Rattle.value.specs.Pair.{pairLength}
 use Rattle.value.specs.Writing.{wordOf}
-use Rattle.sample_theorems.proofs.Pairs.{Iff}
 use Rattle.reel.specs.Layout.{number16}
 use Rattle.reel.specs.Causes.{mostSamples, mostInterval, within}
-use Rattle.record.specs.Form.{fieldCause, cardCause, cardsCauses, heldInterval, heldSamples, heldCode, binaryCauses, tracesPlace, heldStride, pairCause, samplesCauses, traceForm, endCauses, bodyCauses, formCauses}
+use Rattle.record.specs.Form.{fieldCause, cardCause, cardsCauses, heldInterval, heldSamples, heldCode, binaryCauses, tracesPlace, heldStride, pairCause, samplesCauses, endCauses, bodyCauses, formCauses}
 use Rattle.record.proofs.FormLaws.{trace-parts}
 use Rattle.record.specs.Held.{heldValue}
 use Rattle.record.specs.Target.{isUnfit, fitCause, traceFit, fitCauses, targetCauses}
 use Rattle.write_reel.specs.Reel.{reelLength}
 use Rattle.write_reel.specs.Writing.{writeCauses}
-use Rattle.reel_theorems.proofs.TestLaws.{atPlace, Between, Tests, apart, fine-where, refused-where, holds-where, row-where, then-row, then-first, then-second, and-both, test-between, test-same, test-room, not-enough, too-short, first-is, first-of, none-is, none-of, walk-fine, walk-holds, walk-refused, walk-row, fine-none}
-use Rattle.demands.proofs.Valid.{Stands, CanonicalAt, tracePlace, pairPlace, CardsRight, HeadRight, RightUntil, TraceNext, EndNext, RecordRight, test-field, card-tests, cards-fine, cards-right, head-right, formAt, pair-tests, trace-fine, countIn, next-counted, end-counted, end-next, trace-next, body-end, form-body, record-fine, record-right}
+use Rattle.demands.proofs.Valid.{test-field, card-tests, cards-fine, cards-right, head-right, formAt, pair-tests, trace-fine, countIn, next-counted, end-counted, end-next, trace-next, body-end, form-body, record-fine, record-right}
 use Rattle.demands.proofs.ProperLaws.{value-held}
-use Rattle.demands.proofs.Fitting.{HasWord, fits-is}
-
--- ## The terms of the table
-
--- Sample j of trace k fits the target: some word of the code has the value of its pair.
-abbrev pub Fits : List ℕ → ℕ → ℕ → ℕ → Type 0
-Fits s code k j = HasWord code (heldValue s (pairPlace s k j))
-
--- ## The table
-
--- The rows, in document 01's order: in which case each applies, its number, and what stands beside it. Traces k and pairs j are counted from 0.
-pub data WriteRow (s : List ℕ) (code room : ℕ) : ℕ → ℕ → Type 0 where
-  -- 11: the target code is not 1 to 4
-  bad-target : ¬ (Between 1 4 code) → WriteRow s code room 11 0
-  -- 12: tag 01 doesn't stand at the front, whole and with its 3,200 bytes
-  no-cards : Between 1 4 code → ¬ (Stands s 1 3200 0) → WriteRow s code room 12 0
-  -- 13: a card byte is 00, the first such
-  bad-card : (j : ℕ) → Between 1 4 code → Stands s 1 3200 0 → j < 3200 → ((i : ℕ) → i < j → ¬ (getD s (3 + i) 0 ≡ 0)) → getD s (3 + j) 0 ≡ 0
-      → WriteRow s code room 13 (3 + j)
-  -- 12: tag 02 doesn't stand behind it, whole and with its 60 bytes
-  no-binary : Between 1 4 code → CardsRight s → ¬ (Stands s 2 60 3203) → WriteRow s code room 12 3203
-  -- 13: in tag 02, first an interval that is not 1 to 32,767
-  bad-held-interval : Between 1 4 code → CardsRight s → Stands s 2 60 3203 → ¬ (Between 1 32767 (heldInterval s)) → WriteRow s code room 13 3222
-  -- 13: then N that is not 1 to 8,000
-  bad-held-samples : Between 1 4 code → CardsRight s → Stands s 2 60 3203 → Between 1 32767 (heldInterval s) → ¬ (Between 1 8000 (heldSamples s))
-      → WriteRow s code room 13 3226
-  -- 13: then a format code other than 0
-  bad-held-code : Between 1 4 code → CardsRight s → Stands s 2 60 3203 → Between 1 32767 (heldInterval s) → Between 1 8000 (heldSamples s) → ¬ (heldCode s ≡ 0)
-      → WriteRow s code room 13 3230
-  -- 12: tag 03 of trace k is cut short or has a wrong length
-  no-header : (k : ℕ) → Between 1 4 code → TraceNext s k → ¬ (Stands s 3 180 (tracePlace s k)) → WriteRow s code room 12 (tracePlace s k)
-  -- 13: its field 115 is not N
-  bad-held-115 : (k : ℕ) → Between 1 4 code → TraceNext s k → Stands s 3 180 (tracePlace s k) → ¬ (number16 s (bytePlace (tracePlace s k + 3) 115) ≡ heldSamples s)
-      → WriteRow s code room 13 (bytePlace (tracePlace s k + 3) 115)
-  -- 13: its field 117 is not the interval
-  bad-held-117 : (k : ℕ) → Between 1 4 code → TraceNext s k → Stands s 3 180 (tracePlace s k) → number16 s (bytePlace (tracePlace s k + 3) 115) ≡ heldSamples s
-      → ¬ (number16 s (bytePlace (tracePlace s k + 3) 117) ≡ heldInterval s)
-      → WriteRow s code room 13 (bytePlace (tracePlace s k + 3) 117)
-  -- 12: tag 04 of trace k doesn't stand behind it, whole and with its 6N bytes
-  no-samples : (k : ℕ) → Between 1 4 code → TraceNext s k → Stands s 3 180 (tracePlace s k) → number16 s (bytePlace (tracePlace s k + 3) 115) ≡ heldSamples s
-      → number16 s (bytePlace (tracePlace s k + 3) 117) ≡ heldInterval s → ¬ (Stands s 4 (6 * heldSamples s) (tracePlace s k + 183))
-      → WriteRow s code room 12 (tracePlace s k + 183)
-  -- 13: a pair of it isn't canonical, the first such
-  bad-pair : (k j : ℕ) → Between 1 4 code → TraceNext s k → Stands s 3 180 (tracePlace s k) → number16 s (bytePlace (tracePlace s k + 3) 115) ≡ heldSamples s
-      → number16 s (bytePlace (tracePlace s k + 3) 117) ≡ heldInterval s → Stands s 4 (6 * heldSamples s) (tracePlace s k + 183)
-      → j < heldSamples s → ((i : ℕ) → i < j → CanonicalAt s (pairPlace s k i)) → ¬ (CanonicalAt s (pairPlace s k j))
-      → WriteRow s code room 13 (pairPlace s k j)
-  -- 12: tag 05 does not stand behind t traces, whole and with its 4 bytes; another tag, so also that of trace 100,001, may stand there
-  no-end : (t : ℕ) → Between 1 4 code → EndNext s t → ¬ (Stands s 5 4 (tracePlace s t)) → WriteRow s code room 12 (tracePlace s t)
-  -- 12: the count in tag 05 is not t, at its tag
-  bad-count : (t : ℕ) → Between 1 4 code → EndNext s t → Stands s 5 4 (tracePlace s t) → ¬ (number (bytesAt s (tracePlace s t + 3) 4) ≡ t)
-      → WriteRow s code room 12 (tracePlace s t)
-  -- 12: bytes come after tag 05, at the first of them
-  after : (t : ℕ) → Between 1 4 code → EndNext s t → Stands s 5 4 (tracePlace s t) → number (bytesAt s (tracePlace s t + 3) 4) ≡ t
-      → tracePlace s t + 7 < length s
-      → WriteRow s code room 12 (tracePlace s t + 7)
-  -- 14: a sample doesn't fit the target, the first such, at its pair
-  unfit : (t k j : ℕ) → Between 1 4 code → RecordRight s t → k < t → j < heldSamples s → ((h i : ℕ) → h < k → i < heldSamples s → Fits s code h i)
-      → ((i : ℕ) → i < j → Fits s code k i) → ¬ (Fits s code k j)
-      → WriteRow s code room 14 (pairPlace s k j)
-  -- 10: the output is too short for the reel, with the reel's length
-  short-output : (t : ℕ) → Between 1 4 code → RecordRight s t → ((k j : ℕ) → k < t → j < heldSamples s → Fits s code k j)
-      → room < reelLength code t (heldSamples s)
-      → WriteRow s code room 10 (reelLength code t (heldSamples s))
+use Rattle.demands.proofs.Fitting.{fits-is}
+use Rattle.demands.specs.ValidRecord.{CanonicalAt, tracePlace, pairPlace, CardsRight, HeadRight, RightUntil, TraceNext, EndNext, RecordRight}
+use Rattle.demands.specs.Words.{HasWord}
+use Rattle.demands.specs.Tables.{Fits, WriteRow, no-cards, bad-card, no-binary, bad-held-interval, bad-held-samples, bad-held-code, no-header, bad-held-115, bad-held-117, no-samples, no-end, bad-count, after}
 
 -- ## The test of 14
 
@@ -205,7 +147,7 @@ module _ (s : List ℕ) (code room : ℕ) where
   -- Each row is the answer where it applies: all that comes before it finds nothing, and its own test refuses.
   from-row : {n p : ℕ} → WriteRow s code room n p → writeCauses s code room ≡ Refused n (atPlace p)
   unfolding targetCauses cardsCauses binaryCauses samplesCauses
-  from-row (bad-target h) = then-first (targetCauses s code) _ (then-first _ _ (refused-where (test-between 1 4 code 11 0) h))
+  from-row (WriteRow.bad-target h) = then-first (targetCauses s code) _ (then-first _ _ (refused-where (test-between 1 4 code 11 0) h))
   from-row (no-cards g h) = from-cards g (then-first (fieldCause s 1 3200 0) _ (refused-where (test-field s 1 3200 0) h))
   from-row (bad-card j g c l b z) =
       from-cards g
@@ -243,7 +185,7 @@ module _ (s : List ℕ) (code room : ℕ) where
       (then-second _ _ (fine-where (test-same (number16 s (bytePlace (tracePlace s k + 3) 115)) (heldSamples s) 13 (bytePlace (tracePlace s k + 3) 115)) c)
       (then-second _ _ (fine-where (test-same (number16 s (bytePlace (tracePlace s k + 3) 117)) (heldInterval s) 13 (bytePlace (tracePlace s k + 3) 117)) i)
       (then-first _ _ (refused-where (test-field s 4 (6 * heldSamples s) (tracePlace s k + 183)) h)))))
-  from-row (bad-pair k j g t f c i d l b h) =
+  from-row (WriteRow.bad-pair k j g t f c i d l b h) =
       from-trace k g t
       (trace-parts s (heldSamples s) (heldInterval s) (tracePlace s k) ∙ then-second _ _ (fine-where (test-field s 3 180 (tracePlace s k)) f)
       (then-second _ _ (fine-where (test-same (number16 s (bytePlace (tracePlace s k + 3) 115)) (heldSamples s) 13 (bytePlace (tracePlace s k + 3) 115)) c)
@@ -260,9 +202,9 @@ module _ (s : List ℕ) (code room : ℕ) where
       (then-second _ _ (fine-where (test-field s 5 4 (tracePlace s t)) f)
       (then-second _ _ (fine-where (test-same (number (bytesAt s (tracePlace s t + 3) 4)) t 12 (tracePlace s t)) c)
       (then-first _ _ (refused-where (test-room (tracePlace s t + 7) (length s) 12 (tracePlace s t + 7)) (too-short (tracePlace s t + 7) (length s) h)))))
-  from-row (unfit t k j g h l m f b n) =
+  from-row (WriteRow.unfit t k j g h l m f b n) =
       then-first (targetCauses s code) _ (from-fits t g h (from-unfit t k j g h l m f b n))
-  from-row (short-output t g h f l) =
+  from-row (WriteRow.short-output t g h f l) =
       let size = reelLength code t (heldSamples s) in
       then-second _ _ (from-fits t g h (all-fit t g h f))
       (ap (λ (x : ℕ). refuseIf (ltb room (reelLength code x (heldSamples s))) 10 (reelLength code x (heldSamples s))) (end-counted s t (h .end))
@@ -318,7 +260,7 @@ module _ (s : List ℕ) (code room : ℕ) {n p : ℕ} (g : Between 1 4 code) whe
       (λ r. let interval = holds-where i r in
       then-row (WriteRow s code room) (fieldCause s 4 (6 * size) (at + 183)) _ (row-where d (WriteRow s code room) (no-samples k g t header count interval))
       (λ x. walk-row (λ j. CanonicalAt s (pairPlace s k j)) 13 (pairCause s) pairLength size (at + 183 + 3) (pairPlace s k) (pair-tests s k) (WriteRow s code room)
-      (λ j l b h. bad-pair k j g t header count interval (holds-where d x) l b h)))))
+      (λ j l b h. WriteRow.bad-pair k j g t header count interval (holds-where d x) l b h)))))
       (sym (trace-parts s size (heldInterval s) at) ∙ refused)
 
   -- What is refused at the end has its row, where all is right up to it.
@@ -361,7 +303,7 @@ module _ (s : List ℕ) (code room : ℕ) {n p : ℕ} (g : Between 1 4 code) whe
       let k = r .j in
       let l : k < t = r .below in
       walk-row (Fits s code k) 14 (fitCause s code) pairLength size (tracePlace s k + 186) (pairPlace s k) (fit-tests s code room t k g h l) (WriteRow s code room)
-      (λ j m b x. unfit t k j g h l m (λ y z u v. fits-trace s code room t y g h (omega arith) (r .before y u) z v) b x) (r .here)
+      (λ j m b x. WriteRow.unfit t k j g h l m (λ y z u v. fits-trace s code room t y g h (omega arith) (r .before y u) z v) b x) (r .here)
 
 module _ (s : List ℕ) (code room : ℕ) where
   -- What is refused has its row: the first that applies.
@@ -372,14 +314,14 @@ module _ (s : List ℕ) (code room : ℕ) where
       let target = test-between 1 4 code 11 0 in
       let size = reelLength code (countIn s) (heldSamples s) in
       then-row row (targetCauses s code) _
-      (then-row row (refuseIf (not (isCode code)) 11 0) _ (row-where target row bad-target)
+      (then-row row (refuseIf (not (isCode code)) 11 0) _ (row-where target row WriteRow.bad-target)
       (λ e. let g = holds-where target e in
       then-row row (formCauses s) _ (to-form s code room g) (λ q. to-fits s code room g (countIn s) (record-right s q))))
       (λ e. let a = then-fine (refuseIf (not (isCode code)) 11 0) _ e in
       let b = then-fine (formCauses s) _ (a .1) in
       let g = holds-where target (a .0) in
       let h = record-right s (b .0) in
-      row-where (test-room room size 10 size) row (λ m. short-output (countIn s) g h (fit-all s code room (countIn s) g h (b .1)) (not-enough room size m)))
+      row-where (test-room room size 10 size) row (λ m. WriteRow.short-output (countIn s) g h (fit-all s code room (countIn s) g h (b .1)) (not-enough room size m)))
 
 -- THEOREM. Writing is refused by a number, with what stands beside it, exactly when that row of the table applies.
 pub exact-writing : (s : List ℕ) (code room number place : ℕ) → Iff (writeCauses s code room ≡ Refused number (atPlace place)) (WriteRow s code room number place)
