@@ -1,10 +1,11 @@
 -- # Demand 2: a reel becomes its record, a record becomes a reel, and reading that reel gives the record again
 --
--- "A reel becomes the record that SEG-Y revision 0 and the IBM word define, as document 01 condenses them. A valid record is written as a
--- reel in any code that holds every sample exactly, if the output is long enough, and reading that reel gives the record again."
+-- "A reel becomes the record that SEG-Y revision 0 and the IBM floating point word define, as document 01 condenses them. A valid record is
+-- written as a reel in any of the four sample formats whenever that format holds every sample exactly and the output is long enough, and
+-- reading that reel, again into an output long enough, gives the record again."
 --
--- Five theorems say so, over the outcomes that the contracts of reading and writing give. A record or a written reel is the output's first
--- bytes, as many as the length returned.
+-- Five theorems say so, over the outcomes that the contracts of reading and writing give. "A record or a written reel is the output's first
+-- bytes, as many as the length returned" (document 01). What they say of the outcomes, they say by the records of `specs/Results`.
 --
 -- - `reading`: where reading a reel is taken, the numbers returned are the reel's T and N and 3273 + T × (186 + 6N), the output's first
 --   bytes are the record of what the reel means, of that length, and the rest of the output keeps its content.
@@ -17,7 +18,7 @@
 -- - `round-trip`: the second sentence at once. A valid record, a code of 1 to 4 that holds every sample exactly and an output long enough:
 --   the writing is taken, and reading what it wrote gives the record again.
 --
--- Valid means that neither 12 nor 13 applies, and `valid-is` in `Determined` spells it out. Each byte of a reel and of a record is below
+-- "A record is valid when neither 12 nor 13 applies to it" (document 01): `formCauses` finds nothing, and `valid-is` in `Determined` spells it out. Each byte of a reel and of a record is below
 -- 256, which `written` doesn't ask for; nothing else is assumed. Every reel, record, code and output is meant.
 use mathlib.Core.Path.{_≡_, sym, ap, ap₂, _∙_}
 use mathlib.Core.List.{List, [], _∷_, _++_}
@@ -50,7 +51,7 @@ use Rattle.demands.specs.Results.{RecordRead, CanBeWritten, ReelWritten}
 same-numbers : {t n l t₂ n₂ l₂ : ℕ} → taken (t ∷ n ∷ l ∷ []) ≡ taken (t₂ ∷ n₂ ∷ l₂ ∷ []) → (t ≡ t₂) × (n ≡ n₂) × (l ≡ l₂)
 same-numbers e = (cc, cc, cc)
 
--- THEOREM. A reel becomes the record that SEG-Y revision 0 and the IBM word define.
+-- THEOREM. "A reel becomes the record that SEG-Y revision 0 and the IBM floating point word define, as document 01 condenses them."
 -- Rules out a reader that gives one fixed record, one that writes nothing and says taken, one that converts the first trace and copies it
 -- for the rest, and one whose T or length is invented; two's complement for the IBM fraction, keeping minus zero, and filling field 115 only
 -- for the first trace.
@@ -71,8 +72,8 @@ reading s out t n l b e =
 
 -- ## A record becomes a reel
 
--- THEOREM. A valid record is written as a reel in any code that holds every sample exactly, if the output is long enough; and in no other
--- case.
+-- THEOREM. "A valid record is written as a reel in any of the four sample formats whenever that format holds every sample exactly and the
+-- output is long enough"; and in no other case.
 -- Rules out a writer that declines every record, one that says output too short before working out the length (the rest of that is
 -- `write-refused`), and one whose T or length is invented.
 pub writing : (r : List ℕ) (code : ℕ) (out : List ℕ) → Bytes r → formCauses r ≡ Fine
@@ -88,7 +89,7 @@ writing r code out b v = (
   λ h. ap (λ (o : Outcome). o .said) (write-taken r code out (needs r code out b v (h .code-is) (h .held) (h .room))),
 )
 
--- THEOREM. What is written is the reel of what the record holds: under code 1 each sample by its normal word (`writing-normal`), under code 4
+-- THEOREM. "A valid record is written as a reel": what is written is the reel of what the record holds, under code 1 each sample by its normal word (`writing-normal`), under code 4
 -- with the smallest gain (`writing-least`), unassigned bytes 0.
 -- Rules out a writer that writes nothing and says taken, one that converts the first trace and copies it for the rest, and one whose T or
 -- length is invented; normalising by single bits, pushing C below 0, and shifting up for a negative e.
@@ -112,7 +113,7 @@ written r code out t n l e =
 
 -- ## Reading the reel that was written
 
--- THEOREM. Reading that reel gives the record again, byte for byte and with the same T and N, in every output that is long enough.
+-- THEOREM. "and reading that reel, again into an output long enough, gives the record again": byte for byte and with the same T and N.
 -- Rules out a fixed record or reel, writing nothing and saying taken, copying the first trace for the rest, and an invented length. That T
 -- and N are the record's own, and not merely the same both times, is `reading` and `written`.
 pub read-back : (r : List ℕ) (code : ℕ) (out out₂ : List ℕ) (t n l : ℕ) → Bytes r → writeOutcome r code out .said ≡ taken (t ∷ n ∷ l ∷ []) → length r ≤ length out₂
@@ -124,8 +125,8 @@ read-back r code out out₂ t n l b e h =
     ∙ written-read r b code out w out₂ h
     ∙ ap₂ (λ (x y : ℕ). record { said = taken (x ∷ y ∷ length r ∷ []); bytes = r ++ drop (length r) out₂ }) (sym (k .traces)) (sym (k .samples))
 
--- THEOREM. A valid record is written as a reel in any code that holds every sample exactly, if the output is long enough, and reading that
--- reel gives the record again.
+-- THEOREM. "A valid record is written as a reel in any of the four sample formats whenever that format holds every sample exactly and the
+-- output is long enough, and reading that reel, again into an output long enough, gives the record again."
 -- Rules out a writer that declines every record, one whose T is invented, and what `read-back` rules out.
 pub round-trip : (r : List ℕ) (code : ℕ) (out out₂ : List ℕ) → Bytes r → formCauses r ≡ Fine → CanBeWritten r code out → length r ≤ length out₂
     → let n = heldSamples r in

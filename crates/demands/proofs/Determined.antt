@@ -1,7 +1,8 @@
 -- # A record and what it holds determine each other
 --
--- "A record is valid when neither 12 nor 13 applies to it"; "a record or a written reel is the output's first bytes, as many as the length
--- returned."
+-- Document 01: "A record is valid when neither 12 nor 13 applies to it." "A record or a written reel is the output's first bytes, as many as the
+-- length returned." Demand 2: "A reel becomes the record that SEG-Y revision 0 and the IBM floating point word define, as document 01 condenses
+-- them."
 --
 -- - `read-valid`: where reading a reel is taken, the record in the output is valid, it holds what the reel means, and its T and N are those
 --   returned.
@@ -53,7 +54,8 @@ meant s b f =
       samples = record-samples n i m p;
     }
 
--- THEOREM. Every record that reading gives is valid and holds what the reel means.
+-- THEOREM. "A reel becomes the record that SEG-Y revision 0 and the IBM floating point word define": every record that reading gives is valid and
+-- holds what the reel means.
 -- Rules out a reader that gives one fixed record, one that writes nothing and says taken, one that converts the first trace and copies it for
 -- the rest, and one whose T or length is invented; two's complement for the IBM fraction, keeping minus zero, and filling field 115 only for
 -- the first trace.
@@ -66,17 +68,19 @@ read-valid s out t n l b e =
 
 -- ## Valid records
 
--- THEOREM. Neither 12 nor 13 applies to a record exactly when it is right from tag 01 to its last byte, with some count of traces.
+-- THEOREM. "A record is valid when neither 12 nor 13 applies to it" (document 01): they don't exactly when it is right from tag 01 to its last
+-- byte, with some count of traces.
 -- Alone it rules out none of the list: it spells out what valid means.
 pub valid-is : (r : List ℕ) → Iff (formCauses r ≡ Fine) ((t : ℕ) × RecordRight r t)
 valid-is r = (λ e. (heldCount r (heldSamples r), record-right r e), λ h. record-fine r (h .0) (h .1))
 
--- THEOREM. Two valid records that hold the same are equal byte for byte.
+-- THEOREM. "Two records are equal byte for byte when they have the same length and the same bytes" (document 01): two valid records that hold the
+-- same are.
 -- With `read-valid` it leaves no second record to a reel. Alone it rules out none of the list, as it speaks of records only.
 pub held-same : (r₁ r₂ : List ℕ) → Bytes r₁ → Bytes r₂ → formCauses r₁ ≡ Fine → formCauses r₂ ≡ Fine → heldBy r₁ ≡ heldBy r₂ → r₁ ≡ r₂
 held-same r₁ r₂ b₁ b₂ v₁ v₂ e = sym (held-again r₁ b₁ v₁) ∙ ap recordOf e ∙ held-again r₂ b₂ v₂
 
--- THEOREM. A valid record is the record of what it holds.
+-- THEOREM. "gives the record again" (demand 2): a valid record is the record of what it holds.
 -- Alone it rules out none of the list; `read-back` and `reel-again`, which do, rest on it.
 pub held-record : (r : List ℕ) → Bytes r → formCauses r ≡ Fine → recordOf (heldBy r) ≡ r
 held-record = held-again
