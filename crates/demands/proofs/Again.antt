@@ -98,7 +98,7 @@ trace-again s h k t =
     let values : flat (map valueBytes (walk (heldValue s) pairLength n (at + 186))) ≡ bytesAt s (at + 183 + 3) (pairLength * n) =
     walk-again valueBytes (heldValue s) s pairLength n (at + 186) (λ j l. value-again s h (pairPlace s k j) (t .pairs j l))
     ∙ ap₂ (λ (a c : ℕ). bytesAt s a c) next (mul-comm n pairLength) in
-    join (field-again s h 3 180 at _ (t .header) (header-again s h (at + 3))) (field-again s h 4 (pairLength * n) (at + 183) _ (t .samples) values)
+    join (field-again s h 3 180 at _ (t .front .header) (header-again s h (at + 3))) (field-again s h 4 (pairLength * n) (at + 183) _ (t .samples) values)
     ∙ bytes-join s at 183 (3 + pairLength * n) (at + 183) (heldStride n) refl (omega arith)
 
 -- ## The record

@@ -42,9 +42,9 @@ use Rattle.numbers.specs.declared.Check.{Check}
 use Rattle.numbers.specs.declared.Check.the-variants.{Fine, Refused}
 use Rattle.numbers.specs.Terms.{All, Bytes, atPlace, Between}
 use Rattle.numbers.specs.Iff.{Iff}
-use Rattle.numbers.proofs.CauseLaws.{not-fine, passed, then-fine, at-most}
+use Rattle.numbers.proofs.CauseLaws.{passed, then-fine, at-most}
 use Rattle.numbers.proofs.BoolLaws.{and-true, and-both}
-use Rattle.numbers.proofs.RowLaws.{Tests, apart, fine-where, refused-where, holds-where, row-where, then-row, then-first, then-second, test-between, test-room, test-by, not-enough, too-short, test-flag, not-no}
+use Rattle.numbers.proofs.RowLaws.{Tests, apart, refused-where, row-where, then-row, then-first, then-second, test-between, test-room, test-by, not-enough, too-short, test-flag, not-no, fine-then, refused-then, row-then, no-row}
 use Rattle.numbers.proofs.SaidLaws.{not-taken, iff-trans, says-refused, says-fine, says-either, refused-by, taken-by, keeps-rest}
 use Rattle.value.specs.Value.{denominatorPower, isCode, exactValue}
 use Rattle.value.specs.Pair.{valueOf, isCanonical, pairIn}
@@ -226,23 +226,23 @@ module _ (s : List ℕ) (k : ℕ) (b : ByteNo) where
   look-up-exact : (number place : ℕ) → Iff (lookUpCauses s k b ≡ Refused number (atPlace place)) (LookUpRow s k b number place)
   look-up-exact number place = (there, back)
     where
+      trace-test : Tests (k ≤ tracesOf s) 15 0 (refuseIf (ltb (tracesOf s) k) 15 0)
+      trace-test = test-room (tracesOf s) k 15 0
+
       there : lookUpCauses s k b ≡ Refused number (atPlace place) → LookUpRow s k b number place
       there =
-          then-row (LookUpRow s k b) (causesOf s) _ (λ e. LookUpRow.by-reel (exact-causes s number place .0 e))
-          (λ e. then-row (LookUpRow s k b) (refuseIf (ltb (tracesOf s) k) 15 0) _
-          (row-where (test-room (tracesOf s) k 15 0) (LookUpRow s k b) (λ m. no-trace (no-cause s .0 e) (not-enough (tracesOf s) k m)))
-          (λ q. then-row (LookUpRow s k b) (refuseIf (isNone (fieldAt k b)) 16 0) _
-          (row-where (test-flag (isNone (fieldAt k b)) 16 0) (LookUpRow s k b) (λ m. no-field (no-cause s .0 e) (holds-where (test-room (tracesOf s) k 15 0) q) (none-found (byteNo b) (headerFields k) .0 (not-no _ m))))
-          (λ x y. absurd (not-fine (sym y)))))
+          let row = LookUpRow s k b in
+          then-row row (causesOf s) _ (λ e. LookUpRow.by-reel (exact-causes s number place .0 e))
+          (λ e. row-then trace-test row (λ m. no-trace (no-cause s .0 e) (not-enough (tracesOf s) k m))
+          (λ q. row-then (test-flag (isNone (fieldAt k b)) 16 0) row (λ m. no-field (no-cause s .0 e) q (none-found (byteNo b) (headerFields k) .0 (not-no _ m)))
+          (λ x. no-row row)))
 
       back : {number place : ℕ} → LookUpRow s k b number place → lookUpCauses s k b ≡ Refused number (atPlace place)
       back {number} {place} (LookUpRow.by-reel r) = then-first (causesOf s) _ (exact-causes s number place .1 r)
-      back (no-trace h l) =
-          then-second _ _ (no-cause s .1 h) (then-first _ _ (refused-where (test-room (tracesOf s) k 15 0) (too-short (tracesOf s) k l)))
+      back (no-trace h l) = then-second _ _ (no-cause s .1 h) (refused-then trace-test _ (too-short (tracesOf s) k l))
       back (no-field h l f) =
           then-second _ _ (no-cause s .1 h)
-          (then-second _ _ (fine-where (test-room (tracesOf s) k 15 0) l)
-          (then-first _ _ (ap (λ (x : Bool). refuseIf x 16 0) (none-found (byteNo b) (headerFields k) .1 f))))
+          (fine-then trace-test l (then-first _ _ (ap (λ (x : Bool). refuseIf x 16 0) (none-found (byteNo b) (headerFields k) .1 f))))
 
   -- What looking up says, by what its checks answer.
   abbrev lookUpSays : Check → Said
@@ -337,15 +337,13 @@ module _ (code : ℕ) (w : List ℕ) where
     where
       there : then (refuseIf (not (isCode code)) 2 0) (refuseIf (badGain code w) 9 0) ≡ Refused number (atPlace place) → WordRow code w number place
       there =
-          then-row (WordRow code w) (refuseIf (not (isCode code)) 2 0) _
-          (row-where (test-between 1 4 code 2 0) (WordRow code w) bad-code)
-          (λ e. row-where (test-flag (badGain code w) 9 0) (WordRow code w)
-          (λ m. let g = true-gain (not-no _ m) in bad-gain (g .0) (g .1)))
+          row-then (test-between 1 4 code 2 0) (WordRow code w) bad-code
+          (λ e. row-where (test-flag (badGain code w) 9 0) (WordRow code w) (λ m. let g = true-gain (not-no _ m) in bad-gain (g .0) (g .1)))
 
       back : {number place : ℕ} → WordRow code w number place → then (refuseIf (not (isCode code)) 2 0) (refuseIf (badGain code w) 9 0) ≡ Refused number (atPlace place)
-      back (bad-code h) = then-first _ _ (refused-where (test-between 1 4 code 2 0) h)
+      back (bad-code h) = refused-then (test-between 1 4 code 2 0) _ h
       back (bad-gain c h) =
-          then-second _ _ (fine-where (test-between 1 4 code 2 0) (omega arith, omega arith)) (ap (λ (x : Bool). refuseIf x 9 0) (gain-true c h))
+          fine-then (test-between 1 4 code 2 0) (omega arith, omega arith) (ap (λ (x : Bool). refuseIf x 9 0) (gain-true c h))
 
   -- THEOREM. "Every call comes to a defined end on every input: no access outside the lent buffers and no number that loses bits": reading a
   -- single word is taken, or refused by a number with a place. The rest of the clause Rattle proves of each function.
@@ -432,26 +430,22 @@ module _ (code : ℕ) (b : List ℕ) where
   unfolding pairChecks
   pair-exact number place = (there, back)
     where
+      canonical : Tests (isCanonical (pairIn b) ≡ true) 13 0 (refuseIf (not (isCanonical (pairIn b))) 13 0)
+      canonical = test-by (isCanonical (pairIn b) ≡ true) (isCanonical (pairIn b)) 13 0 (λ e. e) (λ e. e)
+
       there : pairChecks ≡ Refused number (atPlace place) → PairRow code b number place
       there =
           let row = PairRow code b in
-          let canonical = test-by (isCanonical (pairIn b) ≡ true) (isCanonical (pairIn b)) 13 0 (λ e. e) (λ e. e) in
-          then-row row (refuseIf (not (isCode code)) 11 0) _ (row-where (test-between 1 4 code 11 0) row PairRow.bad-target)
-          (λ e. let g = holds-where (test-between 1 4 code 11 0) e in
-          then-row row (refuseIf (not (isCanonical (pairIn b))) 13 0) _ (row-where canonical row (PairRow.bad-pair g))
-          (λ q. let c = holds-where canonical q in
-          row-where (test-flag (isUnfit (wordOf code (valueOf (pairIn b)))) 14 0) row (λ m. PairRow.unfit g c (λ h. m (unfit-is g c .1 h)))))
+          row-then (test-between 1 4 code 11 0) row PairRow.bad-target
+          (λ g. row-then canonical row (PairRow.bad-pair g)
+          (λ c. row-where (test-flag (isUnfit (wordOf code (valueOf (pairIn b)))) 14 0) row (λ m. PairRow.unfit g c (λ h. m (unfit-is g c .1 h)))))
 
       back : {number place : ℕ} → PairRow code b number place → pairChecks ≡ Refused number (atPlace place)
-      back (PairRow.bad-target h) = then-first _ _ (refused-where (test-between 1 4 code 11 0) h)
-      back (PairRow.bad-pair g h) =
-          let canonical = test-by (isCanonical (pairIn b) ≡ true) (isCanonical (pairIn b)) 13 0 (λ e. e) (λ e. e) in
-          then-second _ _ (fine-where (test-between 1 4 code 11 0) g) (then-first _ _ (refused-where canonical h))
+      back (PairRow.bad-target h) = refused-then (test-between 1 4 code 11 0) _ h
+      back (PairRow.bad-pair g h) = fine-then (test-between 1 4 code 11 0) g (refused-then canonical _ h)
       back (PairRow.unfit g c h) =
-          let canonical = test-by (isCanonical (pairIn b) ≡ true) (isCanonical (pairIn b)) 13 0 (λ e. e) (λ e. e) in
-          then-second _ _ (fine-where (test-between 1 4 code 11 0) g)
-          (then-second _ _ (fine-where canonical c)
-          (refused-where (test-flag (isUnfit (wordOf code (valueOf (pairIn b)))) 14 0) (λ e. h (unfit-is g c .0 e))))
+          fine-then (test-between 1 4 code 11 0) g
+          (fine-then canonical c (refused-where (test-flag (isUnfit (wordOf code (valueOf (pairIn b)))) 14 0) (λ e. h (unfit-is g c .0 e))))
 
   -- THEOREM. "Every call comes to a defined end on every input: no access outside the lent buffers and no number that loses bits": writing a
   -- single pair is taken, or refused by a number with a place. The rest of the clause Rattle proves of each function.

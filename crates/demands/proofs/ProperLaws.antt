@@ -81,8 +81,8 @@ trace-held s h p q k t =
     let at = tracePlace s k in
     record {
       fit = fields-fit s h (at + 3) 1 traceWidths trace-some;
-      n-is = held-count s at ∙ ap (signedOf 16) (t .count) ∙ signed-low n p;
-      i-is = held-interval s at ∙ ap (signedOf 16) (t .interval) ∙ signed-low i q;
+      n-is = held-count s at ∙ ap (signedOf 16) (t .front .count) ∙ signed-low n p;
+      i-is = held-interval s at ∙ ap (signedOf 16) (t .front .interval) ∙ signed-low i q;
       size = size-walk (heldValue s) pairLength n (at + 186);
       canonical = all-each (λ v. isCanonical (pairOf v) ≡ true) (heldValue s) pairLength n (at + 186) (λ j l. value-held s (pairPlace s k j) (t .pairs j l));
     }

@@ -30,6 +30,10 @@ CanonicalAt s at = isCanonical (pairIn (bytesAt s at pairLength)) ≡ true
 abbrev pub tracePlace : List ℕ → ℕ → ℕ
 tracePlace s k = tracesPlace + k * heldStride (heldSamples s)
 
+-- The place of byte number b of trace k's header, whose byte number 1 stands behind tag 03 and its length.
+abbrev pub headerPlace : List ℕ → ℕ → ℕ → ℕ
+headerPlace s k b = bytePlace (tracePlace s k + 3) b
+
 -- The place of pair j of trace k, behind tag 03 with its 180 bytes and tag 04 with its length.
 abbrev pub pairPlace : List ℕ → ℕ → ℕ → ℕ
 pairPlace s k j = tracePlace s k + 186 + j * pairLength
@@ -49,11 +53,15 @@ pub record HeadRight (s : List ℕ) : Type 0 where
   pub samples : Between 1 8000 (heldSamples s)
   pub code : heldCode s ≡ 0
 
--- Trace k stands: tag 03 with its 180 bytes, of which field 115 is N and field 117 the interval, then tag 04 with N canonical pairs.
-pub record TraceRight (s : List ℕ) (k : ℕ) : Type 0 where
+-- Tag 03 of trace k stands with its 180 bytes, of which field 115 is N and field 117 the interval.
+pub record HeaderRight (s : List ℕ) (k : ℕ) : Type 0 where
   pub header : Stands s 3 180 (tracePlace s k)
-  pub count : number16 s (bytePlace (tracePlace s k + 3) 115) ≡ heldSamples s
-  pub interval : number16 s (bytePlace (tracePlace s k + 3) 117) ≡ heldInterval s
+  pub count : number16 s (headerPlace s k 115) ≡ heldSamples s
+  pub interval : number16 s (headerPlace s k 117) ≡ heldInterval s
+
+-- Trace k stands: tag 03 is right, then tag 04 stands with N canonical pairs.
+pub record TraceRight (s : List ℕ) (k : ℕ) : Type 0 where
+  pub front : HeaderRight s k
   pub samples : Stands s 4 (6 * heldSamples s) (tracePlace s k + 183)
   pub pairs : (j : ℕ) → j < heldSamples s → CanonicalAt s (pairPlace s k j)
 

@@ -83,6 +83,31 @@ then-first c d e = ap (λ x. then x d) e
 pub then-second : (c d : Check) {x : Check} → c ≡ Fine → d ≡ x → then c d ≡ x
 then-second c d e f = ap (λ x. then x d) e ∙ f
 
+-- A test of P before another check.
+module _ {P : Type 0} {number at : ℕ} {c : Check} (t : Tests P number at c) where
+  -- Where P holds, both answer what the other does.
+  pub fine-then : {d x : Check} → P → d ≡ x → then c d ≡ x
+  fine-then {d} p e = then-second c d (fine-where t p) e
+
+  -- Where P doesn't hold, both refuse.
+  pub refused-then : (d : Check) → ¬ P → then c d ≡ Refused number (atPlace at)
+  refused-then d n = then-first c d (refused-where t n)
+
+  -- Where both answer nothing, P holds and the other answers nothing.
+  pub holds-then : (d : Check) → then c d ≡ Fine → P × (d ≡ Fine)
+  holds-then d e =
+      let a = then-fine c d e in
+      (holds-where t (a .0), a .1)
+
+  -- Where both refuse, it is by the row of the test, or where P holds, by one of the other's.
+  pub row-then : (R : ℕ → ℕ → Type 0) {d : Check} {n p : ℕ} → (¬ P → R number at) → (P → d ≡ Refused n (atPlace p) → R n p)
+      → then c d ≡ Refused n (atPlace p) → R n p
+  row-then R {d} f g = then-row R c d (row-where t R f) (λ e. g (holds-where t e))
+
+-- The last check of a list refuses nothing.
+pub no-row : (R : ℕ → ℕ → Type 0) {n p : ℕ} → Fine ≡ Refused n (atPlace p) → R n p
+no-row R e = absurd (not-fine (sym e))
+
 -- ## Tests of numbers
 
 -- A number within its limits.
