@@ -12,8 +12,9 @@ use lib.IntN.{pos}
 use Rattle.numbers.specs.Walk.{walk, flat, bytesAt}
 use Rattle.numbers.specs.BigEndian.{bytesOf}
 use Rattle.numbers.specs.declared.Check.the-variants.{Fine}
-use Rattle.numbers.proofs.WalkLaws.{cons-eq, size-walk, size-bytes, bytes-part}
-use Rattle.numbers.proofs.ByteLaws.{Bytes, bytes-at, bytes-again, bytes-append}
+use Rattle.numbers.specs.Terms.{Bytes}
+use Rattle.numbers.proofs.WalkLaws.{cons-eq, size-walk, size-bytes, bytes-part, at-zero, at-suc}
+use Rattle.numbers.proofs.ByteLaws.{bytes-at, bytes-again, bytes-append}
 use Rattle.value.specs.Pair.{pairLength, pairBytes, pairIn}
 use Rattle.value.specs.declared.Pair.{Pair}
 use Rattle.sample_theorems.proofs.Pairs.{value-pair-back, pair-bytes}
@@ -24,8 +25,8 @@ use Rattle.record.specs.Form.{heldSamples, heldCode, tracesPlace, heldStride, h
 use Rattle.record.specs.Held.{heldValue, heldTrace, heldBy}
 use Rattle.record.proofs.NumberLaws.{fields-again, numbers-append}
 use Rattle.record.proofs.HeaderLaws.{binary-front, binary-back, counts}
-use Rattle.reel_theorems.proofs.TestLaws.{at-zero, at-suc}
-use Rattle.demands.proofs.Valid.{Stands, CanonicalAt, tracePlace, pairPlace, TraceRight, RecordRight, record-right}
+use Rattle.demands.proofs.Valid.{record-right}
+use Rattle.demands.specs.ValidRecord.{Stands, CanonicalAt, tracePlace, pairPlace, TraceRight, RecordRight}
 
 -- ## Lists joined
 
@@ -97,7 +98,7 @@ trace-again s h k t =
     let values : flat (map valueBytes (walk (heldValue s) pairLength n (at + 186))) ≡ bytesAt s (at + 183 + 3) (pairLength * n) =
     walk-again valueBytes (heldValue s) s pairLength n (at + 186) (λ j l. value-again s h (pairPlace s k j) (t .pairs j l))
     ∙ ap₂ (λ (a c : ℕ). bytesAt s a c) next (mul-comm n pairLength) in
-    join (field-again s h 3 180 at _ (t .header) (header-again s h (at + 3))) (field-again s h 4 (pairLength * n) (at + 183) _ (t .samples) values)
+    join (field-again s h 3 180 at _ (t .front .header) (header-again s h (at + 3))) (field-again s h 4 (pairLength * n) (at + 183) _ (t .samples) values)
     ∙ bytes-join s at 183 (3 + pairLength * n) (at + 183) (heldStride n) refl (omega arith)
 
 -- ## The record

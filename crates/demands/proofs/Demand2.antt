@@ -1,10 +1,11 @@
 -- # Demand 2: a reel becomes its record, a record becomes a reel, and reading that reel gives the record again
 --
--- "A reel becomes the record that SEG-Y revision 0 and the IBM word define, as document 01 condenses them. A valid record is written as a
--- reel in any code that holds every sample exactly, if the output is long enough, and reading that reel gives the record again."
+-- "A reel becomes the record that SEG-Y revision 0 and the IBM floating point word define, as document 01 condenses them. A valid record is
+-- written as a reel in any of the four sample formats whenever that format holds every sample exactly and the output is long enough, and
+-- reading that reel, again into an output long enough, gives the record again."
 --
--- Five theorems say so, over the outcomes that the contracts of reading and writing give. A record or a written reel is the output's first
--- bytes, as many as the length returned.
+-- Five theorems say so, over the outcomes that the contracts of reading and writing give. "A record or a written reel is the output's first
+-- bytes, as many as the length returned" (document 01). What they say of the outcomes, they say by the records of `specs/Results`.
 --
 -- - `reading`: where reading a reel is taken, the numbers returned are the reel's T and N and 3273 + T × (186 + 6N), the output's first
 --   bytes are the record of what the reel means, of that length, and the rest of the output keeps its content.
@@ -17,20 +18,18 @@
 -- - `round-trip`: the second sentence at once. A valid record, a code of 1 to 4 that holds every sample exactly and an output long enough:
 --   the writing is taken, and reading what it wrote gives the record again.
 --
--- Valid means that neither 12 nor 13 applies, and `valid-is` in `Determined` spells it out. Each byte of a reel and of a record is below
+-- "A record is valid when neither 12 nor 13 applies to it" (document 01): `formCauses` finds nothing, and `valid-is` in `Determined` spells it out. Each byte of a reel and of a record is below
 -- 256, which `written` doesn't ask for; nothing else is assumed. Every reel, record, code and output is meant.
 use mathlib.Core.Path.{_≡_, sym, ap, ap₂, _∙_}
 use mathlib.Core.List.{List, [], _∷_, _++_}
-use mathlib.Core.Bool.{true}
 use Prim.Native.Nat.{ℕ, _+_, _*_, _≤_}
 use lib.ListN.{length, take, drop}
 use lib.Seq.{take-at, drop-at}
 use Rattle.numbers.specs.Outcome.{taken, Outcome}
 use Rattle.numbers.specs.declared.Check.the-variants.{Fine}
-use Rattle.numbers.proofs.ByteLaws.{Bytes}
-use Rattle.value.specs.Value.{isCode}
-use Rattle.sample_theorems.proofs.Pairs.{Iff}
-use Rattle.reel.specs.Layout.{samplesOf, tracesOf, sampleBytes}
+use Rattle.numbers.specs.Terms.{Bytes}
+use Rattle.numbers.specs.Iff.{Iff}
+use Rattle.reel.specs.Layout.{sampleBytes}
 use Rattle.reel.specs.Meaning.{meaningOf}
 use Rattle.record.specs.Record.{recordOf}
 use Rattle.record.specs.Form.{heldInterval, heldSamples, heldCount, formCauses}
@@ -41,29 +40,18 @@ use Rattle.write_reel.specs.Writing.{writeEnd, writeOutcome}
 use Rattle.reel_theorems.proofs.Same.{record-size}
 use Rattle.reel_theorems.proofs.Output.{taken-reel, taken-outcome, taken-numbers, output-record}
 use Rattle.demands.proofs.ProperLaws.{held-proper}
-use Rattle.demands.proofs.Fitting.{fit-is, Worded}
+use Rattle.demands.proofs.Fitting.{fit-is}
 use Rattle.demands.proofs.WrittenSize.{reel-size}
 use Rattle.demands.proofs.Taken.{fitting-words, needs, written-needs, write-taken, written-read}
+use Rattle.demands.specs.Results.{RecordRead, CanBeWritten, ReelWritten}
 
 -- ## A reel becomes its record
-
--- What reading a reel gives, where it returns t, n and the length l.
-pub record RecordRead (s out : List ℕ) (t n l : ℕ) : Type 0 where
-  -- T and N are those of the reel, and the length is that of a record of T traces of N samples.
-  pub traces : t ≡ tracesOf s
-  pub samples : n ≡ samplesOf s
-  pub size : l ≡ 3273 + t * (186 + 6 * n)
-  -- The output's first bytes are the record of what the reel means, and they are all of it.
-  pub content : take l (readOutcome s out .bytes) ≡ recordOf (meaningOf s)
-  pub whole : length (recordOf (meaningOf s)) ≡ l
-  -- The rest of the output keeps its content.
-  pub rest : drop l (readOutcome s out .bytes) ≡ drop l out
 
 -- Three numbers that are returned are the same as the three that are known to be.
 same-numbers : {t n l t₂ n₂ l₂ : ℕ} → taken (t ∷ n ∷ l ∷ []) ≡ taken (t₂ ∷ n₂ ∷ l₂ ∷ []) → (t ≡ t₂) × (n ≡ n₂) × (l ≡ l₂)
 same-numbers e = (cc, cc, cc)
 
--- THEOREM. A reel becomes the record that SEG-Y revision 0 and the IBM word define.
+-- THEOREM. "A reel becomes the record that SEG-Y revision 0 and the IBM floating point word define, as document 01 condenses them."
 -- Rules out a reader that gives one fixed record, one that writes nothing and says taken, one that converts the first trace and copies it
 -- for the rest, and one whose T or length is invented; two's complement for the IBM fraction, keeping minus zero, and filling field 115 only
 -- for the first trace.
@@ -84,14 +72,8 @@ reading s out t n l b e =
 
 -- ## A record becomes a reel
 
--- What it takes to write a record: the code is from 1 to 4, it holds every sample exactly, and the output is long enough.
-pub record CanBeWritten (r : List ℕ) (code : ℕ) (out : List ℕ) : Type 0 where
-  pub code-is : isCode code ≡ true
-  pub held : Worded code (heldBy r .traces)
-  pub room : 3600 + heldCount r (heldSamples r) * (240 + heldSamples r * sampleBytes code) ≤ length out
-
--- THEOREM. A valid record is written as a reel in any code that holds every sample exactly, if the output is long enough; and in no other
--- case.
+-- THEOREM. "A valid record is written as a reel in any of the four sample formats whenever that format holds every sample exactly and the
+-- output is long enough"; and in no other case.
 -- Rules out a writer that declines every record, one that says output too short before working out the length (the rest of that is
 -- `write-refused`), and one whose T or length is invented.
 pub writing : (r : List ℕ) (code : ℕ) (out : List ℕ) → Bytes r → formCauses r ≡ Fine
@@ -107,21 +89,7 @@ writing r code out b v = (
   λ h. ap (λ (o : Outcome). o .said) (write-taken r code out (needs r code out b v (h .code-is) (h .held) (h .room))),
 )
 
--- What writing a record gives, where it returns t, n and the length l.
-pub record ReelWritten (r : List ℕ) (code : ℕ) (out : List ℕ) (t n l : ℕ) : Type 0 where
-  -- The record is valid.
-  pub valid : formCauses r ≡ Fine
-  -- T and N are those of the record, and the length is that of a reel of T traces of N samples.
-  pub traces : t ≡ heldCount r (heldSamples r)
-  pub samples : n ≡ heldSamples r
-  pub size : l ≡ 3600 + t * (240 + n * sampleBytes code)
-  -- The output's first bytes are the reel of what the record holds, and they are all of it.
-  pub content : take l (writeOutcome r code out .bytes) ≡ reelOf code (heldBy r)
-  pub whole : length (reelOf code (heldBy r)) ≡ l
-  -- The rest of the output keeps its content.
-  pub rest : drop l (writeOutcome r code out .bytes) ≡ drop l out
-
--- THEOREM. What is written is the reel of what the record holds: under code 1 each sample by its normal word (`writing-normal`), under code 4
+-- THEOREM. "A valid record is written as a reel": what is written is the reel of what the record holds, under code 1 each sample by its normal word (`writing-normal`), under code 4
 -- with the smallest gain (`writing-least`), unassigned bytes 0.
 -- Rules out a writer that writes nothing and says taken, one that converts the first trace and copies it for the rest, and one whose T or
 -- length is invented; normalising by single bits, pushing C below 0, and shifting up for a negative e.
@@ -145,7 +113,7 @@ written r code out t n l e =
 
 -- ## Reading the reel that was written
 
--- THEOREM. Reading that reel gives the record again, byte for byte and with the same T and N, in every output that is long enough.
+-- THEOREM. "and reading that reel, again into an output long enough, gives the record again": byte for byte and with the same T and N.
 -- Rules out a fixed record or reel, writing nothing and saying taken, copying the first trace for the rest, and an invented length. That T
 -- and N are the record's own, and not merely the same both times, is `reading` and `written`.
 pub read-back : (r : List ℕ) (code : ℕ) (out out₂ : List ℕ) (t n l : ℕ) → Bytes r → writeOutcome r code out .said ≡ taken (t ∷ n ∷ l ∷ []) → length r ≤ length out₂
@@ -157,8 +125,8 @@ read-back r code out out₂ t n l b e h =
     ∙ written-read r b code out w out₂ h
     ∙ ap₂ (λ (x y : ℕ). record { said = taken (x ∷ y ∷ length r ∷ []); bytes = r ++ drop (length r) out₂ }) (sym (k .traces)) (sym (k .samples))
 
--- THEOREM. A valid record is written as a reel in any code that holds every sample exactly, if the output is long enough, and reading that
--- reel gives the record again.
+-- THEOREM. "A valid record is written as a reel in any of the four sample formats whenever that format holds every sample exactly and the
+-- output is long enough, and reading that reel, again into an output long enough, gives the record again."
 -- Rules out a writer that declines every record, one whose T is invented, and what `read-back` rules out.
 pub round-trip : (r : List ℕ) (code : ℕ) (out out₂ : List ℕ) → Bytes r → formCauses r ≡ Fine → CanBeWritten r code out → length r ≤ length out₂
     → let n = heldSamples r in

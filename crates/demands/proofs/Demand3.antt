@@ -1,14 +1,21 @@
 -- # Demand 3: records are equal exactly when the reels mean the same, and a reel written again means the same
 --
--- "Two reels that are read without refusal have records equal byte for byte exactly when they mean the same: same card text, same number in
--- every assigned header field but the format code, same count of traces, sample by sample the same exact value, all taken from the reel's
--- own bytes and never from a record. Every reel written from such a record is read without refusal, means the same and has the same record."
+-- "Take any two reels, each in any of the formats, that are read without refusal, that is wherever none of the causes set for reading applies.
+-- Their records, in the bytes laid out in document 01, are equal byte for byte exactly when the two reels mean the same. They mean the same
+-- when they have the same card text, the same number in every assigned header field but the sample format code, the same count of traces, and
+-- sample by sample the same exact value, a whole number over 16 to the power 70. Document 01 takes each of these from the reel's own bytes, and
+-- names the few spellings taken as one (a zero byte for a blank, a zero in a trace's own sample count or interval for the reel's). Every reel
+-- written from the record of a reel so read, in whichever of the formats holds it, is itself read without refusal, means the same and has the
+-- same record, wherever the outputs are long enough."
 --
--- A record or a written reel is the output's first bytes, as many as the length returned. Values are compared V by V, whole numbers over
--- 16^70 (`sixteen`, `by-sample`). `MeanTheSame` looks at the two reels' bytes only.
+-- "A record or a written reel is the output's first bytes, as many as the length returned" (document 01). That a reel is read without refusal
+-- exactly where none of the causes set for reading applies is `read-taken`, of demand 1. `MeanTheSame`, in `Meaning` of `reel`, looks at the
+-- two reels' bytes only.
 --
 -- - `records-equal`: where the readings of two reels are taken, each in any code and each into any output, the two records are equal
 --   exactly when the reels mean the same.
+-- - `sixteen`, `by-sample`: values are compared V by V, whole numbers over 16^70.
+-- - `cards-alike`, `own-alike`: the spellings taken as one, and no others.
 -- - `reel-again`: where the reading of a reel is taken, and the writing of its record under any code is taken, the writing returns the same
 --   T and N and the length of such a reel; no cause of 1 to 9 applies to the reel that was written, it is in that code, it means the same
 --   as the first reel and has the same record; and reading it into an output long enough is taken with the same T, N and length, and gives
@@ -20,42 +27,45 @@
 -- Each byte of a reel is below 256; nothing else is assumed.
 use mathlib.Core.Path.{_≡_, refl, sym, ap, ap₂, _∙_, subst}
 use mathlib.Core.List.{List, [], _∷_, _++_, map}
-use mathlib.Core.Bool.{true}
-use Prim.Native.Nat.{ℕ, zero, suc, _+_, _-_, _*_, _^_, _≤_, _<_}
-use native.Mathlib.Nat.{div-add-mod', not-suc-le-zero}
+use mathlib.Core.Bool.{true, Bool, false}
+use mathlib.Core.Logic.{_⊎_, inl, inr, ⊎-elim}
+use Prim.Native.Nat.{ℕ, _+_, _-_, _*_, _^_, _≤_, _<_, suc}
+use native.Mathlib.Nat.{div-add-mod'}
 use native.Mathlib.Omega.{arith}
-use borrow.Author.Tests.{le-leb}
+use borrow.Author.Tests.{le-leb, eqb-true}
 use lib.ListN.{length, take, drop}
-use lib.IntN.{ℤ}
-use Rattle.numbers.specs.Walk.{walk, bytesAt}
+use lib.IntN.{ℤ, pos, negsuc, natAbs}
+use lib.Dec.{eqb}
+use Rattle.numbers.specs.Walk.{walk, bytesAt, pick}
 use Rattle.numbers.specs.Cause.{refuseIf}
 use Rattle.numbers.specs.Outcome.{taken, Outcome}
 use Rattle.numbers.specs.declared.Check.the-variants.{Fine}
-use Rattle.numbers.proofs.WalkLaws.{All, cons-eq, size-bytes}
-use Rattle.numbers.proofs.ByteLaws.{Bytes, bytes-at}
+use Rattle.numbers.specs.Terms.{All, Bytes, ZeroOr}
+use Rattle.numbers.specs.Iff.{Iff}
+use Rattle.numbers.proofs.WalkLaws.{cons-eq, size-bytes, walk-each, map-walk}
+use Rattle.numbers.proofs.ByteLaws.{bytes-at}
 use Rattle.numbers.proofs.CauseLaws.{passed, then-fine, first-all}
 use Rattle.value.specs.Value.{denominatorPower, isCode, exactValue}
-use Rattle.sample_theorems.proofs.Pairs.{Iff}
 use Rattle.reel.specs.Layout.{firstTrace, traceHeader, number16, intervalOf, samplesOf, codeOf, sampleBytes, strideOf, tracesOf}
 use Rattle.reel.specs.Causes.{neither, wordCause, traceCauses, causesOf}
-use Rattle.reel.specs.Meaning.{Trace, traceMeaning, Meaning, meaningOf, MeanTheSame}
+use Rattle.reel.specs.Meaning.{Trace, traceMeaning, Meaning, meaningOf, MeanTheSame, blank, filled}
 use Rattle.reel.proofs.CheckLaws.{reel-fine}
 use Rattle.record.specs.Record.{reelRecord}
 use Rattle.read_reel.specs.Reading.{readOutcome}
 use Rattle.write_reel.specs.Reel.{reelLength}
 use Rattle.write_reel.specs.Writing.{writeOutcome}
-use Rattle.reel_theorems.proofs.TestLaws.{at-zero, at-suc}
-use Rattle.reel_theorems.proofs.Refusals.{sampleAt}
 use Rattle.reel_theorems.proofs.Same.{same-records}
 use Rattle.reel_theorems.proofs.Output.{taken-reel, same-outputs}
-use Rattle.demands.proofs.Fitting.{HasWord, Worded}
 use Rattle.demands.proofs.Taken.{written-needs, needs, write-taken, written-bytes, written-no-cause, written-code, written-record}
 use Rattle.demands.proofs.Demand2.{reading, written, read-back}
 use Rattle.demands.proofs.Determined.{read-valid}
+use Rattle.demands.specs.Words.{HasWord, Worded}
+use Rattle.demands.specs.Results.{sampleValue, ReelAgain, OwnCode}
 
 -- ## Two reels
 
--- THEOREM. Two reels that are read without refusal have records equal byte for byte exactly when they mean the same.
+-- THEOREM. "Take any two reels, each in any of the formats, that are read without refusal, that is wherever none of the causes set for reading
+-- applies. Their records, in the bytes laid out in document 01, are equal byte for byte exactly when the two reels mean the same."
 -- Rules out a reader that gives one fixed record, and one that converts the first trace and copies it for the rest; two's complement for the
 -- IBM fraction, keeping minus zero, and filling field 115 only for the first trace. Also copying the words through, since two words of one
 -- value must give one pair.
@@ -66,29 +76,9 @@ records-equal = same-outputs
 
 -- ## Sample by sample
 
--- THEOREM. The denominator of every exact value is 16^70. Alone it rules out none of the list.
+-- THEOREM. "a whole number over 16 to the power 70": the denominator of every exact value. Alone it rules out none of the list.
 pub sixteen : 2 ^ denominatorPower ≡ 16 ^ 70
 sixteen = refl
-
--- Where two walks give the same, each step of the one gives what that step of the other gives.
-walk-each : {A : Type 0} (f g : ℕ → A) (w v k m a b : ℕ) → walk f w k a ≡ walk g v m b → (j : ℕ) → j < k → f (a + j * w) ≡ g (b + j * v)
-walk-each f g w v zero m a b e j l = absurd (not-suc-le-zero l)
-walk-each f g w v (suc k) zero a b e j l = absurd (let z = ap length e in omega arith)
-walk-each f g w v (suc k) (suc m) a b e zero l =
-    let h : f a ≡ g b = cc in
-    ap f (at-zero a w) ∙ h ∙ sym (ap g (at-zero b v))
-walk-each f g w v (suc k) (suc m) a b e (suc j) l =
-    let t : walk f w k (a + w) ≡ walk g v m (b + v) = cc in
-    ap f (at-suc a w j) ∙ walk-each f g w v k m (a + w) (b + v) t j (omega arith) ∙ sym (ap g (at-suc b v j))
-
--- A function of each thing that a walk gives is a walk.
-map-walk : {A B : Type 0} (h : A → B) (f : ℕ → A) (w k a : ℕ) → map h (walk f w k a) ≡ walk (λ x. h (f x)) w k a
-map-walk h f w zero a = refl
-map-walk h f w (suc k) a = ap (λ l. h (f a) ∷ l) (map-walk h f w k (a + w))
-
--- The exact value V, over 16^70, of sample j of trace k, both counted from 0, by the four bytes where it stands.
-abbrev pub sampleValue : List ℕ → ℕ → ℕ → ℤ
-sampleValue s k j = exactValue (codeOf s) (bytesAt s (sampleAt s k j) 4)
 
 -- The values of the trace at a place.
 traceValues : List ℕ → ℕ → List ℤ
@@ -99,7 +89,9 @@ all-values : (s : List ℕ) → map (λ (t : Trace). t .values) (meaningOf s .tr
 unfolding meaningOf traceMeaning traceValues
 all-values s = map-walk (λ (t : Trace). t .values) (traceMeaning s (codeOf s) (samplesOf s) (intervalOf s)) (strideOf s) (tracesOf s) firstTrace
 
--- THEOREM. Where two reels mean the same, sample j of trace k has the same exact value in both.
+-- THEOREM. "They mean the same when they have the same card text, the same number in every assigned header field but the sample format code,
+-- the same count of traces, and sample by sample the same exact value, a whole number over 16 to the power 70." That is `MeanTheSame`, field by
+-- field; so where two reels mean the same, sample j of trace k has the same exact value in both.
 -- Alone it rules out none of the list: it spells out what `records-equal` compares.
 pub by-sample : (s₁ s₂ : List ℕ) → MeanTheSame s₁ s₂ → (k j : ℕ) → k < tracesOf s₁ → j < samplesOf s₁ → sampleValue s₁ k j ≡ sampleValue s₂ k j
 unfolding traceValues
@@ -108,26 +100,50 @@ by-sample s₁ s₂ m k j l h =
     let t = walk-each (traceValues s₁) (traceValues s₂) (strideOf s₁) (strideOf s₂) (tracesOf s₁) (tracesOf s₂) firstTrace firstTrace e k l in
     walk-each _ _ (sampleBytes (codeOf s₁)) (sampleBytes (codeOf s₂)) (samplesOf s₁) (samplesOf s₂) _ _ t j h
 
+-- ## The spellings taken as one
+
+-- A spelling of `own`: a zero, which is taken for it, or `own` itself. Two spellings are taken as one exactly when they are the same or both
+-- are spellings of `own`.
+one-spelling : {A : Type 0} (zero-is : A → Bool) (none own : A) → ((a : A) → zero-is a ≡ true → a ≡ none) → zero-is none ≡ true
+    → (a b : A) → Iff (pick (zero-is a) own a ≡ pick (zero-is b) own b) ((a ≡ b) ⊎ (((a ≡ none) ⊎ (a ≡ own)) × ((b ≡ none) ⊎ (b ≡ own))))
+one-spelling {A} zero-is none own only is a b = (there (zero-is a) (zero-is b) refl refl, back)
+  where
+    there : (x y : Bool) → zero-is a ≡ x → zero-is b ≡ y → pick x own a ≡ pick y own b → (a ≡ b) ⊎ (((a ≡ none) ⊎ (a ≡ own)) × ((b ≡ none) ⊎ (b ≡ own)))
+    there true true p q e = inr (inl (only a p), inl (only b q))
+    there true false p q e = inr (inl (only a p), inr (sym e))
+    there false true p q e = inr (inr e, inl (only b q))
+    there false false p q e = inl e
+
+    taken-for : (a : A) → (a ≡ none) ⊎ (a ≡ own) → pick (zero-is a) own a ≡ own
+    taken-for a h = ⊎-elim (λ (e : a ≡ none). ap (λ (x : Bool). pick x own a) (ap zero-is e ∙ is)) (λ (e : a ≡ own). go (zero-is a) e) h
+      where
+        go : (x : Bool) → a ≡ own → pick x own a ≡ own
+        go true e = refl
+        go false e = e
+
+    back : (a ≡ b) ⊎ (((a ≡ none) ⊎ (a ≡ own)) × ((b ≡ none) ⊎ (b ≡ own))) → pick (zero-is a) own a ≡ pick (zero-is b) own b
+    back h = ⊎-elim (λ (e : a ≡ b). ap (λ (x : A). pick (zero-is x) own x) e) (λ r. taken-for a (r .0) ∙ sym (taken-for b (r .1))) h
+
+-- THEOREM. "Document 01 takes each of these from the reel's own bytes, and names the few spellings taken as one (a zero byte for a blank": two
+-- card bytes are taken as one exactly when they are the same or each is 00 or 40.
+-- Alone it rules out none of the list: it spells out what `records-equal` compares.
+pub cards-alike : (b c : ℕ) → Iff (blank b ≡ blank c) ((b ≡ c) ⊎ (ZeroOr 0x40 b × ZeroOr 0x40 c))
+cards-alike b c = one-spelling (λ x. eqb x 0) 0 0x40 (λ x e. eqb-true x 0 e) refl b c
+
+-- THEOREM. "a zero in a trace's own sample count or interval for the reel's)": two numbers of field 115, or of field 117, are taken as one exactly
+-- when they are the same or each is 0 or the reel's own. No other field is filled in (`traceNumber`, in `Meaning` of `reel`).
+-- Alone it rules out none of the list: it spells out what `records-equal` compares.
+pub own-alike : (own : ℕ) (y z : ℤ) → Iff (filled own y ≡ filled own z) ((y ≡ z) ⊎ (((y ≡ pos 0) ⊎ (y ≡ pos own)) × ((z ≡ pos 0) ⊎ (z ≡ pos own))))
+own-alike own y z = one-spelling (λ x. eqb (natAbs x) 0) (pos 0) (pos own) only refl y z
+  where
+    only : (x : ℤ) → eqb (natAbs x) 0 ≡ true → x ≡ pos 0
+    only (pos n) e = ap pos (eqb-true n 0 e)
+    only (negsuc n) e = absurd (let z : suc n ≡ 0 = eqb-true (suc n) 0 e in omega arith)
+
 -- ## A reel written from a record
 
--- What a reel is that was written, under a code, from the record r of the reel s, where the reading returned t, n and l and the writing
--- returned t₂, n₂ and l₂.
-pub record ReelAgain (s : List ℕ) (t n l : ℕ) (r : List ℕ) (code t₂ n₂ l₂ : ℕ) (reel : List ℕ) : Type 0 where
-  -- The writing returned the same T and N, and the length of a reel of T traces of N samples under the code.
-  pub traces : t₂ ≡ t
-  pub samples : n₂ ≡ n
-  pub size : l₂ ≡ 3600 + t * (240 + n * sampleBytes code)
-  -- No cause of 1 to 9 applies to the reel that was written, and its format code is the one asked for.
-  pub no-cause : causesOf reel ≡ Fine
-  pub code-is : codeOf reel ≡ code
-  -- It means the same as the reel s.
-  pub means : MeanTheSame s reel
-  -- Its record is r,
-  pub has : reelRecord reel ≡ r
-  -- and reading it into any output that is long enough returns t, n and l and gives r.
-  pub read : (out : List ℕ) → l ≤ length out → readOutcome reel out ≡ record { said = taken (t ∷ n ∷ l ∷ []); bytes = r ++ drop l out }
-
--- THEOREM. Every reel written from such a record is read without refusal, means the same and has the same record.
+-- THEOREM. "Every reel written from the record of a reel so read, in whichever of the formats holds it, is itself read without refusal, means
+-- the same and has the same record, wherever the outputs are long enough."
 -- Rules out a writer that writes nothing and says taken, a writer or a reader that converts the first trace and copies it for the rest, and
 -- either with a length that is invented, or a T that the other doesn't have. That T is the reel's own is `reading`.
 pub reel-again : (s out : List ℕ) (t n l : ℕ) (code : ℕ) (out₂ : List ℕ) (t₂ n₂ l₂ : ℕ) → Bytes s → readOutcome s out .said ≡ taken (t ∷ n ∷ l ∷ [])
@@ -160,8 +176,8 @@ reel-again s out t n l code out₂ t₂ n₂ l₂ b e e₂ =
 
 -- ## Which reels are written
 
--- THEOREM. The record of a reel read without refusal is written under every code of 1 to 4 that has a word for each of the reel's sample
--- values, into every output that is long enough.
+-- THEOREM. "in whichever of the formats holds it": the record of a reel so read is written under every code of 1 to 4 that has a word for each
+-- of the reel's sample values, "wherever the outputs are long enough".
 -- Rules out a writer that declines every record, and one whose T or length is invented.
 pub written-in-each-code : (s out : List ℕ) (t n l : ℕ) (code : ℕ) (out₂ : List ℕ) → Bytes s → readOutcome s out .said ≡ taken (t ∷ n ∷ l ∷ [])
     → isCode code ≡ true → Worded code (meaningOf s .traces)
@@ -208,15 +224,8 @@ own-size s f =
     let v = reel-fine s f in
     omega (arith, v .long, v .whole, div-add-mod' (length s - firstTrace) (strideOf s))
 
--- What the reel s, whose reading returned t, n and l and gave the record r, has under its own code.
-pub record OwnCode (s : List ℕ) (t n : ℕ) (r : List ℕ) : Type 0 where
-  -- The code is one of the four, and each sample value has a word under it.
-  pub code-is : isCode (codeOf s) ≡ true
-  pub words : Worded (codeOf s) (meaningOf s .traces)
-  -- The record is written under it into any output with room for the reel, as a reel of the same length.
-  pub writes : (out : List ℕ) → length s ≤ length out → writeOutcome r (codeOf s) out .said ≡ taken (t ∷ n ∷ length s ∷ [])
-
--- THEOREM. The reel's own code has a word for each of the reel's sample values, and its record is written under that code.
+-- THEOREM. "in whichever of the formats holds it": the reel's own code has a word for each of the reel's sample values, and its record is
+-- written under that code.
 -- Rules out a writer that declines every record, and one whose T or length is invented.
 pub own-code : (s out : List ℕ) (t n l : ℕ) → Bytes s → readOutcome s out .said ≡ taken (t ∷ n ∷ l ∷ []) → OwnCode s t n (take l (readOutcome s out .bytes))
 own-code s out t n l b e =

@@ -1,7 +1,8 @@
 -- # A record and what it holds determine each other
 --
--- "A record is valid when neither 12 nor 13 applies to it"; "a record or a written reel is the output's first bytes, as many as the length
--- returned."
+-- Document 01: "A record is valid when neither 12 nor 13 applies to it." "A record or a written reel is the output's first bytes, as many as the
+-- length returned." Demand 2: "A reel becomes the record that SEG-Y revision 0 and the IBM floating point word define, as document 01 condenses
+-- them."
 --
 -- - `read-valid`: where reading a reel is taken, the record in the output is valid, it holds what the reel means, and its T and N are those
 --   returned.
@@ -16,7 +17,8 @@ use Prim.Native.Nat.{ℕ}
 use lib.ListN.{take}
 use Rattle.numbers.specs.Outcome.{taken}
 use Rattle.numbers.specs.declared.Check.the-variants.{Fine}
-use Rattle.numbers.proofs.ByteLaws.{Bytes}
+use Rattle.numbers.specs.Terms.{Bytes}
+use Rattle.numbers.specs.Iff.{Iff}
 use Rattle.reel.specs.Layout.{samplesOf, intervalOf, tracesOf}
 use Rattle.reel.specs.Causes.{causesOf}
 use Rattle.reel.specs.Meaning.{meaningOf}
@@ -24,28 +26,18 @@ use Rattle.record.specs.Record.{recordOf}
 use Rattle.record.specs.Form.{heldSamples, heldCount, formCauses}
 use Rattle.record.specs.Held.{heldBy}
 use Rattle.read_reel.specs.Reading.{readOutcome}
-use Rattle.sample_theorems.proofs.Pairs.{Iff}
 use Rattle.reel_theorems.proofs.Output.{taken-reel}
 use Rattle.demands.proofs.Again.{held-again}
 use Rattle.demands.proofs.Proper.{Proper}
 use Rattle.demands.proofs.ProperLaws.{reel-proper}
 use Rattle.demands.proofs.RecordBack.{record-bytes, record-samples, record-traces, record-no-cause, record-again}
 use Rattle.demands.proofs.Taken.{meant-count}
-use Rattle.demands.proofs.Valid.{RecordRight, record-fine, record-right}
+use Rattle.demands.proofs.Valid.{record-fine, record-right}
 use Rattle.demands.proofs.Demand2.{reading}
+use Rattle.demands.specs.ValidRecord.{RecordRight}
+use Rattle.demands.specs.Results.{RecordHolds}
 
 -- ## The record that reading gives
-
--- r is a valid record, with the T and N of t and n, that holds what the reel s means.
-pub record RecordHolds (s : List ℕ) (t n : ℕ) (r : List ℕ) : Type 0 where
-  -- It is a list of bytes, and it is valid: neither 12 nor 13 applies to it, which `valid-is` spells out.
-  pub bytes : Bytes r
-  pub valid : formCauses r ≡ Fine
-  -- It holds what the reel means.
-  pub holds : heldBy r ≡ meaningOf s
-  -- Its T and N are t and n.
-  pub traces : heldCount r (heldSamples r) ≡ t
-  pub samples : heldSamples r ≡ n
 
 -- The record of what a reel means to which no cause of 1 to 9 applies.
 meant : (s : List ℕ) → Bytes s → causesOf s ≡ Fine → RecordHolds s (tracesOf s) (samplesOf s) (recordOf (meaningOf s))
@@ -62,7 +54,8 @@ meant s b f =
       samples = record-samples n i m p;
     }
 
--- THEOREM. Every record that reading gives is valid and holds what the reel means.
+-- THEOREM. "A reel becomes the record that SEG-Y revision 0 and the IBM floating point word define": every record that reading gives is valid and
+-- holds what the reel means.
 -- Rules out a reader that gives one fixed record, one that writes nothing and says taken, one that converts the first trace and copies it for
 -- the rest, and one whose T or length is invented; two's complement for the IBM fraction, keeping minus zero, and filling field 115 only for
 -- the first trace.
@@ -75,17 +68,19 @@ read-valid s out t n l b e =
 
 -- ## Valid records
 
--- THEOREM. Neither 12 nor 13 applies to a record exactly when it is right from tag 01 to its last byte, with some count of traces.
+-- THEOREM. "A record is valid when neither 12 nor 13 applies to it" (document 01): they don't exactly when it is right from tag 01 to its last
+-- byte, with some count of traces.
 -- Alone it rules out none of the list: it spells out what valid means.
 pub valid-is : (r : List ℕ) → Iff (formCauses r ≡ Fine) ((t : ℕ) × RecordRight r t)
 valid-is r = (λ e. (heldCount r (heldSamples r), record-right r e), λ h. record-fine r (h .0) (h .1))
 
--- THEOREM. Two valid records that hold the same are equal byte for byte.
+-- THEOREM. "Two records are equal byte for byte when they have the same length and the same bytes" (document 01): two valid records that hold the
+-- same are.
 -- With `read-valid` it leaves no second record to a reel. Alone it rules out none of the list, as it speaks of records only.
 pub held-same : (r₁ r₂ : List ℕ) → Bytes r₁ → Bytes r₂ → formCauses r₁ ≡ Fine → formCauses r₂ ≡ Fine → heldBy r₁ ≡ heldBy r₂ → r₁ ≡ r₂
 held-same r₁ r₂ b₁ b₂ v₁ v₂ e = sym (held-again r₁ b₁ v₁) ∙ ap recordOf e ∙ held-again r₂ b₂ v₂
 
--- THEOREM. A valid record is the record of what it holds.
+-- THEOREM. "gives the record again" (demand 2): a valid record is the record of what it holds.
 -- Alone it rules out none of the list; `read-back` and `reel-again`, which do, rest on it.
 pub held-record : (r : List ℕ) → Bytes r → formCauses r ≡ Fine → recordOf (heldBy r) ≡ r
 held-record = held-again

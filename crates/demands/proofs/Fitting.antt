@@ -3,33 +3,30 @@
 -- 14 finds nothing in a record exactly when each sample that it holds has a word under the target code; and a value with a canonical pair
 -- has one exactly when some word of that code has the value. Assumes nothing.
 use mathlib.Core.Path.{_≡_, refl, sym, ap, _∙_, subst}
-use mathlib.Core.List.{List, [], _∷_}
+use mathlib.Core.List.{List}
 use mathlib.Core.Bool.{Bool, true, false}
-use Prim.Native.Nat.{ℕ, zero, suc, _+_}
-use native.Mathlib.Omega.{arith}
+use Prim.Native.Nat.{ℕ, _+_}
 use lib.Dec.{T}
-use lib.ListN.{length}
 use lib.IntN.{ℤ}
-use Rattle.numbers.specs.Walk.{walk}
 use Rattle.numbers.specs.BigEndian.{bytesOf}
-use Rattle.numbers.specs.Cause.{refuseIf, firstOf}
-use Rattle.numbers.specs.declared.Check.{Check}
+use Rattle.numbers.specs.Cause.{refuseIf}
 use Rattle.numbers.specs.declared.Check.the-variants.{Fine}
-use Rattle.numbers.proofs.WalkLaws.{All, all-walk}
-use Rattle.numbers.proofs.ByteLaws.{Bytes}
-use Rattle.numbers.proofs.CauseLaws.{passed, AllFine, first-all}
-use Rattle.value.specs.Value.{isCode, exactValue}
+use Rattle.numbers.specs.Terms.{All}
+use Rattle.numbers.specs.Iff.{Iff}
+use Rattle.numbers.proofs.CauseLaws.{passed, first-all, all-first}
+use Rattle.numbers.proofs.ByteLaws.{bytes-of}
+use Rattle.value.specs.Value.{isCode}
 use Rattle.value.specs.Pair.{pairOf, isCanonical, pairLength}
 use Rattle.value.specs.Writing.{wordOf, writePair}
 use Rattle.value.specs.declared.Written.{Written}
 use Rattle.value.specs.declared.Written.the-variants.{Word, Refused}
-use Rattle.sample.specs.Reading.{badGain}
-use Rattle.sample_theorems.proofs.Pairs.{Iff, pair-value}
+use Rattle.sample_theorems.proofs.Pairs.{pair-value}
 use Rattle.sample_theorems.proofs.Words.{Writes, written-is, writing-sound, writing-complete}
 use Rattle.reel.specs.Meaning.{Trace, Meaning}
 use Rattle.record.specs.Form.{tracesPlace, heldSamples, heldStride, heldCount}
 use Rattle.record.specs.Held.{heldValue, heldTrace, heldBy}
 use Rattle.fit.specs.Target.{isUnfit, fitCause, traceFit, fitCauses}
+use Rattle.demands.specs.Words.{HasWord}
 
 -- ## What a record holds
 
@@ -40,17 +37,6 @@ FittingTrace code t = All (λ v. isUnfit (wordOf code v) ≡ false) (t .values)
 -- Each value of a meaning has a word under the code.
 abbrev pub Fitting : ℕ → Meaning → Type 0
 Fitting code m = All (FittingTrace code) (m .traces)
-
--- Where none of a list of checks finds anything, the list finds nothing.
-fine-each : (cs : List Check) → AllFine cs → firstOf cs ≡ Fine
-fine-each [] h = refl
-fine-each (c ∷ cs) h = rw (h .0) (fine-each cs (h .1))
-
--- Where P of the value at an offset shows that the check there finds nothing, P of each value along a walk shows that the checks along it
--- find nothing.
-all-first : {A : Type 0} (f : ℕ → Check) (g : ℕ → A) (P : A → Type 0) → ((a : ℕ) → P (g a) → f a ≡ Fine)
-    → (w k at : ℕ) → All P (walk g w k at) → firstOf (walk f w k at) ≡ Fine
-all-first f g P h w k at p = fine-each (walk f w k at) (all-walk P (λ c. c ≡ Fine) g f h w k at p)
 
 -- 14 finds nothing in a trace exactly when each of its values has a word.
 trace-fit-is : (s : List ℕ) (code n at : ℕ) → Iff (traceFit s code n at ≡ Fine) (FittingTrace code (heldTrace s n at))
@@ -71,23 +57,6 @@ fit-is s code =
     )
 
 -- ## A value
-
--- Some word of the code, which reading takes, has the value v.
-pub record HasWord (code : ℕ) (v : ℤ) : Type 0 where
-  pub word : List ℕ
-  pub size : length word ≡ 4
-  pub bytes : Bytes word
-  pub good : badGain code word ≡ false
-  pub value : exactValue code word ≡ v
-
--- Each sample of a list of traces has a word under the code.
-abbrev pub Worded : ℕ → List Trace → Type 0
-Worded code l = All (λ (t : Trace). All (HasWord code) (t .values)) l
-
--- The bytes of a number are bytes.
-bytes-of : (k n : ℕ) → Bytes (bytesOf k n)
-bytes-of zero n = tt
-bytes-of (suc k) n = (omega arith, bytes-of k n)
 
 -- What is not unfit is a word.
 fit-word : (r : Written) → isUnfit r ≡ false → Writes r

@@ -14,13 +14,14 @@ use Rattle.numbers.specs.TwosComplement.{signedOf, bitsOf}
 use Rattle.numbers.specs.Cause.{firstOf}
 use Rattle.numbers.specs.declared.Check.{Check}
 use Rattle.numbers.specs.declared.Check.the-variants.{Fine}
-use Rattle.numbers.proofs.WalkLaws.{All, cons-eq, flat-size, bytes-part}
-use Rattle.numbers.proofs.ByteLaws.{number-bytes}
+use Rattle.numbers.specs.Terms.{All}
+use Rattle.numbers.proofs.WalkLaws.{cons-eq, flat-size, bytes-part}
+use Rattle.numbers.proofs.ByteLaws.{number-bytes, length-bytes}
 use Rattle.numbers.proofs.SignLaws.{signed-bits, bits-lt}
 use Rattle.reel.specs.Layout.{fieldsFrom, fieldNumber}
 use Rattle.record.specs.Record.{numberBytes}
 use Rattle.record.proofs.NumberLaws.{pow-bytes, total}
-use Rattle.reel_theorems.proofs.Ranges.{Fit, length-bytes, size-numbers}
+use Rattle.reel_theorems.proofs.Ranges.{Fit, size-numbers}
 
 -- From the offset p on, the list s is l.
 pub record From (s : List ℕ) (p : ℕ) (l : List ℕ) : Type 0 where

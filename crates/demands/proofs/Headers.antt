@@ -2,53 +2,33 @@
 -- Assumes nothing.
 use mathlib.Core.Path.{_≡_, refl, sym, ap, ap₂, _∙_, subst}
 use mathlib.Core.List.{List, [], _∷_, _++_, map, append-assoc}
-use Prim.Native.Nat.{ℕ, zero, suc, _+_, _-_, _*_, _^_, _<_}
+use Prim.Native.Nat.{ℕ, _+_, _*_, _^_, _<_}
 use native.Mathlib.Omega.{arith}
 use lib.ListN.{length, getD, take, drop, replicate, length-append, length-replicate, take-append-drop}
 use lib.IntN.{ℤ, pos}
-use Rattle.numbers.specs.Walk.{flat}
 use Rattle.numbers.specs.BigEndian.{bytesOf}
 use Rattle.numbers.specs.TwosComplement.{signedOf, bitsOf}
-use Rattle.numbers.proofs.WalkLaws.{All}
-use Rattle.numbers.proofs.ByteLaws.{Bytes, number-at}
+use Rattle.numbers.specs.Terms.{All, Bytes}
+use Rattle.numbers.proofs.AllLaws.{all-append}
+use Rattle.numbers.proofs.ByteLaws.{bytes-of, length-bytes, number-at}
 use Rattle.numbers.proofs.SignLaws.{bits-signed}
 use Rattle.reel.specs.Layout.{fieldsFrom, binaryWidths, binaryFields, traceWidths, traceFields, fieldNumber, number16}
 use Rattle.reel.specs.Meaning.{otherThan, Trace, Meaning}
 use Rattle.record.specs.Record.{numberBytes, binaryBytes}
 use Rattle.record.proofs.NumberLaws.{numbers-append}
 use Rattle.record.proofs.HeaderLaws.{binary-front, binary-back, binary-widths, trace-front, trace-back, countField, intervalField, counts, parts}
-use Rattle.reel_theorems.proofs.Ranges.{Fit, length-bytes, size-numbers}
+use Rattle.reel_theorems.proofs.Ranges.{fit-length, size-numbers}
 use Rattle.demands.proofs.Proper.{ProperTrace, Proper}
 use Rattle.demands.proofs.From.{From, from-at, from-next, from-number, from-header, from-numbers}
 
 -- ## Lists of bytes
 
--- What holds of each element of two lists holds of each of both, one behind the other.
-pub all-append : {A : Type 0} (P : A → Type 0) (x y : List A) → All P x → All P y → All P (x ++ y)
-all-append P [] y p q = q
-all-append P (a ∷ x) y p q = (p .0, all-append P x y (p .1) q)
-
--- Where each value of a list, of which P holds, is encoded in bytes, the joined encodings are bytes.
-pub bytes-flat : {A : Type 0} (g : A → List ℕ) (P : A → Type 0) → ((a : A) → P a → Bytes (g a)) → (l : List A) → All P l → Bytes (flat (map g l))
-bytes-flat g P h [] p = tt
-bytes-flat g P h (a ∷ l) p = all-append (λ b. b < 256) (g a) (flat (map g l)) (h a (p .0)) (bytes-flat g P h l (p .1))
-
--- The bytes of a number are bytes.
-pub bytes-of : (k n : ℕ) → Bytes (bytesOf k n)
-bytes-of zero n = tt
-bytes-of (suc k) n = (omega arith, bytes-of k n)
-
--- So are those of header numbers.
+-- The bytes of header numbers are bytes.
 pub bytes-numbers : (ws : List ℕ) (zs : List ℤ) → Bytes (numberBytes ws zs)
 bytes-numbers [] zs = tt
 bytes-numbers (w ∷ ws) [] = tt
 bytes-numbers (w ∷ ws) (z ∷ zs) =
     all-append (λ b. b < 256) (bytesOf w (bitsOf (8 * w) z)) (numberBytes ws zs) (bytes-of w (bitsOf (8 * w) z)) (bytes-numbers ws zs)
-
--- So are zeros.
-pub bytes-zeros : (k : ℕ) → Bytes (replicate k 0)
-bytes-zeros zero = tt
-bytes-zeros (suc k) = (omega arith, bytes-zeros k)
 
 -- There are as many zeros as were asked for.
 pub size-zeros : (k : ℕ) → length (replicate {A = ℕ} k 0) ≡ k
@@ -74,20 +54,13 @@ meaning-eq {a} {b} p q r = ap₂ (λ (x : List ℕ) (y : List ℤ). made x y (a 
 
 -- ## The binary header
 
--- There are as many fields as numbers that fit them.
-fit-length : (ws : List ℕ) (zs : List ℤ) → Fit ws zs → length ws ≡ length zs
-fit-length [] [] h = refl
-fit-length [] (z ∷ zs) h = absurd h
-fit-length (w ∷ ws) [] h = absurd h
-fit-length (w ∷ ws) (z ∷ zs) h = ap suc (fit-length ws zs (h .2))
-
 -- The eighth of the 26 binary numbers is field 3221.
-eighth : (s : List ℕ) (start : ℕ) → getD (map (fieldNumber s start) (otherThan 3225 binaryFields)) 7 (pos 0) ≡ signedOf 16 (number16 s (start + 3220))
+pub eighth : (s : List ℕ) (start : ℕ) → getD (map (fieldNumber s start) (otherThan 3225 binaryFields)) 7 (pos 0) ≡ signedOf 16 (number16 s (start + 3220))
 unfolding binaryFields binaryWidths
 eighth s start = refl
 
 -- The sixth of them is field 3217.
-sixth : (s : List ℕ) (start : ℕ) → getD (map (fieldNumber s start) (otherThan 3225 binaryFields)) 5 (pos 0) ≡ signedOf 16 (number16 s (start + 3216))
+pub sixth : (s : List ℕ) (start : ℕ) → getD (map (fieldNumber s start) (otherThan 3225 binaryFields)) 5 (pos 0) ≡ signedOf 16 (number16 s (start + 3216))
 unfolding binaryFields binaryWidths
 sixth s start = refl
 

@@ -10,6 +10,7 @@ pub mod ReelBack
 pub mod RecordBack
 pub mod WrittenSize
 pub mod Taken
+pub mod FormRefusals
 pub mod WriteRefusals
 pub mod Demand1
 pub mod Demand2

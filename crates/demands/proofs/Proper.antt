@@ -5,13 +5,13 @@ use mathlib.Core.Bool.{true}
 use Prim.Native.Nat.{ℕ, _≤_, _<_}
 use lib.ListN.{length, getD, take, drop}
 use lib.IntN.{pos}
-use Rattle.numbers.proofs.WalkLaws.{All}
 use Rattle.value.specs.Pair.{pairOf, isCanonical}
 use Rattle.reel.specs.Layout.{cardBytes, traceWidths}
 use Rattle.reel.specs.Causes.{mostSamples, mostTraces, mostInterval}
 use Rattle.reel.specs.Meaning.{Trace, Meaning}
 use Rattle.record.proofs.HeaderLaws.{binary-front, binary-back}
 use Rattle.reel_theorems.proofs.Ranges.{Fit}
+use Rattle.numbers.specs.Terms.{All}
 
 -- A trace of n samples with interval i: fields 115 and 117 are the 39th and the 40th of the 71.
 pub record ProperTrace (n i : ℕ) (t : Trace) : Type 0 where

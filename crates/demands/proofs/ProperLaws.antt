@@ -3,7 +3,7 @@
 -- What a reel means to which no cause of 1 to 9 applies, and what a record holds to which neither 12 nor 13 applies. Each byte of either is
 -- below 256; nothing else is assumed.
 use mathlib.Core.Path.{_≡_, refl, ap, _∙_}
-use mathlib.Core.List.{List, [], _∷_, map}
+use mathlib.Core.List.{List, map}
 use mathlib.Core.Bool.{Bool, true, false}
 use Prim.Native.Nat.{ℕ, zero, suc, _+_, _^_, _<_}
 use native.Mathlib.Nat.{mul-one}
@@ -17,9 +17,11 @@ use Rattle.numbers.specs.Places.{bytePlace}
 use Rattle.numbers.specs.TwosComplement.{signedOf}
 use Rattle.numbers.specs.Cause.{refuseIf}
 use Rattle.numbers.specs.declared.Check.the-variants.{Fine}
-use Rattle.numbers.proofs.WalkLaws.{All, size-walk, size-bytes}
-use Rattle.numbers.proofs.ByteLaws.{Bytes, bytes-at}
+use Rattle.numbers.specs.Terms.{All, Bytes}
+use Rattle.numbers.proofs.WalkLaws.{size-walk, size-bytes, all-both}
+use Rattle.numbers.proofs.ByteLaws.{bytes-at}
 use Rattle.numbers.proofs.CauseLaws.{passed, then-fine, first-all}
+use Rattle.numbers.proofs.AllLaws.{all-each, all-map}
 use Rattle.value.specs.Pair.{pairOf, isCanonical, pairLength, pairIn}
 use Rattle.sample_theorems.proofs.Pairs.{value-pair-back}
 use Rattle.reel.specs.Layout.{cardBytes, binaryWidths, binaryFields, traceWidths, traceFields, fieldNumber, firstTrace, number16, samplesOf, intervalOf, codeOf, strideOf, tracesOf}
@@ -33,7 +35,8 @@ use Rattle.record.proofs.FormLaws.{tags-most}
 use Rattle.reel_theorems.proofs.Ranges.{Fit, Some, fields-fit}
 use Rattle.reel_theorems.proofs.Same.{allSome, some-of, binary-front-some, binary-back-some, trace-like, eighth}
 use Rattle.demands.proofs.Proper.{ProperTrace, Proper}
-use Rattle.demands.proofs.Valid.{CanonicalAt, tracePlace, pairPlace, TraceRight, record-right, all-each}
+use Rattle.demands.proofs.Valid.{record-right}
+use Rattle.demands.specs.ValidRecord.{CanonicalAt, tracePlace, pairPlace, TraceRight}
 
 -- ## Numbers and lists
 
@@ -52,11 +55,6 @@ some-not n = ne-eqb (suc n) 0 no
 trace-some : Some traceWidths
 unfolding allSome traceWidths
 trace-some = some-of traceWidths refl
-
--- What holds of each element of a list, and what else holds of each, hold both of each.
-all-both : {A : Type 0} (P Q : A → Type 0) (l : List A) → All P l → All Q l → All (λ x. P x × Q x) l
-all-both P Q [] p q = tt
-all-both P Q (x ∷ l) p q = ((p .0, q .0), all-both P Q l (p .1) (q .1))
 
 -- ## What a record holds
 
@@ -83,8 +81,8 @@ trace-held s h p q k t =
     let at = tracePlace s k in
     record {
       fit = fields-fit s h (at + 3) 1 traceWidths trace-some;
-      n-is = held-count s at ∙ ap (signedOf 16) (t .count) ∙ signed-low n p;
-      i-is = held-interval s at ∙ ap (signedOf 16) (t .interval) ∙ signed-low i q;
+      n-is = held-count s at ∙ ap (signedOf 16) (t .front .count) ∙ signed-low n p;
+      i-is = held-interval s at ∙ ap (signedOf 16) (t .front .interval) ∙ signed-low i q;
       size = size-walk (heldValue s) pairLength n (at + 186);
       canonical = all-each (λ v. isCanonical (pairOf v) ≡ true) (heldValue s) pairLength n (at + 186) (λ j l. value-held s (pairPlace s k j) (t .pairs j l));
     }
@@ -128,11 +126,6 @@ held-proper r h e =
 blank-some : (b : ℕ) → b < 256 → (0 < blank b) × (blank b < 256)
 blank-some zero h = (omega arith, omega arith)
 blank-some (suc b) h = rw (some-not b) (omega arith, h)
-
--- Where P of an element shows Q of its image, P of each element of a list shows Q of each of the list mapped.
-all-map : {A B : Type 0} (P : A → Type 0) (Q : B → Type 0) (f : A → B) → ((a : A) → P a → Q (f a)) → (l : List A) → All P l → All Q (map f l)
-all-map P Q f h [] p = tt
-all-map P Q f h (x ∷ l) p = (h x (p .0), all-map P Q f h l (p .1))
 
 -- The card text is 3,200 bytes other than 00.
 card-text : (s : List ℕ) → Bytes s → All (λ b. (0 < b) × (b < 256)) (cardText s)

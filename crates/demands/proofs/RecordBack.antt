@@ -5,7 +5,7 @@
 use mathlib.Core.Path.{_≡_, refl, sym, ap, _∙_, subst}
 use mathlib.Core.List.{List, [], _∷_, _++_, map, map-id, append-nil}
 use mathlib.Core.Bool.{Bool, true, false, not}
-use Prim.Native.Nat.{ℕ, zero, suc, _+_, _-_, _*_, _^_, _≤_, _<_}
+use Prim.Native.Nat.{ℕ, zero, suc, _+_, _*_, _^_, _≤_, _<_}
 use native.Mathlib.Nat.{mul-comm, not-suc-le-zero}
 use native.Mathlib.Omega.{arith}
 use borrow.Author.Tests.{le-ltb, le-leb, eq-eqb, ne-eqb}
@@ -15,11 +15,13 @@ use lib.IntN.{ℤ}
 use Rattle.numbers.specs.Walk.{walk, flat, bytesAt}
 use Rattle.numbers.specs.Places.{bytePlace}
 use Rattle.numbers.specs.BigEndian.{number, bytesOf}
-use Rattle.numbers.specs.Cause.{refuseIf, then, firstOf}
-use Rattle.numbers.specs.declared.Check.{Check}
+use Rattle.numbers.specs.Cause.{refuseIf, firstOf}
 use Rattle.numbers.specs.declared.Check.the-variants.{Fine}
-use Rattle.numbers.proofs.WalkLaws.{All, flat-size}
-use Rattle.numbers.proofs.ByteLaws.{Bytes}
+use Rattle.numbers.specs.Terms.{All, Bytes}
+use Rattle.numbers.proofs.WalkLaws.{flat-size}
+use Rattle.numbers.proofs.ByteLaws.{length-bytes, bytes-of}
+use Rattle.numbers.proofs.AllLaws.{all-append, all-flat}
+use Rattle.numbers.proofs.RowLaws.{then-second}
 use Rattle.value.specs.Pair.{pairOf, valueOf, isCanonical, pairLength, pairIn}
 use Rattle.sample_theorems.proofs.Pairs.{pair-value, bytes-pair}
 use Rattle.reel.specs.Layout.{cardBytes, binaryFields, traceWidths, fieldNumber, number16}
@@ -29,11 +31,10 @@ use Rattle.record.specs.Record.{field, numberBytes, binaryBytes, valueBytes, sa
 use Rattle.record.specs.Form.{fieldCause, cardCause, cardsCauses, heldInterval, heldSamples, heldCode, numberCauses, binaryCauses, tracesPlace, heldStride, pairCause, samplesCauses, traceForm, tagsFrom, heldCount, endCauses, bodyCauses, formCauses}
 use Rattle.record.proofs.FormLaws.{trace-parts}
 use Rattle.record.specs.Held.{heldValue, heldTrace, heldBy}
-use Rattle.reel_theorems.proofs.Ranges.{length-bytes}
 use Rattle.reel_theorems.proofs.Same.{size-field, trace-eq}
 use Rattle.demands.proofs.Proper.{ProperTrace, Proper}
 use Rattle.demands.proofs.From.{From, from-start, from-at, from-parts, from-next, from-bytes, from-byte, from-behind, from-walk, from-fine, from-number}
-use Rattle.demands.proofs.Headers.{all-append, bytes-flat, bytes-of, bytes-numbers, bytes-cards, size-binary, bytes-binary, binary-again, code-again, samples-again, interval-again, size-header, numbers-again, count-again, spacing-again, meaning-eq}
+use Rattle.demands.proofs.Headers.{bytes-numbers, bytes-cards, size-binary, bytes-binary, binary-again, code-again, samples-again, interval-again, size-header, numbers-again, count-again, spacing-again, meaning-eq}
 
 -- ## Fields
 
@@ -69,10 +70,6 @@ module _ (s : List ℕ) (tag size : ℕ) (l : List ℕ) (e : length l ≡ size) 
       let k : number16 s (at + 1) ≡ size = from-number 2 (length l) (l ++ rest) (rw e h) from-size ∙ e in
       rw (le-leb (at + (3 + size)) (length s) long, eq-eqb (getD s at 0) tag tag-is, eq-eqb (number16 s (at + 1)) size k)
 
--- Two checks of which neither finds anything.
-both-fine : {c d : Check} → c ≡ Fine → d ≡ Fine → then c d ≡ Fine
-both-fine {c} {d} p q = ap (λ (x : Check). then x d) p ∙ q
-
 -- ## Samples
 
 -- The pair of a value with a canonical pair is found in its bytes.
@@ -99,7 +96,7 @@ module _ (n i : ℕ) (t : Trace) (h : ProperTrace n i t) where
   bytes-trace =
       all-append (λ b. b < 256) (field 3 (numberBytes traceWidths (t .numbers))) (field 4 (flat (map valueBytes (t .values))))
       (bytes-field 3 (numberBytes traceWidths (t .numbers)) (omega arith) (bytes-numbers traceWidths (t .numbers)))
-      (bytes-field 4 (flat (map valueBytes (t .values))) (omega arith) (bytes-flat valueBytes (λ v. isCanonical (pairOf v) ≡ true) (λ v p. bytes-value v) (t .values) (h .canonical)))
+      (bytes-field 4 (flat (map valueBytes (t .values))) (omega arith) (all-flat (λ b. b < 256) valueBytes (λ v. isCanonical (pairOf v) ≡ true) (λ v p. bytes-value v) (t .values) (h .canonical)))
     where
       bytes-value : (v : ℤ) → Bytes (valueBytes v)
       bytes-value v = all-append (λ b. b < 256) (bytesOf 2 _) (bytesOf 4 _) (bytes-of 2 _) (bytes-of 4 _)
@@ -131,7 +128,7 @@ module _ (n i : ℕ) (t : Trace) (h : ProperTrace n i t) where
     samples-fine : n ≤ mostSamples → samplesCauses s n (at + 183) ≡ Fine
     unfolding samplesCauses
     samples-fine few =
-        both-fine (field-fine s 4 (pairLength * n) _ size-samples (at + 183) rest from-field (omega arith))
+        then-second _ _ (field-fine s 4 (pairLength * n) _ size-samples (at + 183) rest from-field (omega arith))
         (ap (λ (k : ℕ). firstOf (walk (pairCause s) pairLength k (at + 183 + 3))) (sym (h .size))
         ∙ from-fine s valueBytes (λ v. isCanonical (pairOf v) ≡ true) pairLength (λ v p. refl) (pairCause s)
         (λ v p r q e. ap (λ (x : Bool). refuseIf (not x) 13 p) (ap isCanonical (pair-again s v p r q e) ∙ q)) (t .values) (at + 183 + 3) rest (h .canonical) from-samples)
@@ -142,7 +139,7 @@ module _ (n i : ℕ) (t : Trace) (h : ProperTrace n i t) where
         let a : number16 s (bytePlace (at + 3) 115) ≡ n = ap (number16 s) (omega arith) ∙ count-again n i t h s b (at + 3) _ from-numbers in
         let c : number16 s (bytePlace (at + 3) 117) ≡ i = ap (number16 s) (omega arith) ∙ spacing-again n i t h s b (at + 3) _ from-numbers in
         trace-parts s n i at
-        ∙ both-fine (field-fine s 3 180 _ (size-header n i t h) at _ from-header (omega arith))
+        ∙ then-second _ _ (field-fine s 3 180 _ (size-header n i t h) at _ from-header (omega arith))
         (rw (eq-eqb (number16 s (bytePlace (at + 3) 115)) n a, eq-eqb (number16 s (bytePlace (at + 3) 117)) i c) (samples-fine few))
 
     -- It holds the trace.
@@ -212,7 +209,7 @@ module _ (n i : ℕ) (m : Meaning) (p : Proper n i m) where
       let traces = flat (map traceBytes (m .traces)) in
       all-append byte (field 1 (m .cards)) (field 2 (binaryBytes 0 (m .binary)) ++ (traces ++ count)) (bytes-field 1 (m .cards) (omega arith) (bytes-cards (m .cards) (p .cards)))
       (all-append byte (field 2 (binaryBytes 0 (m .binary))) (traces ++ count) (bytes-field 2 (binaryBytes 0 (m .binary)) (omega arith) (bytes-binary n i m p 0))
-      (all-append byte traces count (bytes-flat traceBytes (ProperTrace n i) (bytes-trace n i) (m .traces) (p .traces)) (bytes-field 5 (bytesOf 4 (length (m .traces))) (omega arith) (bytes-of 4 (length (m .traces))))))
+      (all-append byte traces count (all-flat (λ b. b < 256) traceBytes (ProperTrace n i) (bytes-trace n i) (m .traces) (p .traces)) (bytes-field 5 (bytesOf 4 (length (m .traces))) (omega arith) (bytes-of 4 (length (m .traces))))))
 
   -- The record begins with tag 01,
   from-front : From (recordOf m) 0 (field 1 (m .cards) ++ (field 2 (binaryBytes 0 (m .binary)) ++ (flat (map traceBytes (m .traces)) ++ field 5 (bytesOf 4 (length (m .traces))))))
@@ -262,7 +259,7 @@ module _ (n i : ℕ) (m : Meaning) (p : Proper n i m) where
   front-fine : cardsCauses (recordOf m) ≡ Fine
   unfolding cardsCauses
   front-fine =
-      both-fine (field-fine (recordOf m) 1 3200 (m .cards) (p .size) 0 _ from-front (omega arith))
+      then-second _ _ (field-fine (recordOf m) 1 3200 (m .cards) (p .size) 0 _ from-front (omega arith))
       (cards-fine (recordOf m) (m .cards) 3200 3 _ (p .size) (p .cards) from-cards)
 
   -- nor 13 to the numbers of tag 02,
@@ -273,7 +270,7 @@ module _ (n i : ℕ) (m : Meaning) (p : Proper n i m) where
   second-fine : binaryCauses (recordOf m) ≡ Fine
   unfolding binaryCauses
   second-fine =
-      both-fine (field-fine (recordOf m) 2 60 (binaryBytes 0 (m .binary)) (size-binary n i m p 0) 3203 _ from-second (omega arith))
+      then-second _ _ (field-fine (recordOf m) 2 60 (binaryBytes 0 (m .binary)) (size-binary n i m p 0) 3203 _ from-second (omega arith))
       (rw (record-interval, record-samples, record-code) limits-fine)
 
   -- nor to a trace,
@@ -290,18 +287,18 @@ module _ (n i : ℕ) (m : Meaning) (p : Proper n i m) where
       let count : number (bytesAt (recordOf m) (at + 3) 4) ≡ t =
       from-number 4 t [] (omega (arith, p .few)) (from-content (recordOf m) 5 4 (bytesOf 4 t) (length-bytes 4 t) at [] from-end) in
       let last : length (recordOf m) ≤ at + 7 = omega (arith, record-length) in
-      both-fine (field-fine (recordOf m) 5 4 (bytesOf 4 t) (length-bytes 4 t) at [] from-end (omega arith))
+      then-second _ _ (field-fine (recordOf m) 5 4 (bytesOf 4 t) (length-bytes 4 t) at [] from-end (omega arith))
       (rw (eq-eqb (number (bytesAt (recordOf m) (at + 3) 4)) t count, le-ltb (at + 7) (length (recordOf m)) last))
 
   -- nor to what stands behind tag 02.
   body-fine : bodyCauses (recordOf m) n i (length (m .traces)) ≡ Fine
   unfolding bodyCauses
-  body-fine = both-fine traces-fine end-fine
+  body-fine = then-second _ _ traces-fine end-fine
 
   -- LAW. The record is valid: neither 12 nor 13 applies to it.
   pub record-no-cause : formCauses (recordOf m) ≡ Fine
   unfolding formCauses
-  record-no-cause = both-fine front-fine (both-fine second-fine (rw (record-samples, record-interval, record-traces) body-fine))
+  record-no-cause = then-second _ _ front-fine (then-second _ _ second-fine (rw (record-samples, record-interval, record-traces) body-fine))
 
   -- LAW. The record holds the meaning.
   pub record-again : heldBy (recordOf m) ≡ m

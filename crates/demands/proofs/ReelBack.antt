@@ -11,40 +11,39 @@ use native.Mathlib.Omega.{arith}
 use borrow.Author.Tests.{le-ltb, le-leb, eq-eqb, ne-eqb, eqb-true, leb-true}
 use lib.Dec.{T, eqb, leb, ltb}
 use lib.ListN.{length, getD, take, replicate, length-append}
-use lib.Seq.{length-take-le}
 use lib.IntN.{ℤ, pos, natAbs}
 use Rattle.numbers.specs.Walk.{pick, walk, flat, bytesAt}
 use Rattle.numbers.specs.BigEndian.{number, bytesOf}
 use Rattle.numbers.specs.TwosComplement.{signedOf}
 use Rattle.numbers.specs.Cause.{refuseIf, firstOf}
 use Rattle.numbers.specs.declared.Check.the-variants.{Fine}
-use Rattle.numbers.proofs.WalkLaws.{All, all-take, cons-eq, flat-size}
-use Rattle.numbers.proofs.ByteLaws.{Bytes}
+use Rattle.numbers.specs.Terms.{All, Bytes}
+use Rattle.numbers.proofs.WalkLaws.{all-take, cons-eq, flat-size, all-both}
+use Rattle.numbers.proofs.BoolLaws.{and-true}
+use Rattle.numbers.proofs.ByteLaws.{length-bytes, bytes-of}
+use Rattle.numbers.proofs.AllLaws.{all-append, bytes-zeros, all-flat}
 use Rattle.value.specs.Value.{wholeValue, isCode, exactValue}
 use Rattle.value.specs.Pair.{pairOf, isCanonical}
 use Rattle.value.specs.Writing.{wordOf, writePair}
 use Rattle.value.specs.declared.Written.{Written}
 use Rattle.value.specs.declared.Written.the-variants.{Word, Refused}
 use Rattle.sample.specs.Reading.{badGain}
-use Rattle.sample_theorems.proofs.Held.{and-true}
 use Rattle.sample_theorems.proofs.Pairs.{pair-value}
 use Rattle.sample_theorems.proofs.Words.{Says, writing-sound}
 use Rattle.reel.specs.Layout.{cardBytes, firstTrace, traceHeader, binaryFields, traceWidths, traceFields, fieldNumber, intervalOf, samplesOf, codeOf, sampleBytes, stride, strideOf, wholeIn, overIn, tracesOf}
 use Rattle.reel.specs.Causes.{mostSamples, mostTraces, mostInterval, neither, limitCauses, wordCause, traceCauses, behindCauses, causesOf}
 use Rattle.reel.specs.Meaning.{blank, cardText, otherThan, binaryNumbers, filled, traceNumber, Trace, traceMeaning, Meaning, meaningOf}
-use Rattle.reel.proofs.CheckLaws.{width-high}
 use Rattle.record.specs.Record.{numberBytes, binaryBytes}
 use Rattle.fit.specs.Target.{isUnfit}
 use Rattle.record.proofs.HeaderLaws.{trace-numbers, countField, intervalField}
-use Rattle.reel_theorems.proofs.Ranges.{length-bytes}
 use Rattle.reel_theorems.proofs.Same.{trace-eq}
 use Rattle.write_samples.specs.Samples.{wordContent}
-use Rattle.write_samples.proofs.WordLaws.{size-word}
 use Rattle.write_reel.specs.Reel.{sampleWritten, traceWritten, reelOf, reelLength}
 use Rattle.demands.proofs.Proper.{ProperTrace, Proper}
 use Rattle.demands.proofs.Fitting.{Fitting}
 use Rattle.demands.proofs.From.{From, from-start, from-at, from-next, from-bytes, from-walk, from-fine}
-use Rattle.demands.proofs.Headers.{all-append, bytes-flat, bytes-of, bytes-numbers, bytes-zeros, size-zeros, bytes-cards, meaning-eq, size-binary, bytes-binary, binary-again, code-again, samples-again, interval-again, size-header, count-at, interval-at, trace-around, numbers-again, count-again, spacing-again}
+use Rattle.demands.proofs.Headers.{bytes-numbers, size-zeros, bytes-cards, meaning-eq, size-binary, bytes-binary, binary-again, code-again, samples-again, interval-again, size-header, count-at, interval-at, trace-around, numbers-again, count-again, spacing-again}
+use Rattle.demands.proofs.WrittenSize.{sample-size}
 
 -- ## Samples
 
@@ -70,11 +69,7 @@ bytes-content : (w : Written) → Bytes (wordContent w)
 bytes-content (Word k) = bytes-of 4 k
 bytes-content (Refused number) = bytes-zeros 4
 
--- A sample has as many bytes as the code sets.
-size-sample : (code : ℕ) (v : ℤ) → length (sampleWritten code v) ≡ sampleBytes code
-size-sample code v = size-word code (wordOf code v)
-
--- They are bytes.
+-- The bytes of a sample are bytes.
 bytes-sample : (code : ℕ) (v : ℤ) → Bytes (sampleWritten code v)
 bytes-sample code v = all-take (λ b. b < 256) (sampleBytes code) (wordContent (wordOf code v)) (bytes-content (wordOf code v))
 
@@ -116,11 +111,6 @@ read-sample s code v at rest c h f =
 
 -- ## Traces
 
--- What holds of each element of a list, and what else does, hold of each together.
-all-both : {A : Type 0} (P Q : A → Type 0) (l : List A) → All P l → All Q l → All (λ a. P a × Q a) l
-all-both P Q [] p q = tt
-all-both P Q (a ∷ l) p q = ((p .0, q .0), all-both P Q l (p .1) (q .1))
-
 -- A proper trace whose samples have words under the code.
 record Ready (code n i : ℕ) (t : Trace) : Type 0 where
   proper : ProperTrace n i t
@@ -155,16 +145,16 @@ filled-same own z e = go (eqb (natAbs z) 0)
 
 module _ (code n i : ℕ) (c : isCode code ≡ true) (t : Trace) (h : Ready code n i t) where
   -- The samples of a trace on the reel.
-  size-samples : length (flat (map (sampleWritten code) (t .values))) ≡ n * sampleBytes code
-  size-samples =
-      flat-size (sampleWritten code) (Writable code) (sampleBytes code) (λ v q. size-sample code v) (t .values) (h .writable)
+  sample-sizes : length (flat (map (sampleWritten code) (t .values))) ≡ n * sampleBytes code
+  sample-sizes =
+      flat-size (sampleWritten code) (Writable code) (sampleBytes code) (λ v q. sample-size code v) (t .values) (h .writable)
       ∙ ap (λ (k : ℕ). k * sampleBytes code) (h .proper .size)
 
   -- A trace has the bytes of a stride.
   size-trace : length (traceWritten code t) ≡ stride n (sampleBytes code)
   unfolding traceWritten
   size-trace =
-      simp length-append (omega (arith, size-header n i t (h .proper), size-zeros 60, size-samples))
+      simp length-append (omega (arith, size-header n i t (h .proper), size-zeros 60, sample-sizes))
 
   -- They are bytes.
   bytes-trace : Bytes (traceWritten code t)
@@ -174,7 +164,7 @@ module _ (code n i : ℕ) (c : isCode code ≡ true) (t : Trace) (h : Ready code
       let samples = flat (map (sampleWritten code) (t .values)) in
       all-append byte (numberBytes traceWidths (t .numbers)) (replicate 60 0 ++ samples) (bytes-numbers traceWidths (t .numbers))
       (all-append byte (replicate 60 0) samples (bytes-zeros 60)
-      (bytes-flat (sampleWritten code) (Writable code) (λ v q. bytes-sample code v) (t .values) (h .writable)))
+      (all-flat (λ b. b < 256) (sampleWritten code) (Writable code) (λ v q. bytes-sample code v) (t .values) (h .writable)))
 
   -- A trace that stands in a list of bytes.
   module _ (s : List ℕ) (b : Bytes s) (at : ℕ) (rest : List ℕ) (f : From s at (traceWritten code t ++ rest)) where
@@ -195,7 +185,7 @@ module _ (code n i : ℕ) (c : isCode code ≡ true) (t : Trace) (h : Ready code
     unfolding traceCauses
     trace-fine =
         let words =
-        from-fine s (sampleWritten code) (Writable code) (sampleBytes code) (λ v q. size-sample code v) (wordCause s code)
+        from-fine s (sampleWritten code) (Writable code) (sampleBytes code) (λ v q. sample-size code v) (wordCause s code)
         (λ v p r q e. ap (λ (x : Bool). refuseIf x 9 p) (read-sample s code v p r c q e .good)) (t .values) (at + traceHeader) rest (h .writable) from-samples in
         rw (count-again n i t (h .proper) s b at _ from-header, spacing-again n i t (h .proper) s b at _ from-header, neither-same n, neither-same i)
         (ap (λ (k : ℕ). firstOf (walk (wordCause s code) (sampleBytes code) k (at + traceHeader))) (sym (h .proper .size)) ∙ words)
@@ -222,7 +212,7 @@ module _ (code n i : ℕ) (c : isCode code ≡ true) (t : Trace) (h : Ready code
         values : walk (λ p. exactValue code (bytesAt s p 4)) (sampleBytes code) n (at + traceHeader) ≡ t .values
         values =
             ap (λ (k : ℕ). walk (λ p. exactValue code (bytesAt s p 4)) (sampleBytes code) k (at + traceHeader)) (sym (h .proper .size))
-            ∙ from-walk s (sampleWritten code) (Writable code) (sampleBytes code) (λ v q. size-sample code v) (λ p. exactValue code (bytesAt s p 4)) (λ v. v)
+            ∙ from-walk s (sampleWritten code) (Writable code) (sampleBytes code) (λ v q. sample-size code v) (λ p. exactValue code (bytesAt s p 4)) (λ v. v)
             (λ v p r q e. read-sample s code v p r c q e .value) (t .values) (at + traceHeader) rest (h .writable) from-samples
             ∙ map-id (t .values)
 
@@ -263,7 +253,7 @@ module _ (code n i : ℕ) (m : Meaning) (p : Proper n i m) (c : isCode code ≡ 
       all-append byte (m .cards) (binaryBytes code (m .binary) ++ (replicate 340 0 ++ traces)) (bytes-cards (m .cards) (p .cards))
       (all-append byte (binaryBytes code (m .binary)) (replicate 340 0 ++ traces) (bytes-binary n i m p code)
       (all-append byte (replicate 340 0) traces (bytes-zeros 340)
-      (bytes-flat (traceWritten code) (Ready code n i) (bytes-trace code n i c) (m .traces) ready)))
+      (all-flat (λ b. b < 256) (traceWritten code) (Ready code n i) (bytes-trace code n i c) (m .traces) ready)))
 
   -- The card bytes stand at the front,
   from-cards : From (reelOf code m) 0 (m .cards ++ (binaryBytes code (m .binary) ++ (replicate 340 0 ++ flat (map (traceWritten code) (m .traces)))))

@@ -11,10 +11,12 @@ use lib.IntN.{ℤ}
 use Rattle.numbers.specs.Cause.{refuseIf, then}
 use Rattle.numbers.specs.Outcome.{Said, taken, Outcome}
 use Rattle.numbers.specs.declared.Check.{Check}
-use Rattle.numbers.specs.declared.Check.the-variants.{Fine, Refused}
-use Rattle.numbers.proofs.WalkLaws.{All, cons-eq, size-walk}
-use Rattle.numbers.proofs.ByteLaws.{Bytes}
+use Rattle.numbers.specs.declared.Check.the-variants.{Fine}
+use Rattle.numbers.specs.Terms.{All, Bytes}
+use Rattle.numbers.proofs.WalkLaws.{cons-eq, size-walk}
 use Rattle.numbers.proofs.CauseLaws.{passed, then-fine, at-most}
+use Rattle.numbers.proofs.SaidLaws.{says-fine}
+use Rattle.numbers.proofs.AllLaws.{all-with}
 use Rattle.value.specs.Value.{isCode}
 use Rattle.reel.specs.Layout.{firstTrace, intervalOf, samplesOf, codeOf, strideOf, tracesOf}
 use Rattle.reel.specs.Causes.{causesOf}
@@ -27,19 +29,14 @@ use Rattle.read_reel.specs.Reading.{recordLengthOf, readEnd, readOutcome}
 use Rattle.write_reel.specs.Reel.{reelOf}
 use Rattle.write_reel.specs.Writing.{reelLengthOf, writeCauses, writeEnd, writeOutcome}
 use Rattle.reel_theorems.proofs.Same.{record-size}
-use Rattle.reel_theorems.proofs.Output.{not-taken}
 use Rattle.demands.proofs.Proper.{ProperTrace, Proper}
 use Rattle.demands.proofs.Again.{held-again}
 use Rattle.demands.proofs.ProperLaws.{held-proper}
-use Rattle.demands.proofs.Fitting.{FittingTrace, Fitting, fit-is, HasWord, Worded, fits-is}
+use Rattle.demands.proofs.Fitting.{FittingTrace, Fitting, fit-is, fits-is}
 use Rattle.demands.proofs.ReelBack.{reel-bytes, reel-code, reel-samples, reel-traces, reel-no-cause, reel-again}
+use Rattle.demands.specs.Words.{HasWord, Worded}
 
 -- ## Words for every sample
-
--- Where two things that hold of an element show a third, the first two of each element of a list show the third of each.
-all-with : {A : Type 0} (P Q R : A → Type 0) → ((a : A) → P a → Q a → R a) → (l : List A) → All P l → All Q l → All R l
-all-with P Q R h [] p q = tt
-all-with P Q R h (a ∷ l) p q = (h a (p .0) (q .0), all-with P Q R h l (p .1) (q .1))
 
 -- The samples of a proper meaning fit a code of 1 to 4 exactly when each has a word under it.
 module _ (code n i : ℕ) (m : Meaning) (p : Proper n i m) (c : isCode code ≡ true) where
@@ -79,11 +76,8 @@ pub record Writable (r : List ℕ) (code : ℕ) (out : List ℕ) : Type 0 where
 module _ (r : List ℕ) (code : ℕ) (out : List ℕ) where
   -- A writing that is taken has no cause of 10 to 14.
   written-fine : (numbers : List ℕ) → writeOutcome r code out .said ≡ taken numbers → writeCauses r code (length out) ≡ Fine
-  written-fine numbers e = go (writeCauses r code (length out)) refl e
-    where
-      go : (c : Check) → writeCauses r code (length out) ≡ c → writeEnd r code out c .said ≡ taken numbers → writeCauses r code (length out) ≡ Fine
-      go Fine q e = q
-      go (Refused number place) q e = absurd (not-taken e)
+  written-fine numbers e =
+      says-fine (λ (c : Check). writeEnd r code out c .said) _ refl (λ n p. refl) (writeCauses r code (length out)) numbers e
 
   -- It has what it needs,
   pub written-needs : (numbers : List ℕ) → writeOutcome r code out .said ≡ taken numbers → Writable r code out

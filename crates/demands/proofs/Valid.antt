@@ -2,7 +2,7 @@
 --
 -- A record is valid when neither 12 nor 13 applies to it: its fields stand whole one behind the other, and its numbers are within their
 -- limits. Assumes nothing.
-use mathlib.Core.Path.{_≡_, refl, sym, ap, _∙_, subst}
+use mathlib.Core.Path.{_≡_, refl, sym, ap, _∙_}
 use mathlib.Core.List.{List}
 use mathlib.Core.Logic.{_⊎_, inl, inr, ⊎-elim}
 use mathlib.Core.Bool.{Bool, true, false, not}
@@ -13,85 +13,21 @@ use borrow.Author.Tests.{le-leb, eq-eqb, ne-eqb, leb-true, eqb-true, eqb-false}
 use lib.Dec.{leb, ltb, eqb}
 use lib.ListN.{length, getD}
 use Rattle.numbers.specs.Walk.{pick, walk, bytesAt}
-use Rattle.numbers.specs.Places.{bytePlace}
 use Rattle.numbers.specs.BigEndian.{number}
-use Rattle.numbers.specs.Cause.{refuseIf, firstOf}
+use Rattle.numbers.specs.Cause.{refuseIf, then, firstOf}
 use Rattle.numbers.specs.declared.Check.{Check}
 use Rattle.numbers.specs.declared.Check.the-variants.{Fine}
-use Rattle.numbers.proofs.WalkLaws.{All}
+use Rattle.numbers.specs.Terms.{Between}
 use Rattle.numbers.proofs.CauseLaws.{then-fine}
+use Rattle.numbers.proofs.BoolLaws.{and-true, and-both}
+use Rattle.numbers.proofs.RowLaws.{Tests, test-by, then-second, fine-then, holds-then, test-between, test-same, test-room, none-is, none-of, walk-fine, walk-holds}
+use Rattle.numbers.proofs.WalkLaws.{at-zero, at-suc}
 use Rattle.value.specs.Pair.{isCanonical, pairLength, pairIn}
-use Rattle.sample_theorems.proofs.Held.{and-true}
 use Rattle.reel.specs.Layout.{number16}
 use Rattle.reel.specs.Causes.{mostSamples, mostTraces, mostInterval, within}
 use Rattle.record.specs.Form.{isField, fieldCause, cardCause, cardsCauses, heldInterval, heldSamples, heldCode, binaryCauses, tracesPlace, heldStride, pairCause, samplesCauses, traceForm, tagsFrom, heldCount, endCauses, bodyCauses, formCauses}
-use Rattle.reel_theorems.proofs.TestLaws.{Between, Tests, test-by, fine-where, holds-where, then-second, and-both, test-between, test-same, test-room, at-zero, at-suc, none-is, none-of, walk-fine, walk-holds}
 use Rattle.record.proofs.FormLaws.{trace-parts, tags-most}
-
--- ## The terms
-
--- A field of this tag and length stands whole at the place `at`.
-pub record Stands (s : List ℕ) (tag size at : ℕ) : Type 0 where
-  pub whole : at + (3 + size) ≤ length s
-  pub tag-is : getD s at 0 ≡ tag
-  pub size-is : number16 s (at + 1) ≡ size
-
--- The pair at a place is canonical.
-abbrev pub CanonicalAt : List ℕ → ℕ → Type 0
-CanonicalAt s at = isCanonical (pairIn (bytesAt s at pairLength)) ≡ true
-
--- The place of trace k in a record, counted from 0; behind the last trace it is the place of tag 05.
-abbrev pub tracePlace : List ℕ → ℕ → ℕ
-tracePlace s k = tracesPlace + k * heldStride (heldSamples s)
-
--- The place of pair j of trace k, behind tag 03 with its 180 bytes and tag 04 with its length.
-abbrev pub pairPlace : List ℕ → ℕ → ℕ → ℕ
-pairPlace s k j = tracePlace s k + 186 + j * pairLength
-
--- Tag 01 stands at the front with its 3,200 card bytes, none of them 00.
-pub record CardsRight (s : List ℕ) : Type 0 where
-  pub cards : Stands s 1 3200 0
-  pub card-bytes : (j : ℕ) → j < 3200 → ¬ (getD s (3 + j) 0 ≡ 0)
-
--- Then tag 02 stands with its 60 bytes: interval and N are within their limits, and the format code is 0.
-pub record HeadRight (s : List ℕ) : Type 0 where
-  pub front : CardsRight s
-  pub binary : Stands s 2 60 3203
-  pub interval : Between 1 32767 (heldInterval s)
-  pub samples : Between 1 8000 (heldSamples s)
-  pub code : heldCode s ≡ 0
-
--- Trace k stands: tag 03 with its 180 bytes, of which field 115 is N and field 117 the interval, then tag 04 with N canonical pairs.
-pub record TraceRight (s : List ℕ) (k : ℕ) : Type 0 where
-  pub header : Stands s 3 180 (tracePlace s k)
-  pub count : number16 s (bytePlace (tracePlace s k + 3) 115) ≡ heldSamples s
-  pub interval : number16 s (bytePlace (tracePlace s k + 3) 117) ≡ heldInterval s
-  pub samples : Stands s 4 (6 * heldSamples s) (tracePlace s k + 183)
-  pub pairs : (j : ℕ) → j < heldSamples s → CanonicalAt s (pairPlace s k j)
-
--- All is right up to trace k: tags 01 and 02, and the k traces before it.
-pub record RightUntil (s : List ℕ) (k : ℕ) : Type 0 where
-  pub head : HeadRight s
-  pub before : (i : ℕ) → i < k → TraceRight s i
-
--- All is right up to trace k, and another trace begins there: its tag is 03, and it is none beyond the 100,000th.
-pub record TraceNext (s : List ℕ) (k : ℕ) : Type 0 where
-  pub until : RightUntil s k
-  pub few : k < 100000
-  pub tag : getD s (tracePlace s k) 0 ≡ 3
-
--- All is right up to the end of t traces, and tag 05 should follow: no tag 03 does, or it would be that of trace 100,001.
-pub record EndNext (s : List ℕ) (t : ℕ) : Type 0 where
-  pub until : RightUntil s t
-  pub few : t ≤ 100000
-  pub end : (t ≡ 100000) ⊎ (¬ (getD s (tracePlace s t) 0 ≡ 3))
-
--- A valid record of t traces, to which neither 12 nor 13 applies: behind its traces tag 05 holds their count, and no byte comes after it.
-pub record RecordRight (s : List ℕ) (t : ℕ) : Type 0 where
-  pub end : EndNext s t
-  pub field : Stands s 5 4 (tracePlace s t)
-  pub count : number (bytesAt s (tracePlace s t + 3) 4) ≡ t
-  pub last : length s ≤ tracePlace s t + 7
+use Rattle.demands.specs.ValidRecord.{Stands, CanonicalAt, tracePlace, headerPlace, pairPlace, CardsRight, HeadRight, HeaderRight, TraceRight, RightUntil, TraceNext, EndNext, RecordRight}
 
 -- ## The tests, one by one
 
@@ -130,20 +66,35 @@ module _ (s : List ℕ) where
   pub card-tests : (j : ℕ) → j < 3200 → Tests (¬ (getD s (3 + j) 0 ≡ 0)) 13 (3 + j) (cardCause s (3 + j * 1))
   card-tests j l = rw (mul-one j) (test-card s (3 + j))
 
+  -- The tests of tags 01 and 02, and of what stands in tag 02.
+  pub cards-test : Tests (Stands s 1 3200 0) 12 0 (fieldCause s 1 3200 0)
+  cards-test = test-field s 1 3200 0
+
+  pub binary-test : Tests (Stands s 2 60 3203) 12 3203 (fieldCause s 2 60 3203)
+  binary-test = test-field s 2 60 3203
+
+  pub interval-test : Tests (Between 1 32767 (heldInterval s)) 13 3222 (refuseIf (not (within 1 mostInterval (heldInterval s))) 13 3222)
+  interval-test = test-between 1 32767 (heldInterval s) 13 3222
+
+  pub number-test : Tests (Between 1 8000 (heldSamples s)) 13 3226 (refuseIf (not (within 1 mostSamples (heldSamples s))) 13 3226)
+  number-test = test-between 1 8000 (heldSamples s) 13 3226
+
+  pub code-test : Tests (heldCode s ≡ 0) 13 3230 (refuseIf (not (eqb (heldCode s) 0)) 13 3230)
+  code-test = test-same (heldCode s) 0 13 3230
+
   -- Where tag 01 is right, 12 and 13 find nothing in it.
   pub cards-fine : CardsRight s → cardsCauses s ≡ Fine
   unfolding cardsCauses
   cards-fine h =
-      then-second (fieldCause s 1 3200 0) _ (fine-where (test-field s 1 3200 0) (h .cards))
-      (walk-fine (λ j. ¬ (getD s (3 + j) 0 ≡ 0)) 13 (cardCause s) 1 3200 3 (λ j. 3 + j) card-tests (h .card-bytes))
+      fine-then cards-test (h .cards) (walk-fine (λ j. ¬ (getD s (3 + j) 0 ≡ 0)) 13 (cardCause s) 1 3200 3 (λ j. 3 + j) card-tests (h .card-bytes))
 
   -- And where they find nothing in it, it is right.
   pub cards-right : cardsCauses s ≡ Fine → CardsRight s
   unfolding cardsCauses
   cards-right e =
-      let a = then-fine (fieldCause s 1 3200 0) _ e in
+      let a = holds-then cards-test _ e in
       record {
-        cards = holds-where (test-field s 1 3200 0) (a .0);
+        cards = a .0;
         card-bytes = walk-holds (λ j. ¬ (getD s (3 + j) 0 ≡ 0)) 13 (cardCause s) 1 3200 3 (λ j. 3 + j) card-tests (a .1);
       }
 
@@ -151,26 +102,18 @@ module _ (s : List ℕ) where
   head-fine : HeadRight s → binaryCauses s ≡ Fine
   unfolding binaryCauses
   head-fine h =
-      then-second (fieldCause s 2 60 3203) _ (fine-where (test-field s 2 60 3203) (h .binary))
-      (then-second _ _ (fine-where (test-between 1 mostInterval (heldInterval s) 13 3222) (h .interval))
-      (then-second _ _ (fine-where (test-between 1 mostSamples (heldSamples s) 13 3226) (h .samples))
-      (then-second _ _ (fine-where (test-same (heldCode s) 0 13 3230) (h .code)) refl)))
+      fine-then binary-test (h .binary)
+      (fine-then interval-test (h .interval) (fine-then number-test (h .samples) (fine-then code-test (h .code) refl)))
 
   -- And where they find nothing in it, it is right.
   pub head-right : CardsRight s → binaryCauses s ≡ Fine → HeadRight s
   unfolding binaryCauses
   head-right c e =
-      let d = then-fine (fieldCause s 2 60 3203) _ e in
-      let f = then-fine (refuseIf (not (within 1 mostInterval (heldInterval s))) 13 3222) _ (d .1) in
-      let g = then-fine (refuseIf (not (within 1 mostSamples (heldSamples s))) 13 3226) _ (f .1) in
-      let h = then-fine (refuseIf (not (eqb (heldCode s) 0)) 13 3230) _ (g .1) in
-      record {
-        front = c;
-        binary = holds-where (test-field s 2 60 3203) (d .0);
-        interval = holds-where (test-between 1 mostInterval (heldInterval s) 13 3222) (f .0);
-        samples = holds-where (test-between 1 mostSamples (heldSamples s) 13 3226) (g .0);
-        code = holds-where (test-same (heldCode s) 0 13 3230) (h .0);
-      }
+      let d = holds-then binary-test _ e in
+      let f = holds-then interval-test _ (d .1) in
+      let g = holds-then number-test _ (f .1) in
+      let h = holds-then code-test _ (g .1) in
+      record { front = c; binary = d .0; interval = f .0; samples = g .0; code = h .0 }
 
 -- ## Traces
 
@@ -185,34 +128,51 @@ module _ (s : List ℕ) (k : ℕ) where
       let e : tracePlace s k + 183 + 3 + j * pairLength ≡ pairPlace s k j = omega arith in
       rw e (test-pair s (pairPlace s k j))
 
+  -- The tests of tag 03, of its fields 115 and 117, and of tag 04.
+  pub header-test : Tests (Stands s 3 180 (tracePlace s k)) 12 (tracePlace s k) (fieldCause s 3 180 (tracePlace s k))
+  header-test = test-field s 3 180 (tracePlace s k)
+
+  pub count-test : Tests (number16 s (headerPlace s k 115) ≡ heldSamples s) 13 (headerPlace s k 115) (refuseIf (not (eqb (number16 s (headerPlace s k 115)) (heldSamples s))) 13 (headerPlace s k 115))
+  count-test = test-same (number16 s (headerPlace s k 115)) (heldSamples s) 13 (headerPlace s k 115)
+
+  pub spacing-test : Tests (number16 s (headerPlace s k 117) ≡ heldInterval s) 13 (headerPlace s k 117) (refuseIf (not (eqb (number16 s (headerPlace s k 117)) (heldInterval s))) 13 (headerPlace s k 117))
+  spacing-test = test-same (number16 s (headerPlace s k 117)) (heldInterval s) 13 (headerPlace s k 117)
+
+  pub samples-test : Tests (Stands s 4 (6 * heldSamples s) (tracePlace s k + 183)) 12 (tracePlace s k + 183) (fieldCause s 4 (6 * heldSamples s) (tracePlace s k + 183))
+  samples-test = test-field s 4 (6 * heldSamples s) (tracePlace s k + 183)
+
+  -- The causes of a trace, one by one.
+  pub form-parts : formAt s (tracePlace s k)
+      ≡ then (fieldCause s 3 180 (tracePlace s k))
+      (then (refuseIf (not (eqb (number16 s (headerPlace s k 115)) (heldSamples s))) 13 (headerPlace s k 115))
+      (then (refuseIf (not (eqb (number16 s (headerPlace s k 117)) (heldInterval s))) 13 (headerPlace s k 117)) (samplesCauses s (heldSamples s) (tracePlace s k + 183))))
+  form-parts = trace-parts s (heldSamples s) (heldInterval s) (tracePlace s k)
+
+  -- Behind a header that is right, the answer is that of tag 04.
+  pub behind-header : HeaderRight s k → {x : Check} → samplesCauses s (heldSamples s) (tracePlace s k + 183) ≡ x → formAt s (tracePlace s k) ≡ x
+  behind-header h e =
+      form-parts ∙ fine-then header-test (h .header) (fine-then count-test (h .count) (fine-then spacing-test (h .interval) e))
+
   -- Where a trace is right, 12 and 13 find nothing in it.
   pub trace-fine : TraceRight s k → formAt s (tracePlace s k) ≡ Fine
   unfolding samplesCauses
   trace-fine h =
-      trace-parts s (heldSamples s) (heldInterval s) (tracePlace s k)
-      ∙ then-second _ _ (fine-where (test-field s 3 180 (tracePlace s k)) (h .header))
-      (then-second _ _ (fine-where (test-same (number16 s (bytePlace (tracePlace s k + 3) 115)) (heldSamples s) 13 (bytePlace (tracePlace s k + 3) 115)) (h .count))
-      (then-second _ _ (fine-where (test-same (number16 s (bytePlace (tracePlace s k + 3) 117)) (heldInterval s) 13 (bytePlace (tracePlace s k + 3) 117)) (h .interval))
-      (then-second _ _ (fine-where (test-field s 4 (6 * heldSamples s) (tracePlace s k + 183)) (h .samples))
-      (walk-fine (λ j. CanonicalAt s (pairPlace s k j)) 13 (pairCause s) pairLength (heldSamples s) (tracePlace s k + 183 + 3) (pairPlace s k) pair-tests (h .pairs)))))
+      behind-header (h .front)
+      (fine-then samples-test (h .samples)
+      (walk-fine (λ j. CanonicalAt s (pairPlace s k j)) 13 (pairCause s) pairLength (heldSamples s) (tracePlace s k + 183 + 3) (pairPlace s k) pair-tests (h .pairs)))
 
   -- And where they find nothing in it, it is right.
   trace-right : formAt s (tracePlace s k) ≡ Fine → TraceRight s k
   unfolding samplesCauses
   trace-right e =
-      let n = heldSamples s in
-      let i = heldInterval s in
-      let at = tracePlace s k in
-      let a = then-fine (fieldCause s 3 180 at) _ (sym (trace-parts s n i at) ∙ e) in
-      let b = then-fine (refuseIf (not (eqb (number16 s (bytePlace (at + 3) 115)) n)) 13 (bytePlace (at + 3) 115)) _ (a .1) in
-      let c = then-fine (refuseIf (not (eqb (number16 s (bytePlace (at + 3) 117)) i)) 13 (bytePlace (at + 3) 117)) _ (b .1) in
-      let d = then-fine (fieldCause s 4 (pairLength * n) (at + 183)) _ (c .1) in
+      let a = holds-then header-test _ (sym form-parts ∙ e) in
+      let b = holds-then count-test _ (a .1) in
+      let c = holds-then spacing-test _ (b .1) in
+      let d = holds-then samples-test _ (c .1) in
       record {
-        header = holds-where (test-field s 3 180 at) (a .0);
-        count = holds-where (test-same (number16 s (bytePlace (at + 3) 115)) n 13 (bytePlace (at + 3) 115)) (b .0);
-        interval = holds-where (test-same (number16 s (bytePlace (at + 3) 117)) i 13 (bytePlace (at + 3) 117)) (c .0);
-        samples = holds-where (test-field s 4 (6 * n) (at + 183)) (d .0);
-        pairs = walk-holds (λ j. CanonicalAt s (pairPlace s k j)) 13 (pairCause s) pairLength n (at + 183 + 3) (pairPlace s k) pair-tests (d .1);
+        front = record { header = a .0; count = b .0; interval = c .0 };
+        samples = d .0;
+        pairs = walk-holds (λ j. CanonicalAt s (pairPlace s k j)) 13 (pairCause s) pairLength (heldSamples s) (tracePlace s k + 183 + 3) (pairPlace s k) pair-tests (d .1);
       }
 
 -- ## How many traces there are
@@ -289,7 +249,7 @@ countIn s = heldCount s (heldSamples s)
 module _ (s : List ℕ) where
   -- The tags of the traces up to trace k are 03.
   tags-until : (k : ℕ) → RightUntil s k → (j : ℕ) → j < k → getD s (tracePlace s j) 0 ≡ 3
-  tags-until k h j l = h .before j l .header .tag-is
+  tags-until k h j l = h .before j l .front .header .tag-is
 
   -- Where another trace begins behind k traces, more than k are counted.
   pub next-counted : (k : ℕ) → TraceNext s k → k < countIn s
@@ -339,26 +299,27 @@ module _ (s : List ℕ) where
 
   -- ## The end
 
+  -- The tests of tag 05 behind t traces, of the count in it, and of the bytes after it.
+  pub end-test : (t : ℕ) → Tests (Stands s 5 4 (tracePlace s t)) 12 (tracePlace s t) (fieldCause s 5 4 (tracePlace s t))
+  end-test t = test-field s 5 4 (tracePlace s t)
+
+  pub total-test : (t : ℕ) → Tests (number (bytesAt s (tracePlace s t + 3) 4) ≡ t) 12 (tracePlace s t) (refuseIf (not (eqb (number (bytesAt s (tracePlace s t + 3) 4)) t)) 12 (tracePlace s t))
+  total-test t = test-same (number (bytesAt s (tracePlace s t + 3) 4)) t 12 (tracePlace s t)
+
+  pub last-test : (t : ℕ) → Tests (length s ≤ tracePlace s t + 7) 12 (tracePlace s t + 7) (refuseIf (ltb (tracePlace s t + 7) (length s)) 12 (tracePlace s t + 7))
+  last-test t = test-room (tracePlace s t + 7) (length s) 12 (tracePlace s t + 7)
+
   -- At the end of a valid record 12 finds nothing.
   end-fine : (t : ℕ) → RecordRight s t → endCauses s t (tracePlace s t) ≡ Fine
-  end-fine t h =
-      then-second _ _ (fine-where (test-field s 5 4 (tracePlace s t)) (h .field))
-      (then-second _ _ (fine-where (test-same (number (bytesAt s (tracePlace s t + 3) 4)) t 12 (tracePlace s t)) (h .count))
-      (then-second _ _ (fine-where (test-room (tracePlace s t + 7) (length s) 12 (tracePlace s t + 7)) (h .last)) refl))
+  end-fine t h = fine-then (end-test t) (h .field) (fine-then (total-test t) (h .count) (fine-then (last-test t) (h .last) refl))
 
   -- And where it finds nothing at the end, the record is valid.
   end-right : (t : ℕ) → EndNext s t → endCauses s t (tracePlace s t) ≡ Fine → RecordRight s t
   end-right t h e =
-      let at = tracePlace s t in
-      let k = then-fine (fieldCause s 5 4 at) _ e in
-      let l = then-fine (refuseIf (not (eqb (number (bytesAt s (at + 3) 4)) t)) 12 at) _ (k .1) in
-      let m = then-fine (refuseIf (ltb (at + 7) (length s)) 12 (at + 7)) _ (l .1) in
-      record {
-        end = h;
-        field = holds-where (test-field s 5 4 at) (k .0);
-        count = holds-where (test-same (number (bytesAt s (at + 3) 4)) t 12 at) (l .0);
-        last = holds-where (test-room (at + 7) (length s) 12 (at + 7)) (m .0);
-      }
+      let k = holds-then (end-test t) _ e in
+      let l = holds-then (total-test t) _ (k .1) in
+      let m = holds-then (last-test t) _ (l .1) in
+      record { end = h; field = k .0; count = l .0; last = m .0 }
 
   -- ## The whole record
 
@@ -385,11 +346,3 @@ module _ (s : List ℕ) where
       let h = head-right s (cards-right s (a .0)) (b .0) in
       let c = then-fine (firstOf (walk (formAt s) (heldStride (heldSamples s)) (countIn s) tracesPlace)) _ (b .1) in
       end-right (countIn s) (end-next h (c .0)) (c .1)
-
--- ## Along a walk
-
--- What holds at each step of a walk holds of all that it gives.
-pub all-each : {A : Type 0} (P : A → Type 0) (f : ℕ → A) (w k at : ℕ) → ((j : ℕ) → j < k → P (f (at + j * w))) → All P (walk f w k at)
-all-each P f w zero at h = tt
-all-each P f w (suc k) at h =
-    (subst (λ (a : ℕ). P (f a)) (at-zero at w) (h 0 (omega arith)), all-each P f w k (at + w) (λ j l. subst (λ (a : ℕ). P (f a)) (at-suc at w j) (h (suc j) (omega arith))))

@@ -1,39 +1,24 @@
 -- The length of a written reel: 3600 + T × (240 + N × the bytes of a sample), whatever the record holds. Assumes nothing.
-use mathlib.Core.Path.{_≡_, refl, ap₂, _∙_}
-use mathlib.Core.List.{List, [], _∷_, _++_, map}
-use mathlib.Core.Bool.{Bool, true, false}
-use Prim.Native.Nat.{ℕ, suc, _+_, _*_}
+use mathlib.Core.Path.{_≡_, refl, _∙_}
+use mathlib.Core.List.{List, _++_, map}
+use Prim.Native.Nat.{ℕ, _+_}
 use native.Mathlib.Omega.{arith}
-use lib.Dec.{eqb}
-use lib.ListN.{length, take, replicate, length-append}
+use lib.ListN.{length, replicate, length-append}
 use lib.IntN.{ℤ}
-use Rattle.numbers.specs.Walk.{pick, walk, flat, bytesAt}
-use Rattle.numbers.specs.BigEndian.{bytesOf}
-use Rattle.numbers.specs.TwosComplement.{bitsOf}
+use Rattle.numbers.specs.Walk.{walk, flat, bytesAt}
 use Rattle.numbers.proofs.WalkLaws.{flat-length, size-bytes}
 use Rattle.value.specs.Pair.{pairLength}
 use Rattle.value.specs.Writing.{wordOf}
-use Rattle.value.specs.declared.Written.{Written}
-use Rattle.value.specs.declared.Written.the-variants.{Word, Refused}
 use Rattle.reel.specs.Layout.{binaryWidths, binaryFields, traceWidths, traceFields, cardBytes, fieldNumber, sampleBytes, stride}
 use Rattle.reel.specs.Meaning.{otherThan}
 use Rattle.record.specs.Record.{numberBytes, withCode, binaryBytes}
 use Rattle.record.specs.Form.{tracesPlace, heldSamples, heldStride, heldCount}
 use Rattle.record.specs.Held.{heldValue, heldTrace, heldBy}
-use Rattle.record.proofs.NumberLaws.{total}
 use Rattle.record.proofs.HeaderLaws.{counts}
-use Rattle.reel_theorems.proofs.Ranges.{length-bytes}
 use Rattle.write_samples.proofs.WordLaws.{size-word}
 use Rattle.write_reel.specs.Reel.{sampleWritten, traceWritten, reelOf}
 use Rattle.write_reel.specs.Writing.{reelLengthOf}
-
--- As many numbers as there are fields take the bytes of the fields.
-numbers-size : (ws : List ℕ) (zs : List ℤ) → length ws ≡ length zs → length (numberBytes ws zs) ≡ total ws
-numbers-size [] zs e = refl
-numbers-size (w ∷ ws) [] e = absurd (let z : suc (length ws) ≡ 0 = e in omega arith)
-numbers-size (w ∷ ws) (z ∷ zs) e =
-    length-append (bytesOf w (bitsOf (8 * w) z)) (numberBytes ws zs)
-    ∙ ap₂ (λ (x y : ℕ). x + y) (length-bytes w (bitsOf (8 * w) z)) (numbers-size ws zs (omega arith))
+use Rattle.reel_theorems.proofs.Ranges.{numbers-size}
 
 -- There are as many binary numbers, with the format code, as binary fields.
 binary-count : (s : List ℕ) (code : ℕ) → length binaryWidths ≡ length (withCode code (map (fieldNumber s 6) (otherThan 3225 binaryFields)))
@@ -55,7 +40,7 @@ fields-size : (s : List ℕ) (at : ℕ) → length (numberBytes traceWidths (map
 fields-size s at = numbers-size traceWidths _ (fields-count s at) ∙ counts .3
 
 -- A sample takes the bytes of a sample under the code.
-sample-size : (code : ℕ) (v : ℤ) → length (sampleWritten code v) ≡ sampleBytes code
+pub sample-size : (code : ℕ) (v : ℤ) → length (sampleWritten code v) ≡ sampleBytes code
 sample-size code v = size-word code (wordOf code v)
 
 -- A trace takes 240 bytes and those of its n samples.

@@ -1,7 +1,6 @@
 -- # Theorem: the text of a number is its decimal text
 --
--- For every number below 2 ^ 64, `decimalOf` gives at least one digit, all are digits, they stand for the number, and the first is `0`
--- only in the text `0`. Assumes nothing.
+-- For every number below 2 ^ 64, `decimalOf` gives its decimal text, as `DecimalText` says what that is. Assumes nothing.
 use mathlib.Core.Path.{_≡_, refl, sym, ap, subst, _∙_}
 use mathlib.Core.Logic.{⊎-elim}
 use mathlib.Core.List.{List, [], _∷_, _++_}
@@ -9,22 +8,11 @@ use Prim.Native.Nat.{ℕ, zero, suc, _+_, _-_, _*_, _/_, _%_, _^_, _≤_, _<_}
 use native.Mathlib.Nat.{pow-suc}
 use native.Mathlib.Omega.{arith}
 use borrow.Author.Tests.{lt-ltb, le-ltb}
-use lib.ListN.{length, getD, length-append, List·getD-append}
-use Rattle.numbers.proofs.WalkLaws.{All}
+use lib.ListN.{length, getD, length-append}
+use Rattle.numbers.proofs.AllLaws.{all-append}
 use Rattle.numbers.proofs.SignLaws.{below-or}
 use Rattle.line.specs.Decimal.{digit, digitsIn, decimalOf}
-
--- The number that stands above the digits of a text, and with them.
-abbrev pub valueAfter : ℕ → List ℕ → ℕ
-valueAfter a [] = a
-valueAfter a (d ∷ text) = valueAfter (a * 10 + (d - 48)) text
-
--- `text` is the decimal text of n.
-pub record DecimalText (n : ℕ) (text : List ℕ) : Type 0 where
-  pub some : 0 < length text
-  pub digits : All (λ d. (48 ≤ d) × (d ≤ 57)) text
-  pub value : valueAfter 0 text ≡ n
-  pub leading : getD text 0 0 ≡ 48 → text ≡ 48 ∷ []
+use Rattle.line.specs.DecimalText.{valueAfter, DecimalText}
 
 -- One digit.
 one : (d : ℕ) → d < 10 → DecimalText d (digit d ∷ [])
@@ -34,10 +22,6 @@ one d h = record {
   value = omega arith;
   leading = λ e. ap (λ (x : ℕ). x ∷ []) e;
 }
-
-all-snoc : (P : ℕ → Type 0) (l : List ℕ) (x : ℕ) → All P l → P x → All P (l ++ x ∷ [])
-all-snoc P [] x p q = (q, tt)
-all-snoc P (y ∷ l) x p q = (p .0, all-snoc P l x (p .1) q)
 
 value-snoc : (a : ℕ) (l : List ℕ) (x : ℕ) → valueAfter a (l ++ x ∷ []) ≡ valueAfter a l * 10 + (x - 48)
 value-snoc a [] x = refl
@@ -51,7 +35,7 @@ first-snoc (y ∷ l) x h = refl
 more : (m d : ℕ) (text : List ℕ) → DecimalText m text → 0 < m → d < 10 → DecimalText (m * 10 + d) (text ++ digit d ∷ [])
 more m d text t h g = record {
   some = rw length-append (omega (arith, t .some));
-  digits = all-snoc (λ x. (48 ≤ x) × (x ≤ 57)) text (digit d) (t .digits) (omega arith, omega arith);
+  digits = all-append (λ x. (48 ≤ x) × (x ≤ 57)) text (digit d ∷ []) (t .digits) ((omega arith, omega arith), tt);
   value = rw (value-snoc 0 text (digit d), t .value) (omega arith);
   leading = λ e.
       let zero-text = t .leading (sym (first-snoc text (digit d) (t .some)) ∙ e) in
@@ -71,6 +55,7 @@ text-in (suc k) n h =
     rw (le-ltb n 10 p) (subst (λ (x : ℕ). DecimalText x l) e (more (n / 10) (n % 10) _ t (omega arith) (omega arith))))
     (below-or n 10)
 
+-- THEOREM. The text of a number below 2 ^ 64 is its decimal text: "Each number is printed most significant digit first, without leading zeros."
 pub decimal-right : (n : ℕ) → n < 2 ^ 64 → DecimalText n (decimalOf n)
 unfolding decimalOf
 decimal-right n h = text-in 19 n (omega arith)

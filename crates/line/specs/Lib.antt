@@ -1,3 +1,4 @@
--- Decimal text, and the program's line.
+-- Decimal text, what it is, and the program's line.
 pub mod Decimal
+pub mod DecimalText
 pub mod Line

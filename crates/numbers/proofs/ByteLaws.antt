@@ -10,10 +10,17 @@ use lib.Pow.{pow-add}
 use Rattle.numbers.proofs.WalkLaws.{All, all-at, cons-eq, size-bytes}
 use Rattle.numbers.specs.Walk.{walk, bytesAt}
 use Rattle.numbers.specs.BigEndian.{numberAfter, number, bytesOf}
+pub use Rattle.numbers.specs.Terms.{Bytes}
 
--- Each element of a list is a byte.
-abbrev pub Bytes : List ℕ → Type 0
-Bytes = All (λ b. b < 256)
+-- The bytes of a number are bytes.
+pub bytes-of : (k n : ℕ) → Bytes (bytesOf k n)
+bytes-of zero n = tt
+bytes-of (suc k) n = (omega arith, bytes-of k n)
+
+-- There are as many as were asked for.
+pub length-bytes : (k n : ℕ) → length (bytesOf k n) ≡ k
+length-bytes zero n = refl
+length-bytes (suc k) n = ap suc (length-bytes k n)
 
 some : (k : ℕ) → 0 < 256 ^ k
 some k = one-le-pow k 256 (zero-lt-suc 255)

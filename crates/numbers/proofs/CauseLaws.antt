@@ -87,7 +87,18 @@ each-fine (c ∷ cs) e =
     let p = then-fine c (firstOf cs) e in
     (p .0, each-fine cs (p .1))
 
+-- And where none of them finds anything, the list finds nothing.
+pub fine-each : (cs : List Check) → AllFine cs → firstOf cs ≡ Fine
+fine-each [] h = refl
+fine-each (c ∷ cs) h = rw (h .0) (fine-each cs (h .1))
+
 -- Where a check that finds nothing shows P of the value at its offset, checks along a walk that find nothing show P of each value along it.
 pub first-all : {A : Type 0} (f : ℕ → Check) (g : ℕ → A) (P : A → Type 0) → ((a : ℕ) → f a ≡ Fine → P (g a))
     → (w k at : ℕ) → firstOf (walk f w k at) ≡ Fine → All P (walk g w k at)
 first-all f g P h w k at e = all-walk (λ c. c ≡ Fine) P f g h w k at (each-fine (walk f w k at) e)
+
+-- And where P of the value at an offset shows that the check there finds nothing, P of each value along a walk shows that the checks along it
+-- find nothing.
+pub all-first : {A : Type 0} (f : ℕ → Check) (g : ℕ → A) (P : A → Type 0) → ((a : ℕ) → P (g a) → f a ≡ Fine)
+    → (w k at : ℕ) → All P (walk g w k at) → firstOf (walk f w k at) ≡ Fine
+all-first f g P h w k at p = fine-each (walk f w k at) (all-walk P (λ c. c ≡ Fine) g f h w k at p)

@@ -4,13 +4,14 @@ use mathlib.Core.Path.{_≡_, refl, sym, ap, _∙_}
 use mathlib.Core.Bool.{Bool, true, false, _&&_}
 use mathlib.Core.List.{List, [], _∷_, _++_, map, append-nil}
 use Prim.Native.Nat.{ℕ, zero, suc, _+_, _-_, _*_, _≤_, _<_}
-use native.Mathlib.Nat.{suc-mul, zero-mul, zero-add, not-suc-le-zero}
+use native.Mathlib.Nat.{suc-mul, zero-mul, zero-add, add-zero, not-suc-le-zero}
 use native.Mathlib.Numerals.{add-one}
 use native.Mathlib.Omega.{arith}
 use lib.ListN.{length, getD, take, drop, length-append, drop-of-length-le}
 use lib.Seq.{sets, sets-eq, take-at, drop-at, drop-cons}
 use borrow.Author.Tests.{eq-eqb}
 use Rattle.numbers.specs.Walk.{walk, flat, bytesAt, copyOf}
+pub use Rattle.numbers.specs.Terms.{All}
 
 less-one : (k : ℕ) → suc k - 1 ≡ k
 less-one k = omega arith
@@ -32,12 +33,30 @@ pub walk-more : {A : Type 0} (f : ℕ → A) (w k at : ℕ) → 0 < k → walk f
 walk-more f w zero at h = absurd (not-suc-le-zero h)
 walk-more f w (suc k) at h = rw less-one
 
--- ## Every element
+-- The offset of the first step of a walk, and of a later one.
+pub at-zero : (at w : ℕ) → at + 0 * w ≡ at
+at-zero at w = rw (zero-mul, add-zero)
 
--- P holds of each element of a list.
-abbrev pub All : {A : Type 0} → (A → Type 0) → List A → Type 0
-All P [] = Unit {0}
-All P (x ∷ l) = P x × All P l
+pub at-suc : (at w j : ℕ) → at + suc j * w ≡ at + w + j * w
+at-suc at w j = rw suc-mul (omega arith)
+
+-- Where two walks give the same, each step of the one gives what that step of the other gives.
+pub walk-each : {A : Type 0} (f g : ℕ → A) (w v k m a b : ℕ) → walk f w k a ≡ walk g v m b → (j : ℕ) → j < k → f (a + j * w) ≡ g (b + j * v)
+walk-each f g w v zero m a b e j l = absurd (not-suc-le-zero l)
+walk-each f g w v (suc k) zero a b e j l = absurd (let z = ap length e in omega arith)
+walk-each f g w v (suc k) (suc m) a b e zero l =
+    let h : f a ≡ g b = cc in
+    ap f (at-zero a w) ∙ h ∙ sym (ap g (at-zero b v))
+walk-each f g w v (suc k) (suc m) a b e (suc j) l =
+    let t : walk f w k (a + w) ≡ walk g v m (b + v) = cc in
+    ap f (at-suc a w j) ∙ walk-each f g w v k m (a + w) (b + v) t j (omega arith) ∙ sym (ap g (at-suc b v j))
+
+-- A function of each thing that a walk gives is a walk.
+pub map-walk : {A B : Type 0} (h : A → B) (f : ℕ → A) (w k a : ℕ) → map h (walk f w k a) ≡ walk (λ x. h (f x)) w k a
+map-walk h f w zero a = refl
+map-walk h f w (suc k) a = ap (λ l. h (f a) ∷ l) (map-walk h f w k (a + w))
+
+-- ## Every element
 
 -- What holds of each element of a list holds of each of its first k.
 pub all-take : {A : Type 0} (P : A → Type 0) (k : ℕ) (l : List A) → All P l → All P (take k l)
@@ -50,6 +69,11 @@ pub all-drop : {A : Type 0} (P : A → Type 0) (k : ℕ) (l : List A) → All P 
 all-drop P zero l h = h
 all-drop P (suc k) [] h = tt
 all-drop P (suc k) (x ∷ l) h = all-drop P k l (h .1)
+
+-- What holds of each element by one account and by another holds by both.
+pub all-both : {A : Type 0} (P Q : A → Type 0) (l : List A) → All P l → All Q l → All (λ a. P a × Q a) l
+all-both P Q [] p q = tt
+all-both P Q (x ∷ l) p q = ((p .0, q .0), all-both P Q l (p .1) (q .1))
 
 -- What holds at every offset holds of each element of a walk.
 pub all-at : {A : Type 0} (P : A → Type 0) (f : ℕ → A) → ((a : ℕ) → P (f a)) → (w k at : ℕ) → All P (walk f w k at)

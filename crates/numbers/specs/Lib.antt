@@ -1,7 +1,10 @@
--- Big-endian numbers, two's complement, byte numbers and places, walks over lists, the first cause, and the outcome of a call.
+-- Big-endian numbers, two's complement, byte numbers and places, walks over lists, the first cause, the outcome of a call, statements that
+-- hold in the same cases, and the terms of theorems.
 pub mod BigEndian
 pub mod TwosComplement
 pub mod Places
 pub mod Walk
 pub mod Cause
 pub mod Outcome
+pub mod Iff
+pub mod Terms

@@ -7,15 +7,15 @@
 use mathlib.Core.Path.{_≡_, refl, sym, ap, _∙_}
 use mathlib.Core.List.{List, [], _∷_}
 use Prim.Native.Nat.{ℕ, _+_, _*_}
-use native.Mathlib.Omega.{arith}
 use lib.ListN.{length, take, drop}
 use lib.Seq.{take-at}
-use Rattle.numbers.specs.Outcome.{taken, refused, Outcome}
+use Rattle.numbers.specs.Outcome.{taken, Outcome}
 use Rattle.numbers.specs.declared.Check.{Check}
-use Rattle.numbers.specs.declared.Check.the-variants.{Fine, Refused}
+use Rattle.numbers.specs.declared.Check.the-variants.{Fine}
+use Rattle.numbers.specs.Terms.{Bytes}
+use Rattle.numbers.specs.Iff.{Iff}
 use Rattle.numbers.proofs.CauseLaws.{then-fine}
-use Rattle.numbers.proofs.ByteLaws.{Bytes}
-use Rattle.sample_theorems.proofs.Pairs.{Iff}
+use Rattle.numbers.proofs.SaidLaws.{says-fine}
 use Rattle.reel.specs.Layout.{samplesOf, tracesOf}
 use Rattle.reel.specs.Causes.{causesOf}
 use Rattle.reel.specs.Meaning.{MeanTheSame}
@@ -23,19 +23,10 @@ use Rattle.record.specs.Record.{reelRecord}
 use Rattle.read_reel.specs.Reading.{recordLengthOf, readCauses, readEnd, readOutcome}
 use Rattle.reel_theorems.proofs.Same.{record-size, same-records}
 
--- a call that says it refused does not say it took
-pub not-taken : {number place : ℕ} {numbers : List ℕ} → ¬ (refused number place ≡ taken numbers)
-not-taken p =
-    let z : _≡_ {A = ℕ} 0 1 = cc in
-    omega arith
-
 -- a reading that is taken has no cause of 1 to 10
 pub taken-fine : (s out numbers : List ℕ) → readOutcome s out .said ≡ taken numbers → readCauses s (length out) ≡ Fine
-taken-fine s out numbers e = go (readCauses s (length out)) refl e
-  where
-    go : (c : Check) → readCauses s (length out) ≡ c → readEnd s out c .said ≡ taken numbers → readCauses s (length out) ≡ Fine
-    go Fine q e = q
-    go (Refused number place) q e = absurd (not-taken e)
+taken-fine s out numbers e =
+    says-fine (λ (c : Check). readEnd s out c .said) (tracesOf s ∷ samplesOf s ∷ recordLengthOf s ∷ []) refl (λ n p. refl) (readCauses s (length out)) numbers e
 
 -- the reel of a reading that is taken has no cause of 1 to 9
 pub taken-reel : (s out numbers : List ℕ) → readOutcome s out .said ≡ taken numbers → causesOf s ≡ Fine

@@ -1,19 +1,19 @@
 -- Header numbers are determined by their bytes. Assumes nothing.
-use mathlib.Core.Path.{_≡_, refl, sym, ap, ap₂, _∙_, subst}
+use mathlib.Core.Path.{_≡_, refl, sym, ap, ap₂, _∙_}
 use mathlib.Core.List.{List, [], _∷_, _++_, map}
-use mathlib.Core.Bool.{Bool, true, false}
-use Prim.Native.Nat.{ℕ, zero, suc, _+_, _-_, _*_, _^_, _≤_, _<_}
+use Prim.Native.Nat.{ℕ, suc, _+_, _-_, _*_, _^_, _<_}
 use native.Mathlib.Omega.{arith}
-use lib.ListN.{length, length-append, replicate}
-use lib.IntN.{ℤ, pos, negsuc}
+use lib.ListN.{length, length-append}
+use lib.IntN.{ℤ}
 use lib.Signed.{mag}
 use Rattle.numbers.specs.Walk.{bytesAt}
 use Rattle.numbers.specs.BigEndian.{number, bytesOf}
 use Rattle.numbers.specs.TwosComplement.{signedOf, bitsOf}
+use Rattle.numbers.specs.Terms.{Bytes}
 use Rattle.numbers.proofs.WalkLaws.{split, cons-eq}
-use Rattle.numbers.proofs.ByteLaws.{Bytes, number-bytes, number-at}
+use Rattle.numbers.proofs.ByteLaws.{length-bytes, number-bytes, number-at}
 use Rattle.numbers.proofs.SignLaws.{signed-bits, bits-lt, mag-signed}
-use Rattle.reel.specs.Layout.{Field, fieldsFrom, fieldNumber}
+use Rattle.reel.specs.Layout.{fieldsFrom, fieldNumber}
 use Rattle.record.specs.Record.{numberBytes}
 use Rattle.record.proofs.NumberLaws.{pow-bytes, total}
 
@@ -30,17 +30,23 @@ fit-append [] us (z ∷ zs) ys p q = absurd p
 fit-append (w ∷ ws) us [] ys p q = absurd p
 fit-append (w ∷ ws) us (z ∷ zs) ys p q = (p .0, p .1, fit-append ws us zs ys (p .2) q)
 
--- k bytes of a number are k bytes
-pub length-bytes : (k n : ℕ) → length (bytesOf k n) ≡ k
-length-bytes zero n = refl
-length-bytes (suc k) n = ap suc (length-bytes k n)
+-- there are as many fields as numbers that fit them
+pub fit-length : (ws : List ℕ) (zs : List ℤ) → Fit ws zs → length ws ≡ length zs
+fit-length [] [] h = refl
+fit-length [] (z ∷ zs) h = absurd h
+fit-length (w ∷ ws) [] h = absurd h
+fit-length (w ∷ ws) (z ∷ zs) h = ap suc (fit-length ws zs (h .2))
+
+-- as many numbers as there are fields take the bytes of the fields
+pub numbers-size : (ws : List ℕ) (zs : List ℤ) → length ws ≡ length zs → length (numberBytes ws zs) ≡ total ws
+numbers-size [] zs e = refl
+numbers-size (w ∷ ws) [] e = absurd (let z : suc (length ws) ≡ 0 = e in omega arith)
+numbers-size (w ∷ ws) (z ∷ zs) e =
+    length-append (bytesOf w (bitsOf (8 * w) z)) (numberBytes ws zs)
+    ∙ ap₂ (λ (x y : ℕ). x + y) (length-bytes w (bitsOf (8 * w) z)) (numbers-size ws zs (omega arith))
 
 pub size-numbers : (ws : List ℕ) (zs : List ℤ) → Fit ws zs → length (numberBytes ws zs) ≡ total ws
-size-numbers [] [] p = refl
-size-numbers [] (z ∷ zs) p = absurd p
-size-numbers (w ∷ ws) [] p = absurd p
-size-numbers (w ∷ ws) (z ∷ zs) p =
-    length-append (bytesOf w (bitsOf (8 * w) z)) (numberBytes ws zs) ∙ ap₂ (λ (x y : ℕ). x + y) (length-bytes w (bitsOf (8 * w) z)) (size-numbers ws zs (p .2))
+size-numbers ws zs p = numbers-size ws zs (fit-length ws zs p)
 
 -- a number that fits, by its bytes
 number-inj : (w : ℕ) (z y : ℤ) → 0 < w → mag z < 2 ^ (8 * w - 1) → mag y < 2 ^ (8 * w - 1) → bytesOf w (bitsOf (8 * w) z) ≡ bytesOf w (bitsOf (8 * w) y) → z ≡ y

@@ -6,31 +6,31 @@ use mathlib.Core.Path.{_≡_, refl, sym, ap, ap₂, _∙_, subst}
 use mathlib.Core.List.{List, [], _∷_, _++_, map, append-nil}
 use mathlib.Core.Bool.{Bool, true, false, _&&_}
 use borrow.Author.Tests.{ltb-true}
-use Prim.Native.Nat.{ℕ, zero, suc, _+_, _-_, _*_, _^_, _≤_, _<_}
+use Prim.Native.Nat.{ℕ, suc, _+_, _*_, _^_, _<_}
 use native.Mathlib.Nat.{eq-of-mul-eq-mul-right, mul-comm}
 use native.Mathlib.Omega.{arith}
 use lib.Dec.{eqb, ltb}
-use lib.ListN.{length, getD, drop, replicate, length-append, length-map}
-use lib.IntN.{ℤ, pos, negsuc, natAbs}
+use lib.ListN.{length, getD, drop, length-append, length-map}
+use lib.IntN.{ℤ, pos, natAbs}
 use lib.Signed.{mag}
 use Rattle.numbers.specs.Walk.{pick, walk, flat, bytesAt}
 use Rattle.numbers.specs.BigEndian.{bytesOf}
 use Rattle.numbers.specs.TwosComplement.{signedOf, bitsOf}
 use Rattle.numbers.specs.declared.Check.the-variants.{Fine}
-use Rattle.numbers.proofs.WalkLaws.{All, all-at, split, cons-eq, flat-size, flat-inj, size-walk}
-use Rattle.numbers.proofs.ByteLaws.{Bytes, bytes-at, number-at}
+use Rattle.numbers.specs.Terms.{All, Bytes}
+use Rattle.numbers.specs.Iff.{Iff}
+use Rattle.numbers.proofs.WalkLaws.{all-at, split, cons-eq, flat-size, flat-inj, size-walk}
+use Rattle.numbers.proofs.ByteLaws.{bytes-at, number-at}
 use Rattle.numbers.proofs.SignLaws.{bits-signed}
+use Rattle.numbers.proofs.BoolLaws.{and-true}
 use Rattle.value.specs.Value.{exactValue}
 use Rattle.value.specs.Pair.{pairOf, valueOf, isCanonical, pairIn}
-use Rattle.value.specs.declared.Pair.{Pair}
-use Rattle.sample_theorems.proofs.Held.{and-true}
-use Rattle.sample_theorems.proofs.Pairs.{Iff, pair-value, bytes-pair, value-canonical}
-use Rattle.reel.specs.Layout.{Field, fieldsFrom, binaryWidths, binaryFields, traceWidths, traceFields, fieldNumber, firstTrace, traceHeader, number16, samplesOf, intervalOf, codeOf, sampleBytes, strideOf, tracesOf}
-use Rattle.reel.specs.Causes.{mostSamples, causesOf}
-use Rattle.reel.specs.Meaning.{cardText, binaryNumbers, filled, traceNumber, Trace, traceMeaning, Meaning, meaningOf, MeanTheSame}
-use Rattle.reel.proofs.CheckLaws.{Numbers, Sound, reel-fine}
+use Rattle.sample_theorems.proofs.Pairs.{pair-value, bytes-pair, value-canonical}
+use Rattle.reel.specs.Layout.{fieldsFrom, binaryWidths, binaryFields, traceWidths, traceFields, fieldNumber, firstTrace, traceHeader, samplesOf, intervalOf, codeOf, sampleBytes, strideOf, tracesOf}
+use Rattle.reel.specs.Causes.{causesOf}
+use Rattle.reel.specs.Meaning.{cardText, binaryNumbers, filled, traceNumber, Trace, traceMeaning, meaningOf, MeanTheSame}
+use Rattle.reel.proofs.CheckLaws.{reel-fine}
 use Rattle.record.specs.Record.{field, numberBytes, withCode, binaryBytes, valueBytes, samplesField, traceBytes, recordOf, reelRecord, recordLength}
-use Rattle.record.proofs.NumberLaws.{total}
 use Rattle.record.proofs.HeaderLaws.{binary-front, binary-back, binary-widths, binary-numbers, with-code, trace-front, trace-back, trace-widths, trace-numbers, countField, intervalField, counts, size-cards}
 use Rattle.reel_theorems.proofs.Ranges.{Fit, Some, fit-append, size-numbers, numbers-inj, number-fits, fields-fit}
 

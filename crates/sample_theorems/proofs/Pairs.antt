@@ -16,6 +16,7 @@ use lib.IntN.{ℤ, pos, negsuc, negℤ, natAbs, subℕ, _+ℤ_, _*ℤ_, +ℤ-neg
 use lib.Signed.{mag}
 use lib.ListN.{length, getD, drop, length-drop, take-append-drop}
 use lib.Seq.{take-all}
+use Rattle.numbers.specs.Iff.{Iff}
 use Rattle.numbers.specs.Walk.{pick, bytesAt}
 use Rattle.numbers.specs.BigEndian.{number, bytesOf}
 use Rattle.numbers.specs.TwosComplement.{signedOf, bitsOf}
@@ -35,10 +36,6 @@ use Rattle.sample.specs.Reading.{pairTaken, badGain, readWord}
 use Rattle.sample.specs.declared.Sample.{Sample}
 use Rattle.sample.specs.declared.Sample.the-variants.{Taken, Refused}
 use Rattle.sample_theorems.proofs.Held.{and-true}
-
--- A and B hold in the same cases.
-abbrev pub Iff : Type 0 → Type 0 → Type 0
-Iff A B = (A → B) × (B → A)
 
 -- ## A canonical pair and its value determine each other
 

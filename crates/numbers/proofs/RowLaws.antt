@@ -4,34 +4,20 @@ use mathlib.Core.Path.{_≡_, refl, sym, ap, _∙_, subst}
 use mathlib.Core.Logic.{_⊎_, inl, inr, ⊎-elim}
 use mathlib.Core.Bool.{Bool, true, false, not, _&&_}
 use Prim.Native.Nat.{ℕ, zero, suc, _+_, _*_, _≤_, _<_}
-use native.Mathlib.Nat.{add-zero, zero-mul, suc-mul, not-suc-le-zero}
+use native.Mathlib.Nat.{not-suc-le-zero}
 use native.Mathlib.Omega.{arith}
 use borrow.Author.Tests.{le-leb, eq-eqb, leb-true, ltb-true, ltb-false, eqb-true, eqb-false}
 use lib.Dec.{T, leb, ltb, eqb}
 use Rattle.numbers.specs.Walk.{walk}
 use Rattle.numbers.specs.Cause.{refuseIf, then, firstOf}
 use Rattle.numbers.specs.Places.{placeNo}
-use Rattle.numbers.specs.declared.Place.{Place}
+use Rattle.numbers.specs.Iff.{Iff}
+use Rattle.numbers.specs.Terms.{Between, ZeroOr, atPlace}
 use Rattle.numbers.specs.declared.Check.{Check}
 use Rattle.numbers.specs.declared.Check.the-variants.{Fine, Refused}
+use Rattle.numbers.proofs.BoolLaws.{and-true, and-both}
+use Rattle.numbers.proofs.WalkLaws.{at-zero, at-suc}
 use Rattle.numbers.proofs.CauseLaws.{not-fine, then-fine}
-use Rattle.sample_theorems.proofs.Held.{and-true}
-use Rattle.sample_theorems.proofs.Pairs.{Iff}
-use Rattle.reel.specs.Causes.{within, neither}
-
--- ## Terms
-
--- A place, by its number.
-abbrev pub atPlace : ℕ → Place
-atPlace at = record { 0 = at }
-
--- n is from a to b.
-abbrev pub Between : ℕ → ℕ → ℕ → Type 0
-Between a b n = (a ≤ n) × (n ≤ b)
-
--- n is 0 or m.
-abbrev pub ZeroOr : ℕ → ℕ → Type 0
-ZeroOr m n = (n ≡ 0) ⊎ (n ≡ m)
 
 -- ## One test
 
@@ -47,6 +33,16 @@ apart e = subst T (sym e) tt
 pub test-by : (P : Type 0) (b : Bool) (number at : ℕ) → (b ≡ true → P) → (P → b ≡ true) → Tests P number at (refuseIf (not b) number at)
 test-by P true number at f g = inl (f refl, refl)
 test-by P false number at f g = inr (λ p. apart (g p), refl)
+
+-- A test that refuses where a truth value is true.
+pub test-flag : (b : Bool) (number at : ℕ) → Tests (b ≡ false) number at (refuseIf b number at)
+test-flag true number at = inr (λ e. apart (sym e), refl)
+test-flag false number at = inl (refl, refl)
+
+-- What is not false is true.
+pub not-no : (b : Bool) → ¬ (b ≡ false) → b ≡ true
+not-no true h = refl
+not-no false h = absurd (h refl)
 
 module _ {P : Type 0} {number at : ℕ} {c : Check} (t : Tests P number at c) where
   -- Where P holds, the check answers nothing.
@@ -87,17 +83,37 @@ then-first c d e = ap (λ x. then x d) e
 pub then-second : (c d : Check) {x : Check} → c ≡ Fine → d ≡ x → then c d ≡ x
 then-second c d e f = ap (λ x. then x d) e ∙ f
 
+-- A test of P before another check.
+module _ {P : Type 0} {number at : ℕ} {c : Check} (t : Tests P number at c) where
+  -- Where P holds, both answer what the other does.
+  pub fine-then : {d x : Check} → P → d ≡ x → then c d ≡ x
+  fine-then {d} p e = then-second c d (fine-where t p) e
+
+  -- Where P doesn't hold, both refuse.
+  pub refused-then : (d : Check) → ¬ P → then c d ≡ Refused number (atPlace at)
+  refused-then d n = then-first c d (refused-where t n)
+
+  -- Where both answer nothing, P holds and the other answers nothing.
+  pub holds-then : (d : Check) → then c d ≡ Fine → P × (d ≡ Fine)
+  holds-then d e =
+      let a = then-fine c d e in
+      (holds-where t (a .0), a .1)
+
+  -- Where both refuse, it is by the row of the test, or where P holds, by one of the other's.
+  pub row-then : (R : ℕ → ℕ → Type 0) {d : Check} {n p : ℕ} → (¬ P → R number at) → (P → d ≡ Refused n (atPlace p) → R n p)
+      → then c d ≡ Refused n (atPlace p) → R n p
+  row-then R {d} f g = then-row R c d (row-where t R f) (λ e. g (holds-where t e))
+
+-- The last check of a list refuses nothing.
+pub no-row : (R : ℕ → ℕ → Type 0) {n p : ℕ} → Fine ≡ Refused n (atPlace p) → R n p
+no-row R e = absurd (not-fine (sym e))
+
 -- ## Tests of numbers
 
--- Two tests that are both true.
-pub and-both : (b c : Bool) → b ≡ true → c ≡ true → (b && c) ≡ true
-and-both true c p q = q
-and-both false c p q = p
-
 -- A number within its limits.
-pub test-between : (a b n number at : ℕ) → Tests (Between a b n) number at (refuseIf (not (within a b n)) number at)
+pub test-between : (a b n number at : ℕ) → Tests (Between a b n) number at (refuseIf (not (leb a n && leb n b)) number at)
 test-between a b n number at =
-    test-by (Between a b n) (within a b n) number at
+    test-by (Between a b n) (leb a n && leb n b) number at
     (λ e. let h = and-true (leb a n) _ e in (leb-true a n (h .0), leb-true n b (h .1)))
     (λ h. and-both (leb a n) _ (le-leb a n (h .0)) (le-leb n b (h .1)))
 
@@ -106,7 +122,7 @@ pub test-same : (a b number at : ℕ) → Tests (a ≡ b) number at (refuseIf (n
 test-same a b number at = test-by (a ≡ b) (eqb a b) number at (eqb-true a b) (eq-eqb a b)
 
 -- A number that must be 0 or another.
-pub test-either : (m n number at : ℕ) → Tests (ZeroOr m n) number at (refuseIf (neither n m) number at)
+pub test-either : (m n number at : ℕ) → Tests (ZeroOr m n) number at (refuseIf (not (eqb n 0) && not (eqb n m)) number at)
 test-either m n number at = go (eqb n 0) (eqb n m) refl refl
   where
     go : (a b : Bool) → eqb n 0 ≡ a → eqb n m ≡ b → Tests (ZeroOr m n) number at (refuseIf (not a && not b) number at)
@@ -142,13 +158,6 @@ pub record First (f : ℕ → Check) (w k at number place : ℕ) : Type 0 where
   pub below : j < k
   pub before : (i : ℕ) → i < j → f (at + i * w) ≡ Fine
   pub here : f (at + j * w) ≡ Refused number (atPlace place)
-
--- The offset of the first step of a walk, and of a later one.
-pub at-zero : (at w : ℕ) → at + 0 * w ≡ at
-at-zero at w = rw (zero-mul, add-zero)
-
-pub at-suc : (at w j : ℕ) → at + suc j * w ≡ at + w + j * w
-at-suc at w j = rw suc-mul (omega arith)
 
 -- Where a walk refuses, the first of its checks that refuses is the one that the answer comes from.
 pub first-is : (f : ℕ → Check) (w k at number place : ℕ) → firstOf (walk f w k at) ≡ Refused number (atPlace place) → First f w k at number place

@@ -1,0 +1,132 @@
+-- What the calls give where they are taken: the numbers that they return, and what stands in their outputs.
+use mathlib.Core.Path.{_≡_}
+use mathlib.Core.List.{List, [], _∷_, _++_}
+use mathlib.Core.Bool.{true}
+use Prim.Native.Nat.{ℕ, _+_, _*_, _≤_}
+use lib.ListN.{length, take, drop, replicate}
+use lib.IntN.{ℤ}
+use Rattle.numbers.specs.Walk.{bytesAt}
+use Rattle.numbers.specs.Places.{byteNo}
+use Rattle.numbers.specs.Outcome.{taken}
+use Rattle.numbers.specs.Terms.{Bytes}
+use Rattle.numbers.specs.declared.ByteNo.{ByteNo}
+use Rattle.numbers.specs.declared.Check.the-variants.{Fine}
+use Rattle.value.specs.Value.{isCode, exactValue}
+use Rattle.reel.specs.Layout.{Field, samplesOf, codeOf, sampleBytes, tracesOf}
+use Rattle.reel.specs.Causes.{causesOf}
+use Rattle.reel.specs.Meaning.{meaningOf, MeanTheSame}
+use Rattle.record.specs.Record.{recordOf, reelRecord}
+use Rattle.record.specs.Form.{heldSamples, heldCount, formCauses}
+use Rattle.record.specs.Held.{heldBy}
+use Rattle.read_reel.specs.Reading.{recordLengthOf, readOutcome}
+use Rattle.write_reel.specs.Reel.{reelOf}
+use Rattle.write_reel.specs.Writing.{reelLengthOf, writeOutcome}
+use Rattle.look_up.specs.LookUp.{found, fieldAt, headerNumber}
+use Rattle.reel_theorems.specs.ReelTable.{sampleAt}
+use Rattle.demands.specs.Words.{Worded}
+
+-- ## Reading a reel
+
+-- The numbers that reading returns: T, N and the record's length, 3273 + T × (186 + 6N).
+abbrev pub readNumbers : List ℕ → List ℕ
+readNumbers s = tracesOf s ∷ samplesOf s ∷ recordLengthOf s ∷ []
+
+-- What reading a reel gives, where it returns t, n and the length l.
+pub record RecordRead (s out : List ℕ) (t n l : ℕ) : Type 0 where
+  -- T and N are those of the reel, and the length is that of a record of T traces of N samples.
+  pub traces : t ≡ tracesOf s
+  pub samples : n ≡ samplesOf s
+  pub size : l ≡ 3273 + t * (186 + 6 * n)
+  -- The output's first bytes are the record of what the reel means, and they are all of it.
+  pub content : take l (readOutcome s out .bytes) ≡ recordOf (meaningOf s)
+  pub whole : length (recordOf (meaningOf s)) ≡ l
+  -- The rest of the output keeps its content.
+  pub rest : drop l (readOutcome s out .bytes) ≡ drop l out
+
+-- r is a valid record, with the T and N of t and n, that holds what the reel s means.
+pub record RecordHolds (s : List ℕ) (t n : ℕ) (r : List ℕ) : Type 0 where
+  -- It is a list of bytes, and it is valid: neither 12 nor 13 applies to it, which `valid-is` spells out.
+  pub bytes : Bytes r
+  pub valid : formCauses r ≡ Fine
+  -- It holds what the reel means.
+  pub holds : heldBy r ≡ meaningOf s
+  -- Its T and N are t and n.
+  pub traces : heldCount r (heldSamples r) ≡ t
+  pub samples : heldSamples r ≡ n
+
+-- The exact value V, over 16^70, of sample j of trace k, both counted from 0, by the four bytes where it stands.
+abbrev pub sampleValue : List ℕ → ℕ → ℕ → ℤ
+sampleValue s k j = exactValue (codeOf s) (bytesAt s (sampleAt s k j) 4)
+
+-- Document 01's example: 3,200 bytes 40, a binary header all 0 but interval 2000, N 2, code 1, and one trace with a zero header and words
+-- 41100000 C276A000.
+abbrev pub example : List ℕ
+example =
+    replicate 3200 0x40
+    ++ (replicate 16 0
+    ++ (0x07 ∷ 0xD0 ∷ 0 ∷ 0 ∷ 0 ∷ 2 ∷ 0 ∷ 0 ∷ 0 ∷ 1
+    ∷ (replicate 374 0
+    ++ (replicate 240 0
+    ++ (0x41 ∷ 0x10 ∷ 0 ∷ 0 ∷ 0xC2 ∷ 0x76 ∷ 0xA0 ∷ 0 ∷ [])))))
+
+-- ## Writing a record
+
+-- The numbers that writing returns: T and N as the record holds them, and the reel's length, 3600 + T × (240 + N × the bytes of a sample).
+abbrev pub writtenNumbers : List ℕ → ℕ → List ℕ
+writtenNumbers r code = heldCount r (heldSamples r) ∷ heldSamples r ∷ reelLengthOf r code ∷ []
+
+-- What it takes to write a record: the code is from 1 to 4, it holds every sample exactly, and the output is long enough.
+pub record CanBeWritten (r : List ℕ) (code : ℕ) (out : List ℕ) : Type 0 where
+  pub code-is : isCode code ≡ true
+  pub held : Worded code (heldBy r .traces)
+  pub room : 3600 + heldCount r (heldSamples r) * (240 + heldSamples r * sampleBytes code) ≤ length out
+
+-- What writing a record gives, where it returns t, n and the length l.
+pub record ReelWritten (r : List ℕ) (code : ℕ) (out : List ℕ) (t n l : ℕ) : Type 0 where
+  -- The record is valid.
+  pub valid : formCauses r ≡ Fine
+  -- T and N are those of the record, and the length is that of a reel of T traces of N samples.
+  pub traces : t ≡ heldCount r (heldSamples r)
+  pub samples : n ≡ heldSamples r
+  pub size : l ≡ 3600 + t * (240 + n * sampleBytes code)
+  -- The output's first bytes are the reel of what the record holds, and they are all of it.
+  pub content : take l (writeOutcome r code out .bytes) ≡ reelOf code (heldBy r)
+  pub whole : length (reelOf code (heldBy r)) ≡ l
+  -- The rest of the output keeps its content.
+  pub rest : drop l (writeOutcome r code out .bytes) ≡ drop l out
+
+-- ## Writing the record of a reel
+
+-- What a reel is that was written, under a code, from the record r of the reel s, where the reading returned t, n and l and the writing
+-- returned t₂, n₂ and l₂.
+pub record ReelAgain (s : List ℕ) (t n l : ℕ) (r : List ℕ) (code t₂ n₂ l₂ : ℕ) (reel : List ℕ) : Type 0 where
+  -- The writing returned the same T and N, and the length of a reel of T traces of N samples under the code.
+  pub traces : t₂ ≡ t
+  pub samples : n₂ ≡ n
+  pub size : l₂ ≡ 3600 + t * (240 + n * sampleBytes code)
+  -- No cause of 1 to 9 applies to the reel that was written, and its format code is the one asked for.
+  pub no-cause : causesOf reel ≡ Fine
+  pub code-is : codeOf reel ≡ code
+  -- It means the same as the reel s.
+  pub means : MeanTheSame s reel
+  -- Its record is r,
+  pub has : reelRecord reel ≡ r
+  -- and reading it into any output that is long enough returns t, n and l and gives r.
+  pub read : (out : List ℕ) → l ≤ length out → readOutcome reel out ≡ record { said = taken (t ∷ n ∷ l ∷ []); bytes = r ++ drop l out }
+
+-- What the reel s, whose reading returned t, n and l and gave the record r, has under its own code.
+pub record OwnCode (s : List ℕ) (t n : ℕ) (r : List ℕ) : Type 0 where
+  -- The code is one of the four, and each sample value has a word under it.
+  pub code-is : isCode (codeOf s) ≡ true
+  pub words : Worded (codeOf s) (meaningOf s .traces)
+  -- The record is written under it into any output with room for the reel, as a reel of the same length.
+  pub writes : (out : List ℕ) → length s ≤ length out → writeOutcome r (codeOf s) out .said ≡ taken (t ∷ n ∷ length s ∷ [])
+
+-- ## Looking up a field
+
+-- z is the number of an assigned field of header k that begins at byte number b.
+pub record LookedUp (s : List ℕ) (k : ℕ) (b : ByteNo) (z : ℤ) : Type 0 where
+  pub field : Field
+  pub assigned : fieldAt k b ≡ found field
+  pub begins : field .begins ≡ byteNo b
+  pub number : z ≡ headerNumber s k field

@@ -1,0 +1,136 @@
+-- Document 01's table, "When a call declines", for each call: the rows against it, in the order in which they are looked for. A row says in
+-- which case it applies, its number, and what stands beside it; as the order sets, it applies only where no row before it does.
+use mathlib.Core.Path.{_≡_}
+use mathlib.Core.List.{List}
+use mathlib.Core.Bool.{true}
+use Prim.Native.Nat.{ℕ, _+_, _*_, _≤_, _<_}
+use lib.Dec.{eqb}
+use lib.ListN.{length, getD}
+use Rattle.numbers.specs.Walk.{pick, bytesAt}
+use Rattle.numbers.specs.Places.{byteNo}
+use Rattle.numbers.specs.BigEndian.{number}
+use Rattle.numbers.specs.Terms.{All, Between}
+use Rattle.numbers.specs.declared.ByteNo.{ByteNo}
+use Rattle.value.specs.Pair.{valueOf, isCanonical, pairIn}
+use Rattle.reel.specs.Layout.{Field, binaryFields, traceFields, number16, tracesOf}
+use Rattle.record.specs.Form.{heldInterval, heldSamples, heldCode}
+use Rattle.record.specs.Held.{heldValue}
+use Rattle.read_reel.specs.Reading.{recordLengthOf}
+use Rattle.write_reel.specs.Reel.{reelLength}
+use Rattle.reel_theorems.specs.ReelTable.{Row}
+use Rattle.demands.specs.ValidRecord.{Stands, CanonicalAt, tracePlace, headerPlace, pairPlace, CardsRight, HeaderRight, TraceNext, EndNext, RecordRight}
+use Rattle.demands.specs.Words.{HasWord}
+
+-- ## Reading
+
+-- "Reading: 1 to 6 in that order; then trace by trace 7, 8, 9 (first such word); then 10." The rows of 1 to 9 are `Row`, in `ReelTable` of
+-- `reel_theorems`; the output has `room` bytes.
+pub data ReadRow (s : List ℕ) (room : ℕ) : ℕ → ℕ → Type 0 where
+  -- 1 to 9: a row of their table applies to the reel
+  by-reel : {number place : ℕ} → Row s number place → ReadRow s room number place
+  -- 10: none of them applies, and the output is too short for the record, with the record's length, 3273 + T × (186 + 6N)
+  short-output : ((number place : ℕ) → ¬ (Row s number place)) → room < recordLengthOf s → ReadRow s room 10 (recordLengthOf s)
+
+-- ## The form of a record
+
+-- The rows of 12 and 13: "the record front to back, each field first by 12, then by 13". "Number 12: a wrong tag, a wrong length, a field cut
+-- short or missing, trace 100,001 (place where that field's tag stands or should stand); a wrong count in tag 05 (place of its tag); bytes after
+-- it (place of the first). Number 13: a card byte 00, a format code other than 0, N or an interval outside its limits, trace fields 115 or 117
+-- unlike the reel's, a pair that isn't canonical; the place is its first byte, and in tag 02 the order is interval, N, code." Traces k and pairs j
+-- are counted from 0.
+pub data FormRow (s : List ℕ) : ℕ → ℕ → Type 0 where
+  -- 12: tag 01 doesn't stand at the front, whole and with its 3,200 bytes
+  no-cards : ¬ (Stands s 1 3200 0) → FormRow s 12 0
+  -- 13: a card byte is 00, the first such
+  bad-card : (j : ℕ) → Stands s 1 3200 0 → j < 3200 → ((i : ℕ) → i < j → ¬ (getD s (3 + i) 0 ≡ 0)) → getD s (3 + j) 0 ≡ 0 → FormRow s 13 (3 + j)
+  -- 12: tag 02 doesn't stand behind it, whole and with its 60 bytes
+  no-binary : CardsRight s → ¬ (Stands s 2 60 3203) → FormRow s 12 3203
+  -- 13: in tag 02, first an interval that is not 1 to 32,767
+  bad-held-interval : CardsRight s → Stands s 2 60 3203 → ¬ (Between 1 32767 (heldInterval s)) → FormRow s 13 3222
+  -- 13: then N that is not 1 to 8,000
+  bad-held-samples : CardsRight s → Stands s 2 60 3203 → Between 1 32767 (heldInterval s) → ¬ (Between 1 8000 (heldSamples s)) → FormRow s 13 3226
+  -- 13: then a format code other than 0
+  bad-held-code : CardsRight s → Stands s 2 60 3203 → Between 1 32767 (heldInterval s) → Between 1 8000 (heldSamples s) → ¬ (heldCode s ≡ 0)
+      → FormRow s 13 3230
+  -- 12: tag 03 of trace k is cut short or has a wrong length
+  no-header : (k : ℕ) → TraceNext s k → ¬ (Stands s 3 180 (tracePlace s k)) → FormRow s 12 (tracePlace s k)
+  -- 13: its field 115 is not N
+  bad-held-115 : (k : ℕ) → TraceNext s k → Stands s 3 180 (tracePlace s k) → ¬ (number16 s (headerPlace s k 115) ≡ heldSamples s)
+      → FormRow s 13 (headerPlace s k 115)
+  -- 13: its field 117 is not the interval
+  bad-held-117 : (k : ℕ) → TraceNext s k → Stands s 3 180 (tracePlace s k) → number16 s (headerPlace s k 115) ≡ heldSamples s
+      → ¬ (number16 s (headerPlace s k 117) ≡ heldInterval s)
+      → FormRow s 13 (headerPlace s k 117)
+  -- 12: tag 04 of trace k doesn't stand behind it, whole and with its 6N bytes
+  no-samples : (k : ℕ) → TraceNext s k → HeaderRight s k → ¬ (Stands s 4 (6 * heldSamples s) (tracePlace s k + 183)) → FormRow s 12 (tracePlace s k + 183)
+  -- 13: a pair of it isn't canonical, the first such
+  bad-pair : (k j : ℕ) → TraceNext s k → HeaderRight s k → Stands s 4 (6 * heldSamples s) (tracePlace s k + 183)
+      → j < heldSamples s → ((i : ℕ) → i < j → CanonicalAt s (pairPlace s k i)) → ¬ (CanonicalAt s (pairPlace s k j))
+      → FormRow s 13 (pairPlace s k j)
+  -- 12: tag 05 does not stand behind t traces, whole and with its 4 bytes; another tag, so also that of trace 100,001, may stand there
+  no-end : (t : ℕ) → EndNext s t → ¬ (Stands s 5 4 (tracePlace s t)) → FormRow s 12 (tracePlace s t)
+  -- 12: the count in tag 05 is not t, at its tag
+  bad-count : (t : ℕ) → EndNext s t → Stands s 5 4 (tracePlace s t) → ¬ (number (bytesAt s (tracePlace s t + 3) 4) ≡ t) → FormRow s 12 (tracePlace s t)
+  -- 12: bytes come after tag 05, at the first of them
+  after : (t : ℕ) → EndNext s t → Stands s 5 4 (tracePlace s t) → number (bytesAt s (tracePlace s t + 3) 4) ≡ t → tracePlace s t + 7 < length s
+      → FormRow s 12 (tracePlace s t + 7)
+
+-- ## Writing
+
+-- Sample j of trace k fits the target: some word of the code has the value of its pair.
+abbrev pub Fits : List ℕ → ℕ → ℕ → ℕ → Type 0
+Fits s code k j = HasWord code (heldValue s (pairPlace s k j))
+
+-- "Writing: 11; then the record front to back, each field first by 12, then by 13; then 14, first sample first; then 10." The output has
+-- `room` bytes.
+pub data WriteRow (s : List ℕ) (code room : ℕ) : ℕ → ℕ → Type 0 where
+  -- 11: the target code is not 1 to 4
+  bad-target : ¬ (Between 1 4 code) → WriteRow s code room 11 0
+  -- 12 and 13: a row of their table applies to the record
+  by-form : {number place : ℕ} → Between 1 4 code → FormRow s number place → WriteRow s code room number place
+  -- 14: a sample doesn't fit the target, the first such, at its pair
+  unfit : (t k j : ℕ) → Between 1 4 code → RecordRight s t → k < t → j < heldSamples s → ((h i : ℕ) → h < k → i < heldSamples s → Fits s code h i)
+      → ((i : ℕ) → i < j → Fits s code k i) → ¬ (Fits s code k j)
+      → WriteRow s code room 14 (pairPlace s k j)
+  -- 10: the output is too short for the reel, with the reel's length
+  short-output : (t : ℕ) → Between 1 4 code → RecordRight s t → ((k j : ℕ) → k < t → j < heldSamples s → Fits s code k j)
+      → room < reelLength code t (heldSamples s)
+      → WriteRow s code room 10 (reelLength code t (heldSamples s))
+
+-- ## Single samples
+
+-- "A single word is refused by 2, then 9; a single pair by 11, 13, 14; the place is 0": the rows of a single word w, four bytes.
+pub data WordRow (code : ℕ) (w : List ℕ) : ℕ → ℕ → Type 0 where
+  -- 2: the format code is not 1 to 4
+  bad-code : ¬ (Between 1 4 code) → WordRow code w 2 0
+  -- 9: the first byte of a gain word is not 00
+  bad-gain : code ≡ 4 → ¬ (getD w 0 0 ≡ 0) → WordRow code w 9 0
+
+-- The rows of a single pair b, six bytes.
+pub data PairRow (code : ℕ) (b : List ℕ) : ℕ → ℕ → Type 0 where
+  -- 11: the target code is not 1 to 4
+  bad-target : ¬ (Between 1 4 code) → PairRow code b 11 0
+  -- 13: the pair isn't canonical
+  bad-pair : Between 1 4 code → ¬ (isCanonical (pairIn b) ≡ true) → PairRow code b 13 0
+  -- 14: it doesn't fit: no word of the code has its value
+  unfit : Between 1 4 code → isCanonical (pairIn b) ≡ true → ¬ (HasWord code (valueOf (pairIn b))) → PairRow code b 14 0
+
+-- ## Looking up a field
+
+-- The assigned fields of header k: of the binary header for 0, of a trace's from 1 on.
+abbrev pub headerFields : ℕ → List Field
+headerFields k = pick (eqb k 0) binaryFields traceFields
+
+-- No assigned field of header k begins at byte number b.
+abbrev pub NoField : ℕ → ByteNo → Type 0
+NoField k b = All (λ f. ¬ (f .begins ≡ byteNo b)) (headerFields k)
+
+-- "Look-up takes a reel, a trace number (0 means the binary header, 1 the first trace) and a byte number. It refuses by 1 to 9, then 15, then
+-- 16." The trace number is k, the byte number b.
+pub data LookUpRow (s : List ℕ) (k : ℕ) (b : ByteNo) : ℕ → ℕ → Type 0 where
+  -- 1 to 9: a row of their table applies to the reel
+  by-reel : {number place : ℕ} → Row s number place → LookUpRow s k b number place
+  -- 15: the reel has no trace k
+  no-trace : ((number place : ℕ) → ¬ (Row s number place)) → tracesOf s < k → LookUpRow s k b 15 0
+  -- 16: no assigned field of that header begins at b
+  no-field : ((number place : ℕ) → ¬ (Row s number place)) → k ≤ tracesOf s → NoField k b → LookUpRow s k b 16 0

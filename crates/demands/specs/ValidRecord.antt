@@ -1,0 +1,90 @@
+-- What a valid record is, tag by tag and front to back. Document 01: "A record is valid when neither 12 nor 13 applies to it." `valid-is`, in
+-- `proofs/Determined`, shows that this is the same.
+use mathlib.Core.Path.{_≡_}
+use mathlib.Core.List.{List}
+use mathlib.Core.Logic.{_⊎_}
+use mathlib.Core.Bool.{true}
+use Prim.Native.Nat.{ℕ, _+_, _*_, _≤_, _<_}
+use lib.ListN.{length, getD}
+use Rattle.numbers.specs.Walk.{bytesAt}
+use Rattle.numbers.specs.Places.{bytePlace}
+use Rattle.numbers.specs.BigEndian.{number}
+use Rattle.numbers.specs.Terms.{Between}
+use Rattle.value.specs.Pair.{isCanonical, pairLength, pairIn}
+use Rattle.reel.specs.Layout.{number16}
+use Rattle.record.specs.Form.{heldInterval, heldSamples, heldCode, tracesPlace, heldStride}
+
+-- ## Places
+
+-- A field of this tag and length stands whole at the place `at`.
+pub record Stands (s : List ℕ) (tag size at : ℕ) : Type 0 where
+  pub whole : at + (3 + size) ≤ length s
+  pub tag-is : getD s at 0 ≡ tag
+  pub size-is : number16 s (at + 1) ≡ size
+
+-- The pair at a place is canonical.
+abbrev pub CanonicalAt : List ℕ → ℕ → Type 0
+CanonicalAt s at = isCanonical (pairIn (bytesAt s at pairLength)) ≡ true
+
+-- The place of trace k in a record, counted from 0; behind the last trace it is the place of tag 05.
+abbrev pub tracePlace : List ℕ → ℕ → ℕ
+tracePlace s k = tracesPlace + k * heldStride (heldSamples s)
+
+-- The place of byte number b of trace k's header, whose byte number 1 stands behind tag 03 and its length.
+abbrev pub headerPlace : List ℕ → ℕ → ℕ → ℕ
+headerPlace s k b = bytePlace (tracePlace s k + 3) b
+
+-- The place of pair j of trace k, behind tag 03 with its 180 bytes and tag 04 with its length.
+abbrev pub pairPlace : List ℕ → ℕ → ℕ → ℕ
+pairPlace s k j = tracePlace s k + 186 + j * pairLength
+
+-- ## Tag by tag
+
+-- Tag 01 stands at the front with its 3,200 card bytes, none of them 00.
+pub record CardsRight (s : List ℕ) : Type 0 where
+  pub cards : Stands s 1 3200 0
+  pub card-bytes : (j : ℕ) → j < 3200 → ¬ (getD s (3 + j) 0 ≡ 0)
+
+-- Then tag 02 stands with its 60 bytes: interval and N are within their limits, and the format code is 0.
+pub record HeadRight (s : List ℕ) : Type 0 where
+  pub front : CardsRight s
+  pub binary : Stands s 2 60 3203
+  pub interval : Between 1 32767 (heldInterval s)
+  pub samples : Between 1 8000 (heldSamples s)
+  pub code : heldCode s ≡ 0
+
+-- Tag 03 of trace k stands with its 180 bytes, of which field 115 is N and field 117 the interval.
+pub record HeaderRight (s : List ℕ) (k : ℕ) : Type 0 where
+  pub header : Stands s 3 180 (tracePlace s k)
+  pub count : number16 s (headerPlace s k 115) ≡ heldSamples s
+  pub interval : number16 s (headerPlace s k 117) ≡ heldInterval s
+
+-- Trace k stands: tag 03 is right, then tag 04 stands with N canonical pairs.
+pub record TraceRight (s : List ℕ) (k : ℕ) : Type 0 where
+  pub front : HeaderRight s k
+  pub samples : Stands s 4 (6 * heldSamples s) (tracePlace s k + 183)
+  pub pairs : (j : ℕ) → j < heldSamples s → CanonicalAt s (pairPlace s k j)
+
+-- All is right up to trace k: tags 01 and 02, and the k traces before it.
+pub record RightUntil (s : List ℕ) (k : ℕ) : Type 0 where
+  pub head : HeadRight s
+  pub before : (i : ℕ) → i < k → TraceRight s i
+
+-- All is right up to trace k, and another trace begins there: its tag is 03, and it is none beyond the 100,000th.
+pub record TraceNext (s : List ℕ) (k : ℕ) : Type 0 where
+  pub until : RightUntil s k
+  pub few : k < 100000
+  pub tag : getD s (tracePlace s k) 0 ≡ 3
+
+-- All is right up to the end of t traces, and tag 05 should follow: no tag 03 does, or it would be that of trace 100,001.
+pub record EndNext (s : List ℕ) (t : ℕ) : Type 0 where
+  pub until : RightUntil s t
+  pub few : t ≤ 100000
+  pub end : (t ≡ 100000) ⊎ (¬ (getD s (tracePlace s t) 0 ≡ 3))
+
+-- A valid record of t traces, to which neither 12 nor 13 applies: behind its traces tag 05 holds their count, and no byte comes after it.
+pub record RecordRight (s : List ℕ) (t : ℕ) : Type 0 where
+  pub end : EndNext s t
+  pub field : Stands s 5 4 (tracePlace s t)
+  pub count : number (bytesAt s (tracePlace s t + 3) 4) ≡ t
+  pub last : length s ≤ tracePlace s t + 7

@@ -1,0 +1,69 @@
+-- The causes 1 to 9 against a reel, as a table in document 01's order: 1 to 6; then trace by trace 7, 8, 9 (first such word). Each row says in
+-- which case it applies, and what stands beside it: as the order sets, it applies only where no row before it does.
+use mathlib.Core.Path.{_≡_}
+use mathlib.Core.List.{List}
+use Prim.Native.Nat.{ℕ, _+_, _*_, _≤_, _<_}
+use lib.ListN.{length, getD}
+use Rattle.numbers.specs.Terms.{Between, ZeroOr}
+use Rattle.reel.specs.Layout.{number16, samplesOf, intervalOf, codeOf, sampleBytes, strideOf, tracesOf}
+
+-- ## The terms of the table
+
+-- The place of trace k, counted from 0; behind the last trace it is the place of the first byte left over.
+abbrev pub traceAt : List ℕ → ℕ → ℕ
+traceAt s k = 3600 + k * strideOf s
+
+-- The place of sample j of trace k, behind the 240 bytes of the trace's header.
+abbrev pub sampleAt : List ℕ → ℕ → ℕ → ℕ
+sampleAt s k j = traceAt s k + 240 + j * sampleBytes (codeOf s)
+
+-- 1 to 4 don't apply: both headers stand whole, and the reel's own numbers are within their limits.
+pub record Headed (s : List ℕ) : Type 0 where
+  pub long : 3600 ≤ length s
+  pub code : Between 1 4 (codeOf s)
+  pub samples : Between 1 8000 (samplesOf s)
+  pub interval : Between 1 32767 (intervalOf s)
+
+-- Nor do 5 and 6: no byte comes after the last whole trace, and there are at most 100,000.
+pub record Whole (s : List ℕ) : Type 0 where
+  pub headed : Headed s
+  pub whole : length s ≤ traceAt s (tracesOf s)
+  pub few : tracesOf s ≤ 100000
+
+-- 7 to 9 don't apply to trace k: fields 115 and 117 are 0 or the reel's own, and under code 4 each sample begins with 00.
+pub record Passed (s : List ℕ) (k : ℕ) : Type 0 where
+  pub count : ZeroOr (samplesOf s) (number16 s (traceAt s k + 114))
+  pub interval : ZeroOr (intervalOf s) (number16 s (traceAt s k + 116))
+  pub words : (j : ℕ) → j < samplesOf s → codeOf s ≡ 4 → getD s (sampleAt s k j) 0 ≡ 0
+
+-- Nothing applies before trace k: not 1 to 6, nor 7 to 9 to the traces before it.
+pub record Until (s : List ℕ) (k : ℕ) : Type 0 where
+  pub reel : Whole s
+  pub trace : k < tracesOf s
+  pub before : (i : ℕ) → i < k → Passed s i
+
+-- ## The table
+
+-- The rows: in which case each applies, its number, and what stands beside it. Traces k and samples j are counted from 0.
+pub data Row (s : List ℕ) : ℕ → ℕ → Type 0 where
+  -- 1: the reel is under 3,600 bytes, with its length
+  short-reel : length s < 3600 → Row s 1 (length s)
+  -- 2: the format code is not 1 to 4
+  bad-code : 3600 ≤ length s → ¬ (Between 1 4 (codeOf s)) → Row s 2 3224
+  -- 3: N is not 1 to 8,000
+  bad-samples : 3600 ≤ length s → Between 1 4 (codeOf s) → ¬ (Between 1 8000 (samplesOf s)) → Row s 3 3220
+  -- 4: the interval is not 1 to 32,767
+  bad-interval : 3600 ≤ length s → Between 1 4 (codeOf s) → Between 1 8000 (samplesOf s) → ¬ (Between 1 32767 (intervalOf s)) → Row s 4 3216
+  -- 5: bytes come after the last whole trace, at the first of them
+  left-over : Headed s → traceAt s (tracesOf s) < length s → Row s 5 (traceAt s (tracesOf s))
+  -- 6: there are more than 100,000 traces, at trace 100,001
+  many : Headed s → length s ≤ traceAt s (tracesOf s) → 100000 < tracesOf s → Row s 6 (traceAt s 100000)
+  -- 7: field 115 of trace k is neither 0 nor N
+  bad-115 : (k : ℕ) → Until s k → ¬ (ZeroOr (samplesOf s) (number16 s (traceAt s k + 114))) → Row s 7 (traceAt s k + 114)
+  -- 8: its field 117 is neither 0 nor the reel's interval
+  bad-117 : (k : ℕ) → Until s k → ZeroOr (samplesOf s) (number16 s (traceAt s k + 114)) → ¬ (ZeroOr (intervalOf s) (number16 s (traceAt s k + 116)))
+      → Row s 8 (traceAt s k + 116)
+  -- 9: the first byte of one of its gain words is not 00, the first such word
+  bad-gain : (k j : ℕ) → Until s k → ZeroOr (samplesOf s) (number16 s (traceAt s k + 114)) → ZeroOr (intervalOf s) (number16 s (traceAt s k + 116))
+      → codeOf s ≡ 4 → j < samplesOf s → ((i : ℕ) → i < j → getD s (sampleAt s k i) 0 ≡ 0) → ¬ (getD s (sampleAt s k j) 0 ≡ 0)
+      → Row s 9 (sampleAt s k j)
