@@ -20,7 +20,7 @@ use mathlib.Core.Path.{_≡_, refl, sym, ap, _∙_, subst}
 use mathlib.Core.List.{List, [], _∷_, _++_}
 use mathlib.Core.Logic.{inl, inr}
 use mathlib.Core.Bool.{Bool, true, false, not}
-use Prim.Native.Nat.{ℕ, _+_, _^_, _≤_, _<_}
+use Prim.Native.Nat.{ℕ, _+_, _≤_, _<_}
 use native.Mathlib.Omega.{arith}
 use borrow.Author.Tests.{le-leb, eq-eqb, ne-eqb, eqb-true, eqb-false, not-true}
 use lib.Dec.{leb, ltb, eqb}
@@ -38,17 +38,19 @@ use Rattle.numbers.specs.declared.Check.the-variants.{Fine, Refused}
 use Rattle.numbers.proofs.WalkLaws.{All}
 use Rattle.numbers.proofs.ByteLaws.{Bytes}
 use Rattle.numbers.proofs.CauseLaws.{not-fine, passed, then-fine, at-most}
-use Rattle.value.specs.Value.{denominatorPower, isCode, exactValue}
+use Rattle.value.specs.Value.{isCode, exactValue}
 use Rattle.value.specs.Pair.{valueOf, isCanonical, pairIn}
-use Rattle.value.specs.Writing.{first, ibmFits, ibmAt, ibmWord, holds, wholeWord, gainFits, gainAt, gainWord, wordOf, writePair}
+use Rattle.value.specs.Writing.{wordOf, writePair}
+use Rattle.value.proofs.WrittenLaws.{Only14, only-14}
 use Rattle.value.specs.declared.Written.{Written}
 use Rattle.value.specs.declared.Written.the-variants as written
 use Rattle.sample.specs.Reading.{badGain, pairTaken, readWord}
 use Rattle.sample.specs.Calls as calls
 use Rattle.sample.specs.declared.Sample.{Sample}
 use Rattle.sample.specs.declared.Sample.the-variants as sample
-use Rattle.sample_theorems.proofs.Held.{and-true}
-use Rattle.sample_theorems.proofs.Pairs.{Iff, value-pair-back}
+use Rattle.numbers.proofs.BoolLaws.{and-true, and-both}
+use Rattle.numbers.specs.Iff.{Iff}
+use Rattle.sample_theorems.proofs.Pairs.{value-pair-back}
 use Rattle.reel.specs.Layout.{Field, binaryFields, traceFields, samplesOf, tracesOf}
 use Rattle.reel.specs.Causes.{traceCauses, behindCauses, causesOf}
 use Rattle.record.specs.Record.{reelRecord}
@@ -60,7 +62,7 @@ use Rattle.transcribe.specs.Reading.{readCauses, readEnd, readOutcome}
 use Rattle.write_reel.specs.Reel.{reelOf}
 use Rattle.write_reel.specs.Writing.{lengthOf, writeCauses, writeEnd, writeOutcome}
 use Rattle.look_up.specs.LookUp.{Found, found, none, isNone, fieldIn, fieldAt, headerNumber, foundNumber, fieldCauses, lookUpCauses, numberSaid, lookUpOutcome}
-use Rattle.reel_theorems.proofs.TestLaws.{atPlace, Between, Tests, apart, fine-where, refused-where, holds-where, row-where, then-row, then-first, then-second, and-both, test-between, test-room, test-by, not-enough, too-short, fine-none}
+use Rattle.reel_theorems.proofs.TestLaws.{atPlace, Between, Tests, apart, fine-where, refused-where, holds-where, row-where, then-row, then-first, then-second, test-between, test-room, test-by, not-enough, too-short, fine-none}
 use Rattle.reel_theorems.proofs.Refusals.{Row, exact-causes, no-cause}
 use Rattle.reel_theorems.proofs.Same.{record-size}
 use Rattle.reel_theorems.proofs.Output.{not-taken}
@@ -466,34 +468,6 @@ module _ (code : ℕ) (w : List ℕ) where
       go (sample.Taken x m) e = absurd (not-taken (sym e))
       go (sample.Refused n) e = refl
 
--- Where there is no word, the number is 14.
-abbrev Fourteen : Written → Type 0
-Fourteen (written.Word n) = Unit {0}
-Fourteen (written.Refused number) = number ≡ 14
-
--- A word or 14, by a truth value.
-or-14 : (b : Bool) (n : ℕ) → Fourteen (pick b (written.Word n) (written.Refused 14))
-or-14 true n = tt
-or-14 false n = refl
-
--- A choice between two such answers is such an answer.
-either-14 : (b : Bool) (x y : Written) → Fourteen x → Fourteen y → Fourteen (pick b x y)
-either-14 true x y p q = p
-either-14 false x y p q = q
-
--- Under every code.
-only-14 : (code : ℕ) (v : ℤ) → Fourteen (wordOf code v)
-only-14 code v =
-    either-14 (eqb code 1) (ibmWord v) _ (ibm (first (ibmFits v) 128 0))
-    (either-14 (eqb code 2) (wholeWord 32 1 v) _ (or-14 (holds 32 (2 ^ denominatorPower) v) _)
-    (either-14 (eqb code 3) (wholeWord 16 (2 ^ 16) v) (gainWord v) (or-14 (holds 16 (2 ^ denominatorPower) v) _) (gain (first (gainFits v) 256 0))))
-  where
-    ibm : (c : ℕ) → Fourteen (ibmAt v c)
-    ibm c = or-14 (ltb c 128) _
-
-    gain : (g : ℕ) → Fourteen (gainAt v g)
-    gain g = or-14 (ltb g 256) _
-
 module _ (code : ℕ) (b : List ℕ) where
   -- The checks of a single pair.
   pairChecks : Check
@@ -506,7 +480,7 @@ module _ (code : ℕ) (b : List ℕ) where
   unfolding pairChecks says
   pair-says = go (isCode code) (isCanonical (pairIn b)) (wordOf code (valueOf (pairIn b))) (only-14 code (valueOf (pairIn b)))
     where
-      go : (a c : Bool) (r : Written) → Fourteen r → calls.writeSaid (pick a (pick c r (written.Refused 13)) (written.Refused 11)) .said
+      go : (a c : Bool) (r : Written) → Only14 r → calls.writeSaid (pick a (pick c r (written.Refused 13)) (written.Refused 11)) .said
           ≡ says (then (refuseIf (not a) 11 0) (then (refuseIf (not c) 13 0) (refuseIf (isUnfit r) 14 0)))
       go true true (written.Word n) h = refl
       go true true (written.Refused n) h = ap (λ (x : ℕ). refused x 0) h

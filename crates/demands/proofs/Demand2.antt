@@ -29,7 +29,7 @@ use Rattle.numbers.specs.Outcome.{taken, Outcome}
 use Rattle.numbers.specs.declared.Check.the-variants.{Fine}
 use Rattle.numbers.proofs.ByteLaws.{Bytes}
 use Rattle.value.specs.Value.{isCode}
-use Rattle.sample_theorems.proofs.Pairs.{Iff}
+use Rattle.numbers.specs.Iff.{Iff}
 use Rattle.reel.specs.Layout.{samplesOf, tracesOf, sampleBytes}
 use Rattle.reel.specs.Meaning.{meaningOf}
 use Rattle.record.specs.Record.{recordOf}

@@ -35,7 +35,7 @@ use Rattle.numbers.proofs.WalkLaws.{All, cons-eq, size-bytes}
 use Rattle.numbers.proofs.ByteLaws.{Bytes, bytes-at}
 use Rattle.numbers.proofs.CauseLaws.{passed, then-fine, first-all}
 use Rattle.value.specs.Value.{denominatorPower, isCode, exactValue}
-use Rattle.sample_theorems.proofs.Pairs.{Iff}
+use Rattle.numbers.specs.Iff.{Iff}
 use Rattle.reel.specs.Layout.{firstTrace, traceHeader, word, intervalOf, samplesOf, codeOf, sampleBytes, strideOf, tracesOf}
 use Rattle.reel.specs.Causes.{neither, wordCause, traceCauses, causesOf}
 use Rattle.reel.specs.Meaning.{Trace, traceMeaning, Meaning, meaningOf, MeanTheSame}

@@ -24,7 +24,7 @@ use Rattle.record.specs.Record.{recordOf}
 use Rattle.record.specs.Form.{heldSamples, heldCount, formCauses}
 use Rattle.record.specs.Held.{heldBy}
 use Rattle.transcribe.specs.Reading.{readOutcome}
-use Rattle.sample_theorems.proofs.Pairs.{Iff}
+use Rattle.numbers.specs.Iff.{Iff}
 use Rattle.reel_theorems.proofs.Output.{taken-reel}
 use Rattle.demands.proofs.Again.{held-again}
 use Rattle.demands.proofs.Proper.{Proper}

@@ -5,8 +5,7 @@
 use mathlib.Core.Path.{_≡_, refl, sym, ap, _∙_, subst}
 use mathlib.Core.List.{List, [], _∷_}
 use mathlib.Core.Bool.{Bool, true, false}
-use Prim.Native.Nat.{ℕ, zero, suc, _+_}
-use native.Mathlib.Omega.{arith}
+use Prim.Native.Nat.{ℕ, _+_}
 use lib.Dec.{T}
 use lib.ListN.{length}
 use lib.IntN.{ℤ}
@@ -16,7 +15,7 @@ use Rattle.numbers.specs.Cause.{refuseIf, firstOf}
 use Rattle.numbers.specs.declared.Check.{Check}
 use Rattle.numbers.specs.declared.Check.the-variants.{Fine}
 use Rattle.numbers.proofs.WalkLaws.{All, all-walk}
-use Rattle.numbers.proofs.ByteLaws.{Bytes}
+use Rattle.numbers.proofs.ByteLaws.{Bytes, bytes-of}
 use Rattle.numbers.proofs.CauseLaws.{passed, AllFine, first-all}
 use Rattle.value.specs.Value.{isCode, exactValue}
 use Rattle.value.specs.Pair.{pairOf, isCanonical, pairLength}
@@ -24,8 +23,10 @@ use Rattle.value.specs.Writing.{wordOf, writePair}
 use Rattle.value.specs.declared.Written.{Written}
 use Rattle.value.specs.declared.Written.the-variants.{Word, Refused}
 use Rattle.sample.specs.Reading.{badGain}
-use Rattle.sample_theorems.proofs.Pairs.{Iff, pair-value}
-use Rattle.sample_theorems.proofs.Words.{Writes, written-is, writing-sound, writing-complete}
+use Rattle.numbers.specs.Iff.{Iff}
+use Rattle.sample_theorems.proofs.Pairs.{pair-value}
+use Rattle.value.proofs.WrittenLaws.{Writes, written-is}
+use Rattle.sample_theorems.proofs.Words.{writing-sound, writing-complete}
 use Rattle.reel.specs.Meaning.{Trace, Meaning}
 use Rattle.record.specs.Form.{tracesPlace, heldSamples, heldStride, heldCount}
 use Rattle.record.specs.Held.{heldValue, heldTrace, heldBy}
@@ -83,11 +84,6 @@ pub record HasWord (code : ℕ) (v : ℤ) : Type 0 where
 -- Each sample of a list of traces has a word under the code.
 abbrev pub Worded : ℕ → List Trace → Type 0
 Worded code l = All (λ (t : Trace). All (HasWord code) (t .values)) l
-
--- The bytes of a number are bytes.
-bytes-of : (k n : ℕ) → Bytes (bytesOf k n)
-bytes-of zero n = tt
-bytes-of (suc k) n = (omega arith, bytes-of k n)
 
 -- What is not unfit is a word.
 fit-word : (r : Written) → isUnfit r ≡ false → Writes r

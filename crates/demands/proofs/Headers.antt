@@ -10,7 +10,7 @@ use Rattle.numbers.specs.Walk.{flat}
 use Rattle.numbers.specs.BigEndian.{bytesOf}
 use Rattle.numbers.specs.TwosComplement.{signedOf, bitsOf}
 use Rattle.numbers.proofs.WalkLaws.{All}
-use Rattle.numbers.proofs.ByteLaws.{Bytes, number-at}
+use Rattle.numbers.proofs.ByteLaws.{Bytes, number-at, bytes-of}
 use Rattle.numbers.proofs.SignLaws.{bits-signed}
 use Rattle.reel.specs.Layout.{fieldsFrom, binaryWidths, binaryFields, traceWidths, traceFields, fieldNumber, word}
 use Rattle.reel.specs.Meaning.{otherThan, Trace, Meaning}
@@ -33,12 +33,7 @@ pub bytes-flat : {A : Type 0} (g : A → List ℕ) (P : A → Type 0) → ((a : 
 bytes-flat g P h [] p = tt
 bytes-flat g P h (a ∷ l) p = all-append (λ b. b < 256) (g a) (flat (map g l)) (h a (p .0)) (bytes-flat g P h l (p .1))
 
--- The bytes of a number are bytes.
-pub bytes-of : (k n : ℕ) → Bytes (bytesOf k n)
-bytes-of zero n = tt
-bytes-of (suc k) n = (omega arith, bytes-of k n)
-
--- So are those of header numbers.
+-- The bytes of header numbers are bytes.
 pub bytes-numbers : (ws : List ℕ) (zs : List ℤ) → Bytes (numberBytes ws zs)
 bytes-numbers [] zs = tt
 bytes-numbers (w ∷ ws) [] = tt

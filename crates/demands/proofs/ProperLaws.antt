@@ -16,7 +16,7 @@ use Rattle.numbers.specs.Walk.{pick, bytesAt}
 use Rattle.numbers.specs.TwosComplement.{signedOf}
 use Rattle.numbers.specs.Cause.{refuseIf}
 use Rattle.numbers.specs.declared.Check.the-variants.{Fine}
-use Rattle.numbers.proofs.WalkLaws.{All, size-walk, size-bytes}
+use Rattle.numbers.proofs.WalkLaws.{All, size-walk, size-bytes, all-both}
 use Rattle.numbers.proofs.ByteLaws.{Bytes, bytes-at}
 use Rattle.numbers.proofs.CauseLaws.{passed, then-fine, first-all}
 use Rattle.value.specs.Pair.{pairOf, isCanonical, pairLength, pairIn}
@@ -51,11 +51,6 @@ some-not n = ne-eqb (suc n) 0 no
 trace-some : Some traceWidths
 unfolding allSome traceWidths
 trace-some = some-of traceWidths refl
-
--- What holds of each element of a list, and what else holds of each, hold both of each.
-all-both : {A : Type 0} (P Q : A → Type 0) (l : List A) → All P l → All Q l → All (λ x. P x × Q x) l
-all-both P Q [] p q = tt
-all-both P Q (x ∷ l) p q = ((p .0, q .0), all-both P Q l (p .1) (q .1))
 
 -- ## What a record holds
 

@@ -18,7 +18,7 @@ use Rattle.numbers.specs.Cause.{refuseIf, then, firstOf}
 use Rattle.numbers.specs.declared.Check.{Check}
 use Rattle.numbers.specs.declared.Check.the-variants.{Fine}
 use Rattle.numbers.proofs.WalkLaws.{All, flat-size}
-use Rattle.numbers.proofs.ByteLaws.{Bytes}
+use Rattle.numbers.proofs.ByteLaws.{Bytes, bytes-of}
 use Rattle.value.specs.Pair.{pairOf, valueOf, isCanonical, pairLength, pairIn}
 use Rattle.sample_theorems.proofs.Pairs.{pair-value, bytes-pair}
 use Rattle.reel.specs.Layout.{cardBytes, binaryFields, traceWidths, fieldNumber, word}
@@ -32,7 +32,7 @@ use Rattle.reel_theorems.proofs.Ranges.{length-bytes}
 use Rattle.reel_theorems.proofs.Same.{size-field, trace-eq}
 use Rattle.demands.proofs.Proper.{ProperTrace, Proper}
 use Rattle.demands.proofs.From.{From, from-start, from-at, from-parts, from-next, from-bytes, from-byte, from-behind, from-walk, from-fine, from-number}
-use Rattle.demands.proofs.Headers.{all-append, bytes-flat, bytes-of, bytes-numbers, bytes-cards, size-binary, bytes-binary, binary-again, code-again, samples-again, interval-again, size-header, numbers-again, count-again, spacing-again, meaning-eq}
+use Rattle.demands.proofs.Headers.{all-append, bytes-flat, bytes-numbers, bytes-cards, size-binary, bytes-binary, binary-again, code-again, samples-again, interval-again, size-header, numbers-again, count-again, spacing-again, meaning-eq}
 
 -- ## Fields
 

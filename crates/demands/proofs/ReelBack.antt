@@ -18,15 +18,15 @@ use Rattle.numbers.specs.BigEndian.{number, bytesOf}
 use Rattle.numbers.specs.TwosComplement.{signedOf}
 use Rattle.numbers.specs.Cause.{refuseIf, firstOf}
 use Rattle.numbers.specs.declared.Check.the-variants.{Fine}
-use Rattle.numbers.proofs.WalkLaws.{All, all-take, cons-eq, flat-size}
-use Rattle.numbers.proofs.ByteLaws.{Bytes}
+use Rattle.numbers.proofs.WalkLaws.{All, all-take, cons-eq, flat-size, all-both}
+use Rattle.numbers.proofs.ByteLaws.{Bytes, bytes-of}
 use Rattle.value.specs.Value.{wholeValue, isCode, exactValue}
 use Rattle.value.specs.Pair.{pairOf, isCanonical}
 use Rattle.value.specs.Writing.{wordOf, writePair}
 use Rattle.value.specs.declared.Written.{Written}
 use Rattle.value.specs.declared.Written.the-variants.{Word, Refused}
 use Rattle.sample.specs.Reading.{badGain}
-use Rattle.sample_theorems.proofs.Held.{and-true}
+use Rattle.numbers.proofs.BoolLaws.{and-true}
 use Rattle.sample_theorems.proofs.Pairs.{pair-value}
 use Rattle.sample_theorems.proofs.Words.{Says, writing-sound}
 use Rattle.reel.specs.Layout.{cardBytes, firstTrace, traceHeader, binaryFields, traceWidths, traceFields, fieldNumber, intervalOf, samplesOf, codeOf, sampleBytes, stride, strideOf, wholeIn, overIn, tracesOf}
@@ -44,7 +44,7 @@ use Rattle.write_reel.specs.Reel.{sampleWritten, traceWritten, reelOf, reelLeng
 use Rattle.demands.proofs.Proper.{ProperTrace, Proper}
 use Rattle.demands.proofs.Fitting.{Fitting}
 use Rattle.demands.proofs.From.{From, from-start, from-at, from-next, from-bytes, from-walk, from-fine}
-use Rattle.demands.proofs.Headers.{all-append, bytes-flat, bytes-of, bytes-numbers, bytes-zeros, size-zeros, bytes-cards, meaning-eq, size-binary, bytes-binary, binary-again, code-again, samples-again, interval-again, size-header, count-at, interval-at, trace-around, numbers-again, count-again, spacing-again}
+use Rattle.demands.proofs.Headers.{all-append, bytes-flat, bytes-numbers, bytes-zeros, size-zeros, bytes-cards, meaning-eq, size-binary, bytes-binary, binary-again, code-again, samples-again, interval-again, size-header, count-at, interval-at, trace-around, numbers-again, count-again, spacing-again}
 
 -- ## Samples
 
@@ -115,11 +115,6 @@ read-sample s code v at rest c h f =
     go k x f false q = read-four s code v at k rest x (rw q at f)
 
 -- ## Traces
-
--- What holds of each element of a list, and what else does, hold of each together.
-all-both : {A : Type 0} (P Q : A → Type 0) (l : List A) → All P l → All Q l → All (λ a. P a × Q a) l
-all-both P Q [] p q = tt
-all-both P Q (a ∷ l) p q = ((p .0, q .0), all-both P Q l (p .1) (q .1))
 
 -- A proper trace whose samples have words under the code.
 record Ready (code n i : ℕ) (t : Trace) : Type 0 where

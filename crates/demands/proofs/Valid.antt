@@ -20,11 +20,11 @@ use Rattle.numbers.specs.declared.Check.the-variants.{Fine}
 use Rattle.numbers.proofs.WalkLaws.{All}
 use Rattle.numbers.proofs.CauseLaws.{then-fine}
 use Rattle.value.specs.Pair.{isCanonical, pairLength, pairIn}
-use Rattle.sample_theorems.proofs.Held.{and-true}
+use Rattle.numbers.proofs.BoolLaws.{and-true, and-both}
 use Rattle.reel.specs.Layout.{word}
 use Rattle.reel.specs.Causes.{mostSamples, mostTraces, mostInterval, within}
 use Rattle.record.specs.Form.{isField, fieldCause, cardCause, cardsCauses, heldInterval, heldSamples, heldCode, binaryCauses, tracesPlace, heldStride, pairCause, samplesCauses, traceForm, tagsFrom, heldCount, endCauses, bodyCauses, formCauses}
-use Rattle.reel_theorems.proofs.TestLaws.{Between, Tests, test-by, fine-where, holds-where, then-second, and-both, test-between, test-same, test-room, at-zero, at-suc, none-is, none-of, walk-fine, walk-holds}
+use Rattle.reel_theorems.proofs.TestLaws.{Between, Tests, test-by, fine-where, holds-where, then-second, test-between, test-same, test-room, at-zero, at-suc, none-is, none-of, walk-fine, walk-holds}
 use Rattle.record.proofs.FormLaws.{trace-parts, tags-most}
 
 -- ## The terms

@@ -21,7 +21,8 @@ use Rattle.numbers.proofs.CauseLaws.{not-fine, then-fine}
 use Rattle.value.specs.Value.{isCode}
 use Rattle.value.specs.Pair.{pairLength}
 use Rattle.value.specs.Writing.{wordOf}
-use Rattle.sample_theorems.proofs.Pairs.{Iff}
+use Rattle.numbers.specs.Iff.{Iff}
+use Rattle.numbers.proofs.BoolLaws.{and-both}
 use Rattle.reel.specs.Layout.{word}
 use Rattle.reel.specs.Causes.{mostSamples, mostInterval, within}
 use Rattle.record.specs.Form.{fieldCause, cardCause, cardsCauses, heldInterval, heldSamples, heldCode, binaryCauses, tracesPlace, heldStride, pairCause, samplesCauses, traceForm, endCauses, bodyCauses, formCauses}
@@ -30,7 +31,7 @@ use Rattle.record.specs.Held.{heldValue}
 use Rattle.record.specs.Target.{isUnfit, fitCause, traceFit, fitCauses, targetCauses}
 use Rattle.write_reel.specs.Reel.{reelLength}
 use Rattle.write_reel.specs.Writing.{writeCauses}
-use Rattle.reel_theorems.proofs.TestLaws.{atPlace, Between, Tests, apart, fine-where, refused-where, holds-where, row-where, then-row, then-first, then-second, and-both, test-between, test-same, test-room, not-enough, too-short, first-is, first-of, none-is, none-of, walk-fine, walk-holds, walk-refused, walk-row, fine-none}
+use Rattle.reel_theorems.proofs.TestLaws.{atPlace, Between, Tests, apart, fine-where, refused-where, holds-where, row-where, then-row, then-first, then-second, test-between, test-same, test-room, not-enough, too-short, first-is, first-of, none-is, none-of, walk-fine, walk-holds, walk-refused, walk-row, fine-none}
 use Rattle.demands.proofs.Valid.{Stands, CanonicalAt, tracePlace, pairPlace, CardsRight, HeadRight, RightUntil, TraceNext, EndNext, RecordRight, test-field, card-tests, cards-fine, cards-right, head-right, formAt, pair-tests, trace-fine, countIn, next-counted, end-counted, end-next, trace-next, body-end, form-body, record-fine, record-right}
 use Rattle.demands.proofs.ProperLaws.{value-held}
 use Rattle.demands.proofs.Fitting.{HasWord, fits-is}

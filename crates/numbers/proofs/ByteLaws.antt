@@ -15,6 +15,11 @@ use Rattle.numbers.specs.BigEndian.{numberAfter, number, bytesOf}
 abbrev pub Bytes : List ℕ → Type 0
 Bytes = All (λ b. b < 256)
 
+-- The bytes of a number are bytes.
+pub bytes-of : (k n : ℕ) → Bytes (bytesOf k n)
+bytes-of zero n = tt
+bytes-of (suc k) n = (omega arith, bytes-of k n)
+
 some : (k : ℕ) → 0 < 256 ^ k
 some k = one-le-pow k 256 (zero-lt-suc 255)
 

@@ -1,7 +1,9 @@
 -- The laws that every crate uses, each stated once, over the width or the index.
+pub mod BoolLaws
 pub mod WalkLaws
 pub mod CauseLaws
 pub mod Filling
 pub mod ByteLaws
 pub mod SignLaws
+pub mod FirstLaws
 pub mod PlaceLaws

@@ -1,7 +1,6 @@
 -- Laws of walks, of lists joined, and of the bytes of a list by offset.
 -- Assumes nothing.
 use mathlib.Core.Path.{_≡_, refl, sym, ap, _∙_}
-use mathlib.Core.Bool.{Bool, true, false, _&&_}
 use mathlib.Core.List.{List, [], _∷_, _++_, map, append-nil}
 use Prim.Native.Nat.{ℕ, zero, suc, _+_, _-_, _*_, _≤_, _<_}
 use native.Mathlib.Nat.{suc-mul, zero-mul, zero-add, not-suc-le-zero}
@@ -50,6 +49,11 @@ pub all-drop : {A : Type 0} (P : A → Type 0) (k : ℕ) (l : List A) → All P 
 all-drop P zero l h = h
 all-drop P (suc k) [] h = tt
 all-drop P (suc k) (x ∷ l) h = all-drop P k l (h .1)
+
+-- What holds of each element by one account and by another holds by both.
+pub all-both : {A : Type 0} (P Q : A → Type 0) (l : List A) → All P l → All Q l → All (λ a. P a × Q a) l
+all-both P Q [] p q = tt
+all-both P Q (x ∷ l) p q = ((p .0, q .0), all-both P Q l (p .1) (q .1))
 
 -- What holds at every offset holds of each element of a walk.
 pub all-at : {A : Type 0} (P : A → Type 0) (f : ℕ → A) → ((a : ℕ) → P (f a)) → (w k at : ℕ) → All P (walk f w k at)
@@ -172,15 +176,3 @@ copied src out p e = p ∙ rw (eq-eqb (length out) (length src) e)
 -- values stored one by one in a slice as long as they are
 pub stored-copy : (vs out : List ℕ) → length out ≡ length vs → sets out 0 vs ≡ copyOf vs out
 stored-copy vs out h = stored vs out h ∙ sym (copied vs out refl h)
-
--- two tests that pass together pass each
-pub both : (a b : Bool) → (a && b) ≡ true → (a ≡ true) × (b ≡ true)
-both true b e = (refl, e)
-both false b e = absurd (none (ap number-of e))
-  where
-    number-of : Bool → ℕ
-    number-of true = 1
-    number-of false = 0
-
-    none : _≡_ {A = ℕ} 0 1 → ⊥
-    none z = omega arith

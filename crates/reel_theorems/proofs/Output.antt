@@ -15,7 +15,7 @@ use Rattle.numbers.specs.declared.Check.{Check}
 use Rattle.numbers.specs.declared.Check.the-variants.{Fine, Refused}
 use Rattle.numbers.proofs.CauseLaws.{then-fine}
 use Rattle.numbers.proofs.ByteLaws.{Bytes}
-use Rattle.sample_theorems.proofs.Pairs.{Iff}
+use Rattle.numbers.specs.Iff.{Iff}
 use Rattle.reel.specs.Layout.{samplesOf, tracesOf}
 use Rattle.reel.specs.Causes.{causesOf}
 use Rattle.reel.specs.Meaning.{MeanTheSame}

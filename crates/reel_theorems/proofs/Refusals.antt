@@ -19,7 +19,7 @@ use Rattle.numbers.specs.declared.Check.{Check}
 use Rattle.numbers.specs.declared.Check.the-variants.{Fine, Refused}
 use Rattle.numbers.proofs.CauseLaws.{not-fine, then-fine}
 use Rattle.value.specs.Value.{isCode}
-use Rattle.sample_theorems.proofs.Pairs.{Iff}
+use Rattle.numbers.specs.Iff.{Iff}
 use Rattle.reel.specs.Layout.{firstTrace, traceHeader, word, samplesOf, intervalOf, codeOf, sampleBytes, strideOf, overIn, tracesOf}
 use Rattle.reel.specs.Causes.{mostSamples, mostTraces, mostInterval, within, neither, headerCauses, sizeCauses, wordCause, traceCauses, behindCauses, causesOf}
 use Rattle.reel_theorems.proofs.TestLaws.{atPlace, Between, ZeroOr, Tests, fine-where, refused-where, holds-where, row-where, then-row, then-first, then-second, test-between, test-either, test-room, not-enough, too-short, first-is, first-of, walk-fine, walk-holds, walk-refused, walk-row, fine-none}

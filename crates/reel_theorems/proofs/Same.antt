@@ -23,8 +23,9 @@ use Rattle.numbers.proofs.SignLaws.{bits-signed}
 use Rattle.value.specs.Value.{exactValue}
 use Rattle.value.specs.Pair.{pairOf, valueOf, isCanonical, pairIn}
 use Rattle.value.specs.declared.Pair.{Pair}
-use Rattle.sample_theorems.proofs.Held.{and-true}
-use Rattle.sample_theorems.proofs.Pairs.{Iff, pair-value, bytes-pair, value-canonical}
+use Rattle.numbers.proofs.BoolLaws.{and-true}
+use Rattle.numbers.specs.Iff.{Iff}
+use Rattle.sample_theorems.proofs.Pairs.{pair-value, bytes-pair, value-canonical}
 use Rattle.reel.specs.Layout.{Field, fieldsFrom, binaryWidths, binaryFields, traceWidths, traceFields, fieldNumber, firstTrace, traceHeader, word, samplesOf, intervalOf, codeOf, sampleBytes, strideOf, tracesOf}
 use Rattle.reel.specs.Causes.{mostSamples, causesOf}
 use Rattle.reel.specs.Meaning.{cardText, binaryNumbers, filled, traceNumber, Trace, traceMeaning, Meaning, meaningOf, MeanTheSame}

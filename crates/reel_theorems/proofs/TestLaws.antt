@@ -15,8 +15,8 @@ use Rattle.numbers.specs.declared.Place.{Place}
 use Rattle.numbers.specs.declared.Check.{Check}
 use Rattle.numbers.specs.declared.Check.the-variants.{Fine, Refused}
 use Rattle.numbers.proofs.CauseLaws.{not-fine, then-fine}
-use Rattle.sample_theorems.proofs.Held.{and-true}
-use Rattle.sample_theorems.proofs.Pairs.{Iff}
+use Rattle.numbers.proofs.BoolLaws.{and-true, and-both}
+use Rattle.numbers.specs.Iff.{Iff}
 use Rattle.reel.specs.Causes.{within, neither}
 
 -- ## Terms
@@ -88,11 +88,6 @@ pub then-second : (c d : Check) {x : Check} → c ≡ Fine → d ≡ x → then 
 then-second c d e f = ap (λ x. then x d) e ∙ f
 
 -- ## Tests of numbers
-
--- Two tests that are both true.
-pub and-both : (b c : Bool) → b ≡ true → c ≡ true → (b && c) ≡ true
-and-both true c p q = q
-and-both false c p q = p
 
 -- A number within its limits.
 pub test-between : (a b n number at : ℕ) → Tests (Between a b n) number at (refuseIf (not (within a b n)) number at)

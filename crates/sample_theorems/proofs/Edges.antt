@@ -2,16 +2,17 @@
 --
 -- Each is computed by the rules themselves. A word is written as its four bytes, a pair that is read as e and m.
 use mathlib.Core.Path.{_≡_, refl}
-use mathlib.Core.List.{List, [], _∷_}
+use mathlib.Core.List.{[], _∷_}
 use mathlib.Core.Bool.{true}
 use Prim.Native.Nat.{ℕ, _^_, _≤_, _<_}
 use lib.IntN.{ℤ, pos, negsuc, negℤ}
 use lib.Dec.{lit<, lit≤}
 use Rattle.numbers.specs.Walk.{bytesAt}
-use Rattle.numbers.specs.Outcome.{taken, refused, Outcome}
+use Rattle.numbers.specs.First.{first}
+use Rattle.numbers.specs.Outcome.{taken}
 use Rattle.value.specs.Value.{wholeValue}
 use Rattle.value.specs.Pair.{twosIn, twos, oddPart, pairOf, isCanonical}
-use Rattle.value.specs.Writing.{first, writePair}
+use Rattle.value.specs.Writing.{writePair}
 use Rattle.value.specs.declared.Pair.{Pair}
 use Rattle.value.specs.declared.Written.{Written}
 use Rattle.value.specs.declared.Written.the-variants.{Word, Refused}

@@ -1,27 +1,27 @@
 -- # Theorem 4: there and back
 use mathlib.Core.Path.{_≡_, refl, sym, ap, _∙_}
-use mathlib.Core.Bool.{true, false}
 use mathlib.Core.List.{List, []}
 use Prim.Native.Nat.{ℕ}
 use native.Mathlib.Omega.{arith}
 use lib.ListN.{length}
 use lib.IntN.{ℤ}
 use Rattle.numbers.specs.BigEndian.{bytesOf}
-use Rattle.numbers.specs.Outcome.{taken, refused, Outcome}
+use Rattle.numbers.specs.Outcome.{taken, Outcome}
 use Rattle.numbers.proofs.ByteLaws.{Bytes}
 use Rattle.value.specs.Value.{exactValue}
-use Rattle.value.specs.Pair.{pairOf, valueOf, isCanonical, pairIn}
+use Rattle.value.specs.Pair.{pairOf, pairIn}
 use Rattle.value.specs.Writing.{writePair}
 use Rattle.value.specs.declared.Pair.{Pair}
 use Rattle.value.specs.declared.Written.{Written}
 use Rattle.value.specs.declared.Written.the-variants.{Word, Refused}
+use Rattle.value.proofs.WrittenLaws.{written-is}
 use Rattle.sample.specs.Reading.{readWord}
 use Rattle.sample.specs.Calls.{readSaid, readOutcome, writeSaid, writeOutcome}
 use Rattle.sample.specs.declared.Sample.{Sample}
 use Rattle.sample.specs.declared.Sample.the-variants as sample
 use Rattle.sample.specs.declared.Sample.the-variants.{Taken}
 use Rattle.sample_theorems.proofs.Pairs.{bytes-pair, pair-bytes, taken-code, value-pair-back, reading-value, reading-canonical, reading-takes}
-use Rattle.sample_theorems.proofs.Words.{Normal, Writes, written-is, writing-sound, writing-complete, writing-normal}
+use Rattle.sample_theorems.proofs.Words.{Normal, writing-sound, writing-complete, writing-normal}
 
 -- THEOREM 4. A pair that is written under a code, and the word read under that code, give the pair again.
 pub write-read : (code : ℕ) (p : Pair) (n : ℕ) → writePair code p ≡ Word n → readWord code (bytesOf 4 n) ≡ Taken (p .e) (p .m)

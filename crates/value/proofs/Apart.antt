@@ -1,17 +1,18 @@
 -- A pair taken apart: its sign, its magnitude and e + 280, as the code finds them in the bits. Assumes nothing.
-use mathlib.Core.Path.{_≡_, refl, sym, ap, _∙_, subst}
+use mathlib.Core.Path.{_≡_, sym, ap, _∙_}
 use mathlib.Core.Logic.{⊎-elim}
-use mathlib.Core.Bool.{Bool, true, false, _&&_, _||_}
-use Prim.Native.Nat.{ℕ, zero, suc, _+_, _-_, _*_, _%_, _^_, _≤_, _<_}
+use mathlib.Core.Bool.{true, false, _&&_}
+use Prim.Native.Nat.{ℕ, suc, _+_, _-_, _*_, _%_, _^_, _≤_, _<_}
 use native.Mathlib.Omega.{arith}
-use borrow.Author.Tests.{le-leb, lt-leb, leb-true, eq-eqb, ne-eqb}
+use borrow.Author.Tests.{le-leb, lt-leb, ne-eqb}
 use lib.Dec.{leb, eqb}
-use lib.IntN.{ℤ, pos, negsuc, negℤ, natAbs, _+ℤ_, _*ℤ_}
-use lib.Signed.{leZ, mag}
+use lib.IntN.{ℤ, pos, negsuc, natAbs, _+ℤ_, _*ℤ_}
+use lib.Signed.{mag}
 use Rattle.numbers.specs.TwosComplement.{signedOf, bitsOf}
-use Rattle.numbers.proofs.SignLaws.{below-or, sub-below, sub-above, signed-bits, bits-lt}
+use Rattle.numbers.proofs.SignLaws.{below-or, sub-above, abs-zero, signed-bits, bits-lt}
+use Rattle.numbers.proofs.BoolLaws.{and-false, or-true}
 use Rattle.value.specs.Value.{denominatorPower, signMagnitude}
-use Rattle.value.specs.Pair.{highestExponent, mantissaBits, valueOf, isExponent, isMantissa, isCanonical}
+use Rattle.value.specs.Pair.{highestExponent, mantissaBits, valueOf, isExponent, isCanonical}
 use Rattle.value.specs.Parts.{Apart}
 use Rattle.value.specs.declared.Pair.{Pair}
 use Rattle.value.proofs.Magnitudes.{signed-mul, signed-word}
@@ -51,14 +52,6 @@ pub bits-zero : (e : ℤ) → natAbs e ≡ 0 → bitsOf 16 e ≡ 0
 bits-zero (pos n) h = h
 bits-zero (negsuc n) h = omega arith
 
-and-false : (b : Bool) → (b && false) ≡ false
-and-false true = refl
-and-false false = refl
-
-or-true : (b : Bool) → (b || true) ≡ true
-or-true true = refl
-or-true false = refl
-
 -- the pairs that are canonical, and those that are not, by what the code tests
 module _ (p : Pair) where
   pub zero-yes : natAbs (p .m) ≡ 0 → natAbs (p .e) ≡ 0 → isCanonical p ≡ true
@@ -80,14 +73,7 @@ module _ (p : Pair) where
 
   -- a pair with m = 0 has the value zero
   pub zero-value : natAbs (p .m) ≡ 0 → valueOf p ≡ pos 0
-  zero-value h = ap (λ (z : ℤ). z *ℤ pos (2 ^ natAbs (p .e +ℤ pos denominatorPower))) (nil (p .m) h) ∙ ap pos (omega arith)
-    where
-      nil : (z : ℤ) → natAbs z ≡ 0 → z ≡ pos 0
-      nil (pos n) e = ap pos e
-      nil (negsuc n) e = absurd (no e)
-        where
-          no : suc n ≡ 0 → ⊥
-          no e = omega arith
+  zero-value h = ap (λ (z : ℤ). z *ℤ pos (2 ^ natAbs (p .e +ℤ pos denominatorPower))) (abs-zero (p .m) h) ∙ ap pos (omega arith)
 
   -- a canonical pair other than zero, by the bits of its numbers
   module _ (n k : ℕ) (fe : mag (p .e) < 2 ^ 15) (fm : mag (p .m) < 2 ^ 31) (bn : n ≡ bitsOf 32 (p .m)) (bk : k ≡ (bitsOf 16 (p .e) + denominatorPower) % 2 ^ 16) where

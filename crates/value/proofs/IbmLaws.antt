@@ -1,22 +1,21 @@
 -- The normal word of ± o × 2 ^ k under code 1, for an odd o. Assumes nothing.
-use mathlib.Core.Path.{_≡_, refl, sym, ap, _∙_, subst}
+use mathlib.Core.Path.{_≡_, refl, sym, ap, _∙_}
 use mathlib.Core.Logic.{_⊎_, inl, inr, ⊎-elim}
 use mathlib.Core.Bool.{Bool, true, false}
 use Prim.Native.Nat.{ℕ, zero, suc, _+_, _-_, _*_, _/_, _%_, _^_, _≤_, _<_, min}
 use native.Mathlib.Nat.{le-trans, mul-le-mul-right, mul-le-mul-left, mul-assoc, lt-of-le-of-lt, le-of-eq, mul-one, lt-of-lt-of-le}
 use native.Mathlib.Omega.{arith}
-use borrow.Author.Tests.{lt-ltb, le-ltb, le-leb, lt-leb, ne-eqb}
+use borrow.Author.Tests.{lt-ltb, le-ltb, le-leb, ne-eqb}
 use lib.Pow.{pow-add, pow-pos, pow-mono, shl-lt}
-use lib.IntN.{ℤ, pos, negsuc, natAbs}
-use Rattle.numbers.specs.Walk.{pick}
+use lib.IntN.{natAbs}
 use Rattle.numbers.proofs.SignLaws.{below-or}
 use Rattle.value.specs.Value.{signMagnitude}
-use Rattle.value.specs.Writing.{first, isNormal, ibmFits, ibmBits, ibmAt, ibmWord}
+use Rattle.value.specs.Writing.{isNormal, ibmFits, ibmBits, ibmAt, ibmWord}
 use Rattle.value.specs.declared.Written.the-variants.{Word, Refused}
 use Rattle.value.proofs.Twos.{odd-shl}
 use Rattle.value.proofs.Magnitudes.{neg-signed, abs-signed}
 use Rattle.value.proofs.Pairs.{sixteens}
-use Rattle.value.proofs.First.{first-at, first-none}
+use Rattle.numbers.proofs.FirstLaws.{first-at, none-passes}
 use Rattle.value.proofs.Exact.{multiple, no-multiple, exact-div}
 
 pub grow : (x n : ℕ) → x ≤ x * 2 ^ n
@@ -74,7 +73,7 @@ module _ (s : Bool) (o k : ℕ) (e : o % 2 ≡ 1) where
 
   -- no characteristic serves
   pub ibm-unfit : (t : ℕ) → t ≡ min (k / 4) 127 → 2 ^ 24 ≤ o * 2 ^ (k - t * 4) → ibmWord (signMagnitude s (o * 2 ^ k)) ≡ Refused 14
-  ibm-unfit t q b = ap (ibmAt (signMagnitude s (o * 2 ^ k))) (first-none (ibmFits (signMagnitude s (o * 2 ^ k))) 128 0 none)
+  ibm-unfit t q b = ap (ibmAt (signMagnitude s (o * 2 ^ k))) (none-passes (ibmFits (signMagnitude s (o * 2 ^ k))) 128 0 none)
     where
       none : (i : ℕ) → 0 ≤ i → i < 0 + 128 → ibmFits (signMagnitude s (o * 2 ^ k)) i ≡ false
       none i z p =

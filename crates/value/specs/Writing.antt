@@ -1,21 +1,17 @@
 -- The word of a value under each code, as a number of 32 bits, and what writing a pair gives.
-use Prim.Native.Nat.{ℕ, zero, suc, _+_, _-_, _*_, _/_, _%_, _^_}
+use Prim.Native.Nat.{ℕ, _+_, _-_, _*_, _/_, _%_, _^_}
 use mathlib.Core.Bool.{Bool, true, false, _&&_, _||_}
 use lib.Dec.{leb, ltb, eqb}
 use lib.IntN.{ℤ, pos, negsuc, negℤ, natAbs}
 use lib.Signed.{leZ, ltZ, quotZ}
 use Rattle.numbers.specs.Walk.{pick}
+use Rattle.numbers.specs.First.{first}
 use Rattle.numbers.specs.TwosComplement.{bitsOf}
 use Rattle.value.specs.Value.{denominatorPower, isCode}
 use Rattle.value.specs.Pair.{valueOf, isCanonical}
 use Rattle.value.specs.declared.Pair.{Pair}
 use Rattle.value.specs.declared.Written.{Written}
 use Rattle.value.specs.declared.Written.the-variants.{Word, Refused}
-
--- The first of the n numbers from i on that passes a test; i + n where none does.
-unfoldable pub first : (ℕ → Bool) → ℕ → ℕ → ℕ
-first t zero i = i
-first t (suc n) i = pick (t i) i (first t n (suc i))
 
 abbrev pub isNegative : ℤ → Bool
 isNegative (pos n) = false

@@ -1,24 +1,22 @@
 -- Code 1: every word has a normal word of its value, and only one. Assumes nothing.
-use mathlib.Core.Path.{_≡_, refl, sym, ap, ap₂, _∙_, subst}
+use mathlib.Core.Path.{_≡_, refl, sym, ap, _∙_}
 use mathlib.Core.Logic.{_⊎_, inl, inr, ⊎-elim}
-use mathlib.Core.Bool.{Bool, true, false, _&&_, _||_}
+use mathlib.Core.Bool.{Bool, true, false}
 use Prim.Native.Nat.{ℕ, zero, suc, _+_, _-_, _*_, _/_, _%_, _^_, _≤_, _<_}
-use native.Mathlib.Nat.{mul-div-cancel, mul-mod-left, div-add-mod', add-zero, one-le-pow, mul-assoc, mul-comm, pow-suc, zero-lt-suc, eq-or-lt-of-le, mul-le-mul-left, mul-le-mul-right, le-trans, le-of-eq, mul-one, eq-of-mul-eq-mul-right}
+use native.Mathlib.Nat.{mul-div-cancel, mul-mod-left, div-add-mod', add-zero, one-le-pow, mul-assoc, mul-comm, pow-suc, zero-lt-suc, eq-or-lt-of-le, mul-le-mul-left, mul-le-mul-right, le-trans, mul-one, eq-of-mul-eq-mul-right}
 use native.Mathlib.Omega.{arith}
-use borrow.Author.Tests.{lt-ltb, le-ltb, lt-leb, le-leb, eqb-true, ltb-true, leb-true, eq-eqb, ne-eqb}
-use lib.Dec.{T, leb, ltb, eqb}
+use borrow.Author.Tests.{lt-ltb, le-ltb, lt-leb, le-leb, eqb-true, ltb-true, leb-true, ne-eqb}
+use lib.Dec.{ltb}
 use lib.Pow.{pow-add}
-use lib.IntN.{ℤ, pos, negsuc, natAbs}
-use Rattle.numbers.specs.Walk.{pick}
+use lib.IntN.{ℤ, natAbs}
+use Rattle.numbers.specs.First.{first}
+use Rattle.numbers.proofs.BoolLaws.{and-true}
+use Rattle.numbers.proofs.FirstLaws.{found, first-le}
 use Rattle.numbers.proofs.SignLaws.{below-or}
 use Rattle.value.specs.Value.{signMagnitude, signBit, characteristic, fraction, ibmValue}
-use Rattle.value.specs.Writing.{first, isNegative, isMultiple, isNormal, ibmFits, ibmBits, ibmAt, ibmWord}
-use Rattle.value.specs.declared.Written.{Written}
+use Rattle.value.specs.Writing.{isNegative, isMultiple, isNormal, ibmFits, ibmBits, ibmAt, ibmWord}
 use Rattle.value.specs.declared.Written.the-variants.{Word, Refused}
-use Rattle.value.proofs.First.{Found, found}
-use Rattle.value.proofs.Magnitudes.{abs-signed, neg-signed, signed-back}
 use Rattle.value.proofs.IbmLaws.{normal-yes}
-use Rattle.sample_theorems.proofs.Held.{and-true}
 
 some : (c : ℕ) → 0 < 16 ^ c
 some c = one-le-pow c 16 (zero-lt-suc 15)
@@ -137,6 +135,5 @@ written v w e =
 pub writes : (v : ℤ) (c f : ℕ) → c < 128 → At v c f → (w : ℕ) × (ibmWord v ≡ Word w)
 writes v c f h t =
     let r = first (ibmFits v) 128 0 in
-    let q = found (ibmFits v) 128 0 in
-    let l : r ≤ c = ⊎-elim (λ (p : c < r). absurd (subst T (sym (at-fits v c f t) ∙ q .before c (omega arith) p) tt)) (λ (p : r ≤ c). p) (below-or c r) in
+    let l : r ≤ c = first-le (ibmFits v) 128 0 c (omega arith) (at-fits v c f t) in
     (ibmBits (isNegative v) r (natAbs v / 16 ^ r), rw (lt-ltb r 128 (omega arith)))
