@@ -19,13 +19,13 @@ use Rattle.numbers.proofs.ByteLaws.{Bytes, bytes-of}
 use Rattle.numbers.proofs.CauseLaws.{passed, AllFine, first-all}
 use Rattle.value.specs.Value.{isCode, exactValue}
 use Rattle.value.specs.Pair.{pairOf, isCanonical, pairLength}
-use Rattle.value.specs.Writing.{wordOf, writePair}
+use Rattle.value.specs.Writing.{wordOf, writePair, Writes}
 use Rattle.value.specs.declared.Written.{Written}
 use Rattle.value.specs.declared.Written.the-variants.{Word, Refused}
 use Rattle.sample.specs.Reading.{badGain}
 use Rattle.numbers.specs.Iff.{Iff}
 use Rattle.sample_theorems.proofs.Pairs.{pair-value}
-use Rattle.value.proofs.WrittenLaws.{Writes, written-is}
+use Rattle.value.proofs.WrittenLaws.{written-is}
 use Rattle.sample_theorems.proofs.Words.{writing-sound, writing-complete}
 use Rattle.reel.specs.Meaning.{Trace, Meaning}
 use Rattle.record.specs.Form.{tracesPlace, heldSamples, heldStride, heldCount}

@@ -20,8 +20,9 @@ use Rattle.sample.specs.Calls.{readSaid, readOutcome, writeSaid, writeOutcome}
 use Rattle.sample.specs.declared.Sample.{Sample}
 use Rattle.sample.specs.declared.Sample.the-variants as sample
 use Rattle.sample.specs.declared.Sample.the-variants.{Taken}
+use Rattle.sample_theorems.specs.Statements.{Back}
 use Rattle.sample_theorems.proofs.Pairs.{bytes-pair, pair-bytes, taken-code, value-pair-back, reading-value, reading-canonical, reading-takes}
-use Rattle.sample_theorems.proofs.Words.{Normal, writing-sound, writing-complete, writing-normal}
+use Rattle.sample_theorems.proofs.Words.{writing-sound, writing-complete, writing-normal}
 
 -- THEOREM 4. A pair that is written under a code, and the word read under that code, give the pair again.
 pub write-read : (code : ℕ) (p : Pair) (n : ℕ) → writePair code p ≡ Word n → readWord code (bytesOf 4 n) ≡ Taken (p .e) (p .m)
@@ -30,12 +31,6 @@ write-read code p n h =
     let s = writing-sound code p n h in
     let same : pairOf (exactValue code (bytesOf 4 n)) ≡ p = ap pairOf (s .value) ∙ value-pair-back p (t .1) in
     reading-takes code (bytesOf 4 n) (t .0) (s .good) ∙ ap (λ (q : Pair). Taken (q .e) (q .m)) same
-
--- What a word that is read and its pair written under the same code become: a word of the same value, under code 1 the normal one.
-pub record Back (code : ℕ) (w : List ℕ) (p : Pair) (n : ℕ) : Type 0 where
-  pub word : writePair code p ≡ Word n
-  pub value : exactValue code (bytesOf 4 n) ≡ exactValue code w
-  pub normal : code ≡ 1 → Normal n
 
 -- A word that is read is never refused when its pair is written under the same code.
 pub read-write : (code : ℕ) (w : List ℕ) (e m : ℤ) → Bytes w → readWord code w ≡ Taken e m → (n : ℕ) × Back code w (record { e = e; m = m }) n

@@ -13,7 +13,7 @@ use Rattle.value.specs.Writing.{isMultiple, numberOf, holds}
 use Rattle.value.proofs.Magnitudes.{abs-signed, signed-quot, in-bits}
 
 module _ (o k j : ℕ) where
-  parted : j ≤ k → o * 2 ^ k ≡ o * 2 ^ (k - j) * 2 ^ j
+  pub parted : j ≤ k → o * 2 ^ k ≡ o * 2 ^ (k - j) * 2 ^ j
   parted h = ap (λ (x : ℕ). o * 2 ^ x) (sym (sub-add-cancel h)) ∙ ap (λ (x : ℕ). o * x) (pow-add 2 (k - j) j) ∙ sym (mul-assoc o (2 ^ (k - j)) (2 ^ j))
 
   pub exact-div : j ≤ k → o * 2 ^ k / 2 ^ j ≡ o * 2 ^ (k - j)

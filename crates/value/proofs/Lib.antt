@@ -2,10 +2,10 @@ pub mod Twos
 pub mod Magnitudes
 pub mod Pairs
 pub mod Exact
+pub mod NormalWords
 pub mod IbmLaws
 pub mod WholeLaws
 pub mod Held
-pub mod NormalWords
 pub mod WrittenLaws
 pub mod WordBytes
 pub mod Apart

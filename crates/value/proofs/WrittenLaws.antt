@@ -15,15 +15,11 @@ use Rattle.numbers.proofs.SignLaws.{below-or}
 use Rattle.numbers.proofs.FirstLaws.{found, first-le}
 use Rattle.value.specs.Value.{denominatorPower, wholeValue, gainValue, isCode}
 use Rattle.value.specs.Pair.{valueOf, isCanonical}
-use Rattle.value.specs.Writing.{numberOf, holds, ibmFits, ibmAt, ibmWord, wholeWord, gainFits, gainAt, gainWord, wordOf, writePair}
+use Rattle.value.specs.Writing.{numberOf, holds, ibmFits, ibmAt, ibmWord, wholeWord, gainFits, gainAt, gainWord, wordOf, writePair, Writes}
 use Rattle.value.specs.declared.Pair.{Pair}
 use Rattle.value.specs.declared.Written.{Written}
 use Rattle.value.specs.declared.Written.the-variants.{Word, Refused}
 use Rattle.value.proofs.Held.{held-sound, held-complete, held-lt}
-
--- there is a word
-abbrev pub Writes : Written → Type 0
-Writes r = (n : ℕ) × (r ≡ Word n)
 
 -- ## A word, or 14
 
