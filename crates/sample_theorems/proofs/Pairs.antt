@@ -31,7 +31,7 @@ use Rattle.value.specs.declared.Pair.{Pair}
 use Rattle.value.proofs.Twos.{odd-pos, split}
 use Rattle.value.proofs.Magnitudes.{abs-signed, signed-mul, signed-back, signed-word}
 use Rattle.value.proofs.Pairs.{pair-at, sixteens, value-pair}
-use Rattle.value.proofs.Apart.{highest, odd-yes}
+use Rattle.value.proofs.Apart.{highest, shifted, odd-yes}
 use Rattle.value.proofs.IbmLaws.{grow}
 use Rattle.sample.specs.Reading.{pairTaken, badGain, readWord}
 use Rattle.sample.specs.declared.Sample.the-variants.{Taken, Refused}
@@ -41,12 +41,6 @@ use Rattle.sample.specs.declared.Sample.the-variants.{Taken, Refused}
 -- The pair of a value has that value.
 pub pair-value : (v : ℤ) → valueOf (pairOf v) ≡ v
 pair-value = value-pair
-
-exponent-at : (e : ℤ) → isExponent e ≡ true → (k : ℕ) × (e +ℤ pos denominatorPower ≡ pos k) × (k ≤ highest)
-exponent-at (pos n) h = let l = leb-true n highestExponent h in (n + denominatorPower, refl, omega arith)
-exponent-at (negsuc n) h =
-    let l = leb-true n (denominatorPower - 1) (and-true (leb n (denominatorPower - 1)) true h .0) in
-    (denominatorPower - suc n, sub-above denominatorPower (suc n) (omega arith), omega arith)
 
 unshift : (e : ℤ) (k : ℕ) → e +ℤ pos denominatorPower ≡ pos k → e ≡ subℕ k denominatorPower
 unshift e k h = sym (+ℤ-negℤ-cancel e (pos denominatorPower)) ∙ ap (λ (z : ℤ). z +ℤ negℤ (pos denominatorPower)) h
@@ -69,10 +63,10 @@ value-pair-back p h = go (eqb (natAbs (p .e)) 0 && eqb (natAbs (p .m)) 0) refl
         let a = natAbs (p .m) in
         let r = and-true (isExponent (p .e)) _ (rw q at h) in
         let d = and-true (leb a (2 ^ (mantissaBits - 1) - 1)) _ (r .1) in
-        let k = exponent-at (p .e) (r .0) in
+        let k = shifted (p .e) (r .0) in
         let v : valueOf p ≡ signMagnitude (isNegative (p .m)) (a * 2 ^ k .0) =
-        ap₂ (λ (x y : ℤ). x *ℤ pos (2 ^ natAbs y)) (sym (signed-back (p .m))) (k .1) ∙ signed-mul (isNegative (p .m)) a (2 ^ k .0) in
-        rw (v, pair-at (isNegative (p .m)) a (k .0) (eqb-true (a % 2) 1 (d .1))) (sym (eta p _ _ (unshift (p .e) (k .0) (k .1)) (sym (signed-back (p .m)))))
+        ap₂ (λ (x y : ℤ). x *ℤ pos (2 ^ natAbs y)) (sym (signed-back (p .m))) (k .1 .is) ∙ signed-mul (isNegative (p .m)) a (2 ^ k .0) in
+        rw (v, pair-at (isNegative (p .m)) a (k .0) (eqb-true (a % 2) 1 (d .1))) (sym (eta p _ _ (unshift (p .e) (k .0) (k .1 .is)) (sym (signed-back (p .m)))))
 
 -- THEOREM 2, pairs and values. Two canonical pairs are the same exactly when their values are.
 pub pairs-by-value : (p q : Pair) → isCanonical p ≡ true → isCanonical q ≡ true → Iff (p ≡ q) (valueOf p ≡ valueOf q)

@@ -1,44 +1,32 @@
 -- `value::whole_below` meets its contract. Assumes nothing.
 use Rattle.value.proofs.WholeLaws.{far-up}
-use Rattle.numbers.proofs.SignLaws.{below-or}
 use Rattle.value.specs.Value.{denominatorPower}
-use Prim.Native.Nat.{ℕ, _-_, _*_, _^_, _≤_}
-use mathlib.Core.Logic.{_⊎_, inl, inr, ⊎-elim}
-use mathlib.Core.Path.{_≡_, ap, _∙_}
-use native.Mathlib.Omega.{arith}
+use Prim.Native.Nat.{_-_}
+use mathlib.Core.Logic.{inl, inr}
 use borrow.Author.Needs.{needs}
 use Rattle.value.proofs.whole_below.Statement.{statement}
 use Rattle.value.proofs.whole_below.Tie as tie
 
--- a difference below 32 is no wrapped one
-small : (c : tie.Else1) → (denominatorPower ≤ c .before .before .args .k) × (c .before .wrapping-sub-u32 .result ≡ c .before .before .args .k - denominatorPower)
-small c = (omega (arith, c .before .wrapping-sub-u32 .ensures, c .if1 .left), omega (arith, c .before .wrapping-sub-u32 .ensures, c .if1 .left))
-
-wrapping-sub-u32-requires : tie.Need-wrapping-sub-u32-requires
-wrapping-sub-u32-requires c κs = search needs
-
 returns : tie.Need-returns
-returns c =
-    let a = c .before .before .args in
-    let far : denominatorPower ≤ a .k → 32 ≤ a .k - denominatorPower = λ h. omega (arith, c .before .wrapping-sub-u32 .ensures, c .if1 .taken, h) in
-    ⊎-elim inl (λ (h : denominatorPower ≤ a .k). inr (h, far-up (a .o) (a .k - denominatorPower) _ (c .before .before .pre .0) (far h) (c .before .before .pre .1))) (below-or (a .k) denominatorPower)
+returns c = inl (c .if1 .taken)
+
+returns-2 : tie.Need-returns-2
+returns-2 c =
+    let s = c .before .before in
+    inr (c .before .if1 .left, far-up (s .args .o) (s .args .k - denominatorPower) _ (s .pre .0) (c .if2 .taken) (s .pre .1))
 
 shifted-wide-requires : tie.Need-shifted-wide-requires
 shifted-wide-requires c κs = search needs
 
-returns-2 : tie.Need-returns-2
-returns-2 c =
-    inr (small (c .before .before) .0, rw (c .before .shifted-wide .ensures, small (c .before .before) .1) at (c .if2 .taken))
+returns-3 : tie.Need-returns-3
+returns-3 c = inr (c .before .before .before .if1 .left, rw (c .before .shifted-wide .ensures) at (c .if3 .taken))
 
 cast-t7 : tie.Need-cast-t7
 cast-t7 c = search needs
 
-returns-3 : tie.Need-returns-3
-returns-3 c =
-    let o = c .before .before .before .before .args .o in
-    (small (c .before .before) .0, c .before .shifted-wide .ensures ∙ ap (λ (x : ℕ). o * 2 ^ x) (small (c .before .before) .1), c .if2 .left)
+returns-4 : tie.Need-returns-4
+returns-4 c = search needs
 
 pub whole-below-spec : {M : Type 1} → statement M
 whole-below-spec =
-    tie.close
-    (tie.spec wrapping-sub-u32-requires returns shifted-wide-requires returns-2 cast-t7 returns-3)
+    tie.close (tie.spec returns returns-2 shifted-wide-requires returns-3 cast-t7 returns-4)
