@@ -1,7 +1,8 @@
 // What a sample is worth: the canonical pair, and the word of a pair under codes 1 to 4.
 ghost use mathlib.Core.Path.{_≡_};
 ghost use Prim.Native.Nat.{_+_, _*_, _%_, _^_, _<_, _≤_, min};
-ghost use mathlib.Core.Bool.{true};
+ghost use mathlib.Core.Bool.{true, _&&_};
+ghost use lib.Dec.{leb, ltb};
 ghost use lib.IntN.{pos, natAbs, _+ℤ_};
 ghost use Rattle.numbers.specs.Walk.{pick};
 ghost use Rattle.numbers.specs.TwosComplement.{signedOf, bitsOf};
@@ -138,23 +139,29 @@ enum Whole {
     Beyond,
 }
 
+// Whether k - 280 is from 0 to 31. Below, an odd number times 2^(k - 280) is a fraction; above, it has more than 32 bits.
+fn shifts_up(k: u32) -> bool
+    ensures { λ r. ⌜ r ≡ (leb denominatorPower k && ltb k (denominatorPower + 32)) ⌝ }
+{
+    if k < DENOMINATOR_POWER {
+        return false;
+    }
+    k < DENOMINATOR_POWER + 32
+}
+
 // o × 2^(k - 280), for an odd o, where that is a whole number below a limit.
 fn whole_below(o: u32, k: u32, limit: u64) -> Whole
     requires { ⌜ (o % 2 ≡ 1) × (limit ≤ 2 ^ 32) ⌝ }
     ensures { λ r. ⌜ WholeBelow o k limit r ⌝ }
 {
-    if k < DENOMINATOR_POWER {
-        return Whole::Beyond;
+    if shifts_up(k) {
+        let q = shifted_wide(o, k - DENOMINATOR_POWER);
+        if limit <= q {
+            return Whole::Beyond;
+        }
+        return Whole::Below { q: q as u32 };
     }
-    let up = k - DENOMINATOR_POWER;
-    if 32 <= up {
-        return Whole::Beyond;
-    }
-    let q = shifted_wide(o, up);
-    if limit <= q {
-        return Whole::Beyond;
-    }
-    Whole::Below { q: q as u32 }
+    Whole::Beyond
 }
 
 // The word of V = ± o × 2^k under code 2, for an odd o.
