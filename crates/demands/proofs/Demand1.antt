@@ -407,7 +407,7 @@ module _ (code : ℕ) (w : List ℕ) where
   wordChecks = then (refuseIf (not (isCode code)) 2 0) (refuseIf (badGain code w) 9 0)
 
   -- What the call says is what they answer.
-  word-says : calls.readOutcome code w .said ≡ says wordChecks
+  word-says : calls.wordOutcome code w .said ≡ says wordChecks
   unfolding wordChecks says
   word-says = go (isCode code) (badGain code w)
     where
@@ -446,14 +446,14 @@ module _ (code : ℕ) (w : List ℕ) where
 
   -- THEOREM. "A single word is refused by 2, then 9; the place is 0": exactly when that row applies.
   -- Rules out a call that declines every word.
-  pub word-refused : (number place : ℕ) → Iff (calls.readOutcome code w .said ≡ refused number place) (WordRow code w number place)
+  pub word-refused : (number place : ℕ) → Iff (calls.wordOutcome code w .said ≡ refused number place) (WordRow code w number place)
   unfolding says
   word-refused number place =
       both (λ e. sym word-says ∙ e, λ e. word-says ∙ e) (both (says-refused says [] refl (λ n p. refl) wordChecks number place) (word-exact number place))
 
   -- THEOREM. And it is taken exactly when no row applies.
   -- Rules out a call that declines every word.
-  pub word-taken : Iff (calls.readOutcome code w .said ≡ taken []) ((number place : ℕ) → ¬ (WordRow code w number place))
+  pub word-taken : Iff (calls.wordOutcome code w .said ≡ taken []) ((number place : ℕ) → ¬ (WordRow code w number place))
   unfolding says
   word-taken =
       both (λ e. sym word-says ∙ e, λ e. word-says ∙ e)
@@ -461,7 +461,7 @@ module _ (code : ℕ) (w : List ℕ) where
 
   -- THEOREM. Beside a refusal the six bytes handed out are all 00.
   -- Alone it rules out none of the list.
-  pub word-zero : (number place : ℕ) → calls.readOutcome code w .said ≡ refused number place → calls.readOutcome code w .bytes ≡ 0 ∷ 0 ∷ 0 ∷ 0 ∷ 0 ∷ 0 ∷ []
+  pub word-zero : (number place : ℕ) → calls.wordOutcome code w .said ≡ refused number place → calls.wordOutcome code w .bytes ≡ 0 ∷ 0 ∷ 0 ∷ 0 ∷ 0 ∷ 0 ∷ []
   word-zero number place e = go (readWord code w) e
     where
       go : (r : Sample) → calls.readSaid r .said ≡ refused number place → calls.readSaid r .bytes ≡ 0 ∷ 0 ∷ 0 ∷ 0 ∷ 0 ∷ 0 ∷ []
@@ -476,7 +476,7 @@ module _ (code : ℕ) (b : List ℕ) where
       (then (refuseIf (not (isCanonical (pairIn b))) 13 0) (refuseIf (isUnfit (wordOf code (valueOf (pairIn b)))) 14 0))
 
   -- What the call says is what they answer.
-  pair-says : calls.writeOutcome code b .said ≡ says pairChecks
+  pair-says : calls.pairOutcome code b .said ≡ says pairChecks
   unfolding pairChecks says
   pair-says = go (isCode code) (isCanonical (pairIn b)) (wordOf code (valueOf (pairIn b))) (only-14 code (valueOf (pairIn b)))
     where
@@ -521,14 +521,14 @@ module _ (code : ℕ) (b : List ℕ) where
 
   -- THEOREM. "A single pair is refused by 11, 13, 14; the place is 0": exactly when that row applies.
   -- Rules out a call that declines every pair; and by 14, normalising by single bits, pushing C below 0 and shifting up for a negative e.
-  pub pair-refused : (number place : ℕ) → Iff (calls.writeOutcome code b .said ≡ refused number place) (PairRow code b number place)
+  pub pair-refused : (number place : ℕ) → Iff (calls.pairOutcome code b .said ≡ refused number place) (PairRow code b number place)
   unfolding says
   pair-refused number place =
       both (λ e. sym pair-says ∙ e, λ e. pair-says ∙ e) (both (says-refused says [] refl (λ n p. refl) pairChecks number place) (pair-exact number place))
 
   -- THEOREM. And it is taken exactly when no row applies.
   -- Rules out a call that declines every pair, and what `pair-refused` rules out by 14.
-  pub pair-taken : Iff (calls.writeOutcome code b .said ≡ taken []) ((number place : ℕ) → ¬ (PairRow code b number place))
+  pub pair-taken : Iff (calls.pairOutcome code b .said ≡ taken []) ((number place : ℕ) → ¬ (PairRow code b number place))
   unfolding says
   pair-taken =
       both (λ e. sym pair-says ∙ e, λ e. pair-says ∙ e)
@@ -536,7 +536,7 @@ module _ (code : ℕ) (b : List ℕ) where
 
   -- THEOREM. Beside a refusal the four bytes handed out are all 00.
   -- Alone it rules out none of the list.
-  pub pair-zero : (number place : ℕ) → calls.writeOutcome code b .said ≡ refused number place → calls.writeOutcome code b .bytes ≡ 0 ∷ 0 ∷ 0 ∷ 0 ∷ []
+  pub pair-zero : (number place : ℕ) → calls.pairOutcome code b .said ≡ refused number place → calls.pairOutcome code b .bytes ≡ 0 ∷ 0 ∷ 0 ∷ 0 ∷ []
   pair-zero number place e = go (writePair code (pairIn b)) e
     where
       go : (r : Written) → calls.writeSaid r .said ≡ refused number place → calls.writeSaid r .bytes ≡ 0 ∷ 0 ∷ 0 ∷ 0 ∷ []

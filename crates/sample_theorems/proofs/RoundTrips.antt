@@ -16,7 +16,7 @@ use Rattle.value.specs.declared.Written.{Written}
 use Rattle.value.specs.declared.Written.the-variants.{Word, Refused}
 use Rattle.value.proofs.WrittenLaws.{written-is}
 use Rattle.sample.specs.Reading.{readWord}
-use Rattle.sample.specs.Calls.{readSaid, readOutcome, writeSaid, writeOutcome}
+use Rattle.sample.specs.Calls.{readSaid, wordOutcome, writeSaid, pairOutcome}
 use Rattle.sample.specs.declared.Sample.{Sample}
 use Rattle.sample.specs.declared.Sample.the-variants as sample
 use Rattle.sample.specs.declared.Sample.the-variants.{Taken}
@@ -48,11 +48,11 @@ read-write code w e m b t =
 -- ## The two calls, by the bytes that they hand out
 
 -- Six bytes that are written, and the word read under the same code, give the six bytes again.
-pub calls-write-read : (code : ℕ) (b : List ℕ) → length b ≡ 6 → Bytes b → writeOutcome code b .said ≡ taken []
-    → readOutcome code (writeOutcome code b .bytes) ≡ record { said = taken []; bytes = b }
+pub calls-write-read : (code : ℕ) (b : List ℕ) → length b ≡ 6 → Bytes b → pairOutcome code b .said ≡ taken []
+    → wordOutcome code (pairOutcome code b .bytes) ≡ record { said = taken []; bytes = b }
 calls-write-read code b k h t = go (writePair code (pairIn b)) refl t
   where
-    go : (r : Written) → writePair code (pairIn b) ≡ r → writeSaid r .said ≡ taken [] → readOutcome code (writeSaid r .bytes) ≡ record { said = taken []; bytes = b }
+    go : (r : Written) → writePair code (pairIn b) ≡ r → writeSaid r .said ≡ taken [] → wordOutcome code (writeSaid r .bytes) ≡ record { said = taken []; bytes = b }
     go (Word n) e q = ap readSaid (write-read code (pairIn b) n e) ∙ ap (λ (l : List ℕ). outcome l) (pair-bytes b k h)
       where
         outcome : List ℕ → Outcome
@@ -60,10 +60,10 @@ calls-write-read code b k h t = go (writePair code (pairIn b)) refl t
     go (Refused n) e q = absurd (let z : _≡_ {A = ℕ} 0 1 = cc in omega arith)
 
 -- A word that is read is not refused when the six bytes are written under the same code.
-pub calls-read-write : (code : ℕ) (w : List ℕ) → Bytes w → readOutcome code w .said ≡ taken [] → writeOutcome code (readOutcome code w .bytes) .said ≡ taken []
+pub calls-read-write : (code : ℕ) (w : List ℕ) → Bytes w → wordOutcome code w .said ≡ taken [] → pairOutcome code (wordOutcome code w .bytes) .said ≡ taken []
 calls-read-write code w h t = go (readWord code w) refl t
   where
-    go : (r : Sample) → readWord code w ≡ r → readSaid r .said ≡ taken [] → writeOutcome code (readSaid r .bytes) .said ≡ taken []
+    go : (r : Sample) → readWord code w ≡ r → readSaid r .said ≡ taken [] → pairOutcome code (readSaid r .bytes) .said ≡ taken []
     go (sample.Taken e m) x q =
         let p : Pair = record { e = e; m = m } in
         let y = read-write code w e m h x in

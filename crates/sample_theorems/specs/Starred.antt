@@ -10,7 +10,7 @@ use Rattle.value.specs.Writing.{writePair}
 use Rattle.value.specs.declared.Written.{Written}
 use Rattle.value.specs.declared.Written.the-variants.{Word, Refused}
 use Rattle.sample.specs.Reading.{readWord}
-use Rattle.sample.specs.Calls.{readOutcome, writeOutcome}
+use Rattle.sample.specs.Calls.{wordOutcome, pairOutcome}
 use Rattle.sample.specs.declared.Sample.{Sample}
 use Rattle.sample.specs.declared.Sample.the-variants.{Taken}
 
@@ -31,7 +31,7 @@ pub record Starred : Type 0 where
   pub one : (ibm 0x41 0x10 0 0 ≡ Taken (pos 0) (pos 1)) × (ibm 0x42 0x01 0 0 ≡ Taken (pos 0) (pos 1))
   -- C276A000: e -3, m -949; bytes FF FD FF FF FC 4B
   pub minus : (ibm 0xC2 0x76 0xA0 0 ≡ Taken (negsuc 2) (negsuc 948))
-      × (readOutcome 1 (0xC2 ∷ 0x76 ∷ 0xA0 ∷ 0 ∷ []) ≡ record { said = taken []; bytes = 0xFF ∷ 0xFD ∷ 0xFF ∷ 0xFF ∷ 0xFC ∷ 0x4B ∷ [] })
+      × (wordOutcome 1 (0xC2 ∷ 0x76 ∷ 0xA0 ∷ 0 ∷ []) ≡ record { said = taken []; bytes = 0xFF ∷ 0xFD ∷ 0xFF ∷ 0xFF ∷ 0xFC ∷ 0x4B ∷ [] })
   -- 80000000 and 7F000000: zero
   pub nothing : (ibm 0x80 0 0 0 ≡ Taken (pos 0) (pos 0)) × (ibm 0x7F 0 0 0 ≡ Taken (pos 0) (pos 0))
   -- 00000001: e -280, m 1; 7F800000: e 251, m 1
@@ -40,7 +40,7 @@ pub record Starred : Type 0 where
   pub largest : ibm 0x7F 0xFF 0xFF 0xFF ≡ Taken (pos 228) (pos 16_777_215)
   -- gain 00010002: e 0, m 1; written 00000001
   pub halved : (gain 0 1 0 2 ≡ Taken (pos 0) (pos 1))
-      × (writeOutcome 4 (0 ∷ 0 ∷ 0 ∷ 0 ∷ 0 ∷ 1 ∷ []) ≡ record { said = taken []; bytes = 0 ∷ 0 ∷ 0 ∷ 1 ∷ [] })
+      × (pairOutcome 4 (0 ∷ 0 ∷ 0 ∷ 0 ∷ 0 ∷ 1 ∷ []) ≡ record { said = taken []; bytes = 0 ∷ 0 ∷ 0 ∷ 1 ∷ [] })
   -- 16,777,215 to code 1: 46FFFFFF; 16,777,217: number 14
   pub bits-24 : (wholeTo 1 (pos 16_777_215) ≡ Word 0x46FF_FFFF) × (wholeTo 1 (pos 16_777_217) ≡ Refused 14)
   -- 33,554,416 to code 1: 471FFFFF; 33,554,430: number 14, though its m has 24 bits
