@@ -117,7 +117,7 @@ fn sample_answer(answer: sample::Answer) -> SampleAnswer
 // One sample, from the four bytes of its word to the six of its canonical pair.
 #[no_mangle]
 pub extern "C" fn aukpocket_read_word(code: u32, word: &[u8; 4], pair: &mut [u8; 6]) -> SampleAnswer
-    ensures { λ r. ⌜ sampleIn r (now (pair .exit)) ≡ sampleHanded (single.readOutcome code (now (word .entry))) ⌝ }
+    ensures { λ r. ⌜ sampleIn r (now (pair .exit)) ≡ sampleHanded (single.wordOutcome code (now (word .entry))) ⌝ }
 {
     let read = sample::read_word(code, *word);
     let bytes = read.pair;
@@ -133,7 +133,7 @@ pub extern "C" fn aukpocket_write_pair(
     pair: &[u8; 6],
     word: &mut [u8; 4],
 ) -> SampleAnswer
-    ensures { λ r. ⌜ sampleIn r (now (word .exit)) ≡ sampleHanded (single.writeOutcome code (now (pair .entry))) ⌝ }
+    ensures { λ r. ⌜ sampleIn r (now (word .exit)) ≡ sampleHanded (single.pairOutcome code (now (pair .entry))) ⌝ }
 {
     let written = sample::write_pair(code, *pair);
     let bytes = written.word;

@@ -48,7 +48,8 @@ use Rattle.numbers.proofs.RowLaws.{Tests, apart, refused-where, row-where, then
 use Rattle.numbers.proofs.SaidLaws.{not-taken, iff-trans, says-refused, says-fine, says-either, refused-by, taken-by, keeps-rest}
 use Rattle.value.specs.Value.{denominatorPower, isCode, exactValue}
 use Rattle.value.specs.Pair.{valueOf, isCanonical, pairIn}
-use Rattle.value.specs.Writing.{first, ibmFits, ibmAt, ibmWord, holds, wholeWord, gainFits, gainAt, gainWord, wordOf, writePair}
+use Rattle.value.specs.Writing.{wordOf, writePair}
+use Rattle.value.proofs.WrittenLaws.{Only14, only-14}
 use Rattle.value.specs.declared.Written.{Written}
 use Rattle.value.specs.declared.Written.the-variants as written
 use Rattle.sample.specs.Reading.{badGain, pairTaken, readWord}
@@ -365,40 +366,12 @@ module _ (code : ℕ) (w : List ℕ) where
 
   -- THEOREM. "the place is 0 and the bytes handed out are all 00": the six of a word that is refused.
   -- Alone it rules out none of the list.
-  pub word-zero : (number place : ℕ) → calls.readOutcome code w .said ≡ refused number place → calls.readOutcome code w .bytes ≡ 0 ∷ 0 ∷ 0 ∷ 0 ∷ 0 ∷ 0 ∷ []
+  pub word-zero : (number place : ℕ) → calls.wordOutcome code w .said ≡ refused number place → calls.wordOutcome code w .bytes ≡ 0 ∷ 0 ∷ 0 ∷ 0 ∷ 0 ∷ 0 ∷ []
   word-zero number place e = go (readWord code w) e
     where
       go : (r : Sample) → calls.readSaid r .said ≡ refused number place → calls.readSaid r .bytes ≡ 0 ∷ 0 ∷ 0 ∷ 0 ∷ 0 ∷ 0 ∷ []
       go (sample.Taken x m) e = absurd (not-taken (sym e))
       go (sample.Refused n) e = refl
-
--- Where there is no word, the number is 14.
-abbrev Fourteen : Written → Type 0
-Fourteen (written.Word n) = Unit {0}
-Fourteen (written.Refused number) = number ≡ 14
-
--- A word or 14, by a truth value.
-or-14 : (b : Bool) (n : ℕ) → Fourteen (pick b (written.Word n) (written.Refused 14))
-or-14 true n = tt
-or-14 false n = refl
-
--- A choice between two such answers is such an answer.
-either-14 : (b : Bool) (x y : Written) → Fourteen x → Fourteen y → Fourteen (pick b x y)
-either-14 true x y p q = p
-either-14 false x y p q = q
-
--- Under every code.
-only-14 : (code : ℕ) (v : ℤ) → Fourteen (wordOf code v)
-only-14 code v =
-    either-14 (eqb code 1) (ibmWord v) _ (ibm (first (ibmFits v) 128 0))
-    (either-14 (eqb code 2) (wholeWord 32 1 v) _ (or-14 (holds 32 (2 ^ denominatorPower) v) _)
-    (either-14 (eqb code 3) (wholeWord 16 (2 ^ 16) v) (gainWord v) (or-14 (holds 16 (2 ^ denominatorPower) v) _) (gain (first (gainFits v) 256 0))))
-  where
-    ibm : (c : ℕ) → Fourteen (ibmAt v c)
-    ibm c = or-14 (ltb c 128) _
-
-    gain : (g : ℕ) → Fourteen (gainAt v g)
-    gain g = or-14 (ltb g 256) _
 
 module _ (code : ℕ) (b : List ℕ) where
   -- The checks of a single pair.
@@ -412,7 +385,7 @@ module _ (code : ℕ) (b : List ℕ) where
   unfolding pairChecks
   pair-says = go (isCode code) (isCanonical (pairIn b)) (wordOf code (valueOf (pairIn b))) (only-14 code (valueOf (pairIn b)))
     where
-      go : (a c : Bool) (r : Written) → Fourteen r → calls.writeSaid (pick a (pick c r (written.Refused 13)) (written.Refused 11)) .said
+      go : (a c : Bool) (r : Written) → Only14 r → calls.writeSaid (pick a (pick c r (written.Refused 13)) (written.Refused 11)) .said
           ≡ says (then (refuseIf (not a) 11 0) (then (refuseIf (not c) 13 0) (refuseIf (isUnfit r) 14 0)))
       go true true (written.Word n) h = refl
       go true true (written.Refused n) h = ap (λ (x : ℕ). refused x 0) h
@@ -467,7 +440,7 @@ module _ (code : ℕ) (b : List ℕ) where
 
   -- THEOREM. "the place is 0 and the bytes handed out are all 00": the four of a pair that is refused.
   -- Alone it rules out none of the list.
-  pub pair-zero : (number place : ℕ) → calls.writeOutcome code b .said ≡ refused number place → calls.writeOutcome code b .bytes ≡ 0 ∷ 0 ∷ 0 ∷ 0 ∷ []
+  pub pair-zero : (number place : ℕ) → calls.pairOutcome code b .said ≡ refused number place → calls.pairOutcome code b .bytes ≡ 0 ∷ 0 ∷ 0 ∷ 0 ∷ []
   pair-zero number place e = go (writePair code (pairIn b)) e
     where
       go : (r : Written) → calls.writeSaid r .said ≡ refused number place → calls.writeSaid r .bytes ≡ 0 ∷ 0 ∷ 0 ∷ 0 ∷ []

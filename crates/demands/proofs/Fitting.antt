@@ -17,7 +17,7 @@ use Rattle.numbers.proofs.CauseLaws.{passed, first-all, all-first}
 use Rattle.numbers.proofs.ByteLaws.{bytes-of}
 use Rattle.value.specs.Value.{isCode}
 use Rattle.value.specs.Pair.{pairOf, isCanonical, pairLength}
-use Rattle.value.specs.Writing.{wordOf, writePair}
+use Rattle.value.specs.Writing.{wordOf, writePair, Writes}
 use Rattle.value.specs.declared.Written.{Written}
 use Rattle.value.specs.declared.Written.the-variants.{Word, Refused}
 use Rattle.sample_theorems.proofs.Pairs.{pair-value}

@@ -29,7 +29,8 @@ use Rattle.value.specs.declared.Written.{Written}
 use Rattle.value.specs.declared.Written.the-variants.{Word, Refused}
 use Rattle.sample.specs.Reading.{badGain}
 use Rattle.sample_theorems.proofs.Pairs.{pair-value}
-use Rattle.sample_theorems.proofs.Words.{Says, writing-sound}
+use Rattle.sample_theorems.specs.Statements.{Says}
+use Rattle.sample_theorems.proofs.Words.{writing-sound}
 use Rattle.reel.specs.Layout.{cardBytes, firstTrace, traceHeader, binaryFields, traceWidths, traceFields, fieldNumber, intervalOf, samplesOf, codeOf, sampleBytes, stride, strideOf, wholeIn, overIn, tracesOf}
 use Rattle.reel.specs.Causes.{mostSamples, mostTraces, mostInterval, neither, limitCauses, wordCause, traceCauses, behindCauses, causesOf}
 use Rattle.reel.specs.Meaning.{blank, cardText, otherThan, binaryNumbers, filled, traceNumber, Trace, traceMeaning, Meaning, meaningOf}

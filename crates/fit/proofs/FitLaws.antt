@@ -1,34 +1,25 @@
 -- What the checks of a record for a target code find, and what follows where they find nothing. Assumes nothing.
-use mathlib.Core.Path.{_≡_, refl, sym, ap, ap₂, _∙_, subst}
+use mathlib.Core.Path.{_≡_, refl, sym, ap, ap₂, _∙_}
 use mathlib.Core.List.{List}
-use mathlib.Core.Bool.{Bool, true, false, not, _&&_}
-use Prim.Native.Nat.{ℕ, zero, suc, _+_, _-_, _*_, _/_, _^_, _≤_, _<_}
-use native.Mathlib.Nat.{add-zero, zero-add, zero-mul, suc-mul, not-suc-le-zero, mul-div-cancel, mul-comm}
-use native.Mathlib.Omega.{arith}
-use borrow.Author.Tests.{leb-true, eqb-true, ltb-false, ltb-true, not-false, lt-ltb, le-ltb}
-use lib.Dec.{T, leb, ltb, eqb}
-use lib.ListN.{length, getD}
+use mathlib.Core.Bool.{Bool, true, false, not}
+use Prim.Native.Nat.{ℕ, zero, suc, _+_, _-_}
+use borrow.Author.Tests.{not-false}
 use Rattle.numbers.specs.Walk.{pick, walk, bytesAt}
-use Rattle.numbers.specs.Places.{bytePlace}
 use Rattle.numbers.specs.BigEndian.{number}
 use Rattle.numbers.specs.Cause.{refuseIf, then, firstOf}
 use Rattle.numbers.specs.declared.Place.{Place}
 use Rattle.numbers.specs.declared.Check.{Check}
 use Rattle.numbers.specs.declared.Check.the-variants.{Fine, Refused}
-use Rattle.numbers.proofs.CauseLaws.{then-assoc, not-fine, passed, then-fine}
-use Rattle.numbers.proofs.WalkLaws.{walk-more}
-use lib.IntN.{ℤ, natAbs}
-use Rattle.numbers.specs.TwosComplement.{bitsOf}
-use Rattle.value.specs.Value.{denominatorPower, isCode}
+use Rattle.numbers.proofs.CauseLaws.{not-fine, passed, then-fine}
+use Rattle.value.specs.Value.{isCode}
 use Rattle.value.specs.Pair.{valueOf, isCanonical, pairLength, pairIn}
-use Rattle.value.specs.Writing.{first, isNegative, ibmFits, ibmBits, ibmWord, numberOf, holds, wholeWord, gainFits, gainWord, wordOf, writePair}
+use Rattle.value.specs.Writing.{wordOf}
+use Rattle.value.proofs.WrittenLaws.{Only14, only-14}
 use Rattle.value.specs.declared.Pair.{Pair}
 use Rattle.value.specs.declared.Written.{Written}
 use Rattle.value.specs.declared.Written.the-variants as written
-use Rattle.reel.specs.Layout.{number16}
-use Rattle.reel.specs.Causes.{mostSamples, mostTraces, mostInterval, within}
-use Rattle.reel.proofs.CheckLaws.{both-true, in-limits}
-use Rattle.record.specs.Form.{isField, fieldCause, cardsCauses, heldSamples, heldInterval, heldCode, numberCauses, binaryCauses, tracesPlace, heldStride, pairCause, samplesCauses, headerCauses, traceForm, tagsFrom, heldCount, endCauses, bodyCauses, formCauses}
+use Rattle.reel.specs.Causes.{mostTraces}
+use Rattle.record.specs.Form.{cardsCauses, heldSamples, heldInterval, binaryCauses, tracesPlace, heldStride, pairCause, traceForm, heldCount, formCauses}
 use Rattle.record.specs.Held.{heldValue}
 use Rattle.fit.specs.Target.{isUnfit, fitCause, traceFit, fitCauses, targetCauses}
 use Rattle.write_samples.specs.Samples.{pairRefused, pairCheck}
@@ -37,31 +28,6 @@ use Rattle.fit.specs.Parts.{traceCheck, fitFrom}
 use Rattle.record.proofs.FormLaws.{trace-form, isMore, tags-more, tags-none, form-more, form-is, form-stop}
 
 -- ## Pairs
-
--- writing refuses a canonical pair by 14 only
-abbrev Only14 : Written → Type 0
-Only14 (written.Word n) = Unit {0}
-Only14 (written.Refused number) = number ≡ 14
-
-only-pick : (b : Bool) (x y : Written) → Only14 x → Only14 y → Only14 (pick b x y)
-only-pick true x y p q = p
-only-pick false x y p q = q
-
--- a word where there is one, else 14
-only-word : (b : Bool) (n : ℕ) → Only14 (pick b (written.Word n) (written.Refused 14))
-only-word true n = tt
-only-word false n = refl
-
-word-only : (code : ℕ) (v : ℤ) → Only14 (wordOf code v)
-word-only code v =
-    let c = first (ibmFits v) 128 0 in
-    let g = first (gainFits v) 256 0 in
-    let p = 2 ^ denominatorPower in
-    let a : Only14 (ibmWord v) = only-word (ltb c 128) (ibmBits (isNegative v) c (natAbs v / 16 ^ c)) in
-    let b : Only14 (wholeWord 32 1 v) = only-word (holds 32 p v) (bitsOf 32 (numberOf p v) * 1) in
-    let d : Only14 (wholeWord 16 (2 ^ 16) v) = only-word (holds 16 p v) (bitsOf 16 (numberOf p v) * 2 ^ 16) in
-    let e : Only14 (gainWord v) = only-word (ltb g 256) (g * 2 ^ 16 + bitsOf 16 (numberOf (2 ^ (denominatorPower - g)) v)) in
-    only-pick (eqb code 1) (ibmWord v) _ a (only-pick (eqb code 2) (wholeWord 32 1 v) _ b (only-pick (eqb code 3) (wholeWord 16 (2 ^ 16) v) (gainWord v) d e))
 
 module _ (s : List ℕ) (code : ℕ) (h : isCode code ≡ true) where
   -- a pair that writing takes is canonical
@@ -79,7 +45,7 @@ module _ (s : List ℕ) (code : ℕ) (h : isCode code ≡ true) where
   pair-fit : (at : ℕ) → pairCause s at ≡ Fine → pairCheck s code at ≡ fitCause s code at
   pair-fit at e =
       let c = not-false (isCanonical (pairIn (bytesAt s at pairLength))) (passed _ 13 at e) in
-      rw (h, c) (go (wordOf code (heldValue s at)) (word-only code (heldValue s at)))
+      rw (h, c) (go (wordOf code (heldValue s at)) (only-14 code (heldValue s at)))
     where
       go : (w : Written) → Only14 w → pairRefused w at ≡ refuseIf (isUnfit w) 14 at
       go (written.Word n) o = refl

@@ -7,10 +7,10 @@ use native.Mathlib.Omega.{arith}
 use lib.Arith.{mod-mul, digits-div, digits-mod, digits-lt}
 use lib.ListN.{length, getD}
 use lib.Pow.{pow-add}
-use Rattle.numbers.proofs.WalkLaws.{All, all-at, cons-eq, size-bytes}
+use Rattle.numbers.proofs.WalkLaws.{all-at, cons-eq, size-bytes}
 use Rattle.numbers.specs.Walk.{walk, bytesAt}
 use Rattle.numbers.specs.BigEndian.{numberAfter, number, bytesOf}
-pub use Rattle.numbers.specs.Terms.{Bytes}
+use Rattle.numbers.specs.Terms.{Bytes, All}
 
 -- The bytes of a number are bytes.
 pub bytes-of : (k n : ℕ) → Bytes (bytesOf k n)

@@ -8,12 +8,13 @@ use native.Mathlib.Nat.{not-suc-le-zero}
 use native.Mathlib.Omega.{arith}
 use lib.Dec.{ltb}
 use borrow.Author.Tests.{ltb-false}
+use Rattle.numbers.specs.Terms.{All}
 use Rattle.numbers.specs.Walk.{walk}
 use Rattle.numbers.specs.Cause.{refuseIf, then, firstOf}
 use Rattle.numbers.specs.declared.Place.{Place}
 use Rattle.numbers.specs.declared.Check.{Check}
 use Rattle.numbers.specs.declared.Check.the-variants.{Fine, Refused}
-use Rattle.numbers.proofs.WalkLaws.{walk-more, All, all-walk}
+use Rattle.numbers.proofs.WalkLaws.{walk-more, all-walk}
 
 -- ## A step at a time
 

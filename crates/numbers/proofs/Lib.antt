@@ -8,4 +8,5 @@ pub mod SaidLaws
 pub mod Filling
 pub mod ByteLaws
 pub mod SignLaws
+pub mod FirstLaws
 pub mod PlaceLaws

@@ -31,6 +31,11 @@ sub-below a b h = rw (lt-ltb a b h)
 pub sub-above : (a b : ℕ) → b ≤ a → subℕ a b ≡ pos (a - b)
 sub-above a b h = rw (le-ltb a b h)
 
+-- a number without a magnitude is 0
+pub abs-zero : (z : ℤ) → natAbs z ≡ 0 → z ≡ pos 0
+abs-zero (pos n) e = ap pos e
+abs-zero (negsuc n) e = absurd (let n : suc n ≡ 0 = e in omega arith)
+
 -- the definitions are those by which the machine's signed integers work
 pub bits-is : (w : Width) (z : ℤ) → ofZ w z ≡ bitsOf (bits w) z
 bits-is w (pos n) = refl

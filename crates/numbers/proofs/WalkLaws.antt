@@ -1,7 +1,6 @@
 -- Laws of walks, of lists joined, and of the bytes of a list by offset.
 -- Assumes nothing.
 use mathlib.Core.Path.{_≡_, refl, sym, ap, _∙_}
-use mathlib.Core.Bool.{Bool, true, false, _&&_}
 use mathlib.Core.List.{List, [], _∷_, _++_, map, append-nil}
 use Prim.Native.Nat.{ℕ, zero, suc, _+_, _-_, _*_, _≤_, _<_}
 use native.Mathlib.Nat.{suc-mul, zero-mul, zero-add, add-zero, not-suc-le-zero}
@@ -11,7 +10,7 @@ use lib.ListN.{length, getD, take, drop, length-append, drop-of-length-le}
 use lib.Seq.{sets, sets-eq, take-at, drop-at, drop-cons}
 use borrow.Author.Tests.{eq-eqb}
 use Rattle.numbers.specs.Walk.{walk, flat, bytesAt, copyOf}
-pub use Rattle.numbers.specs.Terms.{All}
+use Rattle.numbers.specs.Terms.{All}
 
 less-one : (k : ℕ) → suc k - 1 ≡ k
 less-one k = omega arith
@@ -196,15 +195,3 @@ copied src out p e = p ∙ rw (eq-eqb (length out) (length src) e)
 -- values stored one by one in a slice as long as they are
 pub stored-copy : (vs out : List ℕ) → length out ≡ length vs → sets out 0 vs ≡ copyOf vs out
 stored-copy vs out h = stored vs out h ∙ sym (copied vs out refl h)
-
--- two tests that pass together pass each
-pub both : (a b : Bool) → (a && b) ≡ true → (a ≡ true) × (b ≡ true)
-both true b e = (refl, e)
-both false b e = absurd (none (ap number-of e))
-  where
-    number-of : Bool → ℕ
-    number-of true = 1
-    number-of false = 0
-
-    none : _≡_ {A = ℕ} 0 1 → ⊥
-    none z = omega arith

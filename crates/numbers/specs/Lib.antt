@@ -4,6 +4,7 @@ pub mod BigEndian
 pub mod TwosComplement
 pub mod Places
 pub mod Walk
+pub mod First
 pub mod Cause
 pub mod Outcome
 pub mod Iff

@@ -7,13 +7,13 @@ use native.Mathlib.Nat.{mul-comm, mul-le-mul}
 use native.Mathlib.Omega.{arith}
 use borrow.Author.Tests.{lt-ltb, le-ltb}
 use lib.ListN.{length, getD, drop}
+use Rattle.numbers.specs.Terms.{Bytes}
 use Rattle.numbers.specs.Cause.{refuseIf, then}
 use Rattle.numbers.specs.Outcome.{taken, Outcome}
 use Rattle.numbers.specs.Places.{placeNo}
 use Rattle.numbers.specs.declared.Place.{Place}
 use Rattle.numbers.specs.declared.Check.{Check}
 use Rattle.numbers.specs.declared.Check.the-variants as check
-use Rattle.numbers.proofs.ByteLaws.{Bytes}
 use Rattle.reel.specs.Layout.{firstTrace, samplesOf, intervalOf, codeOf, sampleBytes, stride, strideOf, tracesOf}
 use Rattle.reel.specs.Causes.{mostSamples, mostTraces, causesOf, reelFound, reelJudged}
 use Rattle.reel.specs.declared.Judged.{Judged}

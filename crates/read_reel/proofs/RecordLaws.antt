@@ -9,6 +9,7 @@ use borrow.Author.Tests.{eqb-true, le-leb, ne-eqb}
 use lib.Dec.{T, leb, eqb}
 use lib.ListN.{length, getD, replicate}
 use lib.IntN.{ℤ, pos, negsuc, natAbs}
+use Rattle.numbers.specs.Terms.{Bytes}
 use Rattle.numbers.specs.Walk.{pick, walk, flat, bytesAt}
 use Rattle.numbers.specs.Cause.{refuseIf, then, firstOf}
 use Rattle.numbers.specs.BigEndian.{number, bytesOf}
@@ -17,7 +18,7 @@ use Rattle.numbers.specs.declared.Check.{Check}
 use Rattle.numbers.specs.declared.Check.the-variants.{Fine, Refused}
 use Rattle.numbers.proofs.WalkLaws.{size-walk}
 use Rattle.numbers.proofs.CauseLaws.{passed, then-fine}
-use Rattle.numbers.proofs.ByteLaws.{Bytes, number-at}
+use Rattle.numbers.proofs.ByteLaws.{number-at}
 use Rattle.numbers.proofs.SignLaws.{bits-signed}
 use Rattle.value.specs.Value.{isCode, exactValue}
 use Rattle.sample.specs.Reading.{badGain, readWord}

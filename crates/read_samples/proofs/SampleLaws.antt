@@ -13,7 +13,8 @@ use lib.ListN.{length, getD}
 use Rattle.numbers.specs.Walk.{pick, bytesAt}
 use Rattle.numbers.specs.BigEndian.{number}
 use Rattle.numbers.specs.TwosComplement.{signedOf}
-use Rattle.numbers.proofs.WalkLaws.{flat-length, flat-more, flat-none, four-bytes, both}
+use Rattle.numbers.proofs.WalkLaws.{flat-length, flat-more, flat-none, four-bytes}
+use Rattle.numbers.proofs.BoolLaws.{and-true}
 use Rattle.numbers.proofs.Filling.{Filling, finish, again, lend}
 use Rattle.value.specs.Value.{denominatorPower, ibmValue, wholeValue, gainValue, isCode}
 use Rattle.sample.specs.Reading.{pairTaken, readWord}
@@ -135,8 +136,8 @@ module _ (s : List ℕ) (code n at : ℕ) (out : List ℕ) where
   -- what it is to fit
   pub they-fit : samplesFit s code n at out ≡ true → (isCode code ≡ true) × (at + n * sampleBytes code ≤ length s) × (length out ≡ n * 6)
   they-fit e =
-      let a = both (isCode code) _ e in
-      let b = both (leb (at + n * sampleBytes code) (length s)) (eqb (length out) (n * 6)) (a .1) in
+      let a = and-true (isCode code) _ e in
+      let b = and-true (leb (at + n * sampleBytes code) (length s)) (eqb (length out) (n * 6)) (a .1) in
       (a .0, leb-true (at + n * sampleBytes code) (length s) (b .0), eqb-true (length out) (n * 6) (b .1))
 
   -- samples that fit are read, and others leave the output as it was

@@ -2,10 +2,10 @@
 use mathlib.Core.Path.{_≡_, refl, sym, ap, ap₂, _∙_, subst}
 use mathlib.Core.List.{List}
 use mathlib.Core.Bool.{Bool, true, false, not, _&&_}
-use Prim.Native.Nat.{ℕ, zero, suc, _+_, _-_, _*_, _/_, _^_, _≤_, _<_}
-use native.Mathlib.Nat.{add-zero, zero-add, zero-mul, suc-mul, not-suc-le-zero, mul-div-cancel, mul-comm}
+use Prim.Native.Nat.{ℕ, zero, suc, _+_, _-_, _*_, _≤_, _<_}
+use native.Mathlib.Nat.{add-zero, zero-add, zero-mul, suc-mul}
 use native.Mathlib.Omega.{arith}
-use borrow.Author.Tests.{leb-true, eqb-true, ltb-false, ltb-true, not-false, lt-ltb, le-ltb}
+use borrow.Author.Tests.{leb-true, eqb-true, ltb-false, ltb-true, not-false, lt-ltb}
 use lib.Dec.{T, leb, ltb, eqb}
 use lib.ListN.{length, getD}
 use Rattle.numbers.specs.Walk.{pick, walk, bytesAt}
@@ -15,22 +15,14 @@ use Rattle.numbers.specs.Cause.{refuseIf, then, firstOf}
 use Rattle.numbers.specs.declared.Place.{Place}
 use Rattle.numbers.specs.declared.Check.{Check}
 use Rattle.numbers.specs.declared.Check.the-variants.{Fine, Refused}
-use Rattle.numbers.proofs.CauseLaws.{then-assoc, not-fine, passed, then-fine}
-use Rattle.numbers.proofs.WalkLaws.{walk-more}
-use lib.IntN.{ℤ, natAbs}
-use Rattle.numbers.specs.TwosComplement.{bitsOf}
-use Rattle.value.specs.Value.{denominatorPower, isCode}
-use Rattle.value.specs.Pair.{valueOf, isCanonical, pairLength, pairIn}
-use Rattle.value.specs.Writing.{first, isNegative, ibmFits, ibmBits, ibmWord, numberOf, holds, wholeWord, gainFits, gainWord, wordOf, writePair}
-use Rattle.value.specs.declared.Pair.{Pair}
-use Rattle.value.specs.declared.Written.{Written}
+use Rattle.numbers.proofs.CauseLaws.{then-assoc, passed, then-fine}
+use Rattle.value.specs.Pair.{pairLength}
 use Rattle.value.specs.declared.Written.the-variants as written
 use Rattle.reel.specs.Layout.{number16}
 use Rattle.reel.specs.Causes.{mostSamples, mostTraces, mostInterval, within}
 use Rattle.reel.proofs.CheckLaws.{both-true, in-limits}
-use Rattle.record.specs.Form.{isField, fieldCause, cardsCauses, heldSamples, heldInterval, heldCode, numberCauses, binaryCauses, tracesPlace, heldStride, pairCause, samplesCauses, headerCauses, traceForm, tagsFrom, heldCount, endCauses, bodyCauses, formCauses, recordFound, numbersIn}
+use Rattle.record.specs.Form.{isField, fieldCause, cardsCauses, heldSamples, heldInterval, binaryCauses, tracesPlace, heldStride, pairCause, samplesCauses, headerCauses, traceForm, tagsFrom, heldCount, endCauses, bodyCauses, formCauses, recordFound, numbersIn}
 use Rattle.record.specs.declared.Judged.the-variants as judged
-use Rattle.record.specs.Held.{heldValue}
 use Rattle.record.specs.Parts.{headForm, formFrom}
 
 -- ## Fields

@@ -8,11 +8,12 @@ use native.Mathlib.Omega.{arith}
 use lib.Pow.{pow-add}
 use lib.ListN.{length, getD, take, drop}
 use lib.IntN.{ℤ, pos}
+use Rattle.numbers.specs.Terms.{Bytes}
 use Rattle.numbers.specs.Walk.{walk, bytesAt}
 use Rattle.numbers.specs.BigEndian.{number, bytesOf}
 use Rattle.numbers.specs.TwosComplement.{signedOf, bitsOf}
 use Rattle.numbers.proofs.WalkLaws.{size-bytes}
-use Rattle.numbers.proofs.ByteLaws.{Bytes, number-at, bytes-again, bytes-append}
+use Rattle.numbers.proofs.ByteLaws.{number-at, bytes-again, bytes-append}
 use Rattle.numbers.proofs.SignLaws.{bits-signed}
 use Rattle.reel.specs.Layout.{Field, fieldsFrom, fieldNumber}
 use Rattle.record.specs.Record.{numberBytes}

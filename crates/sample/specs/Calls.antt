@@ -34,13 +34,13 @@ abbrev pub readSaid : Sample → Outcome
 readSaid (sample.Taken e m) = record { said = taken []; bytes = pairBytes e m }
 readSaid (sample.Refused number) = record { said = refused number 0; bytes = replicate pairLength 0 }
 
-abbrev pub readOutcome : ℕ → List ℕ → Outcome
-readOutcome code w = readSaid (readWord code w)
+abbrev pub wordOutcome : ℕ → List ℕ → Outcome
+wordOutcome code w = readSaid (readWord code w)
 
 -- The outcome of writing a single pair.
 abbrev pub writeSaid : Written → Outcome
 writeSaid (written.Word n) = record { said = taken []; bytes = bytesOf 4 n }
 writeSaid (written.Refused number) = record { said = refused number 0; bytes = replicate 4 0 }
 
-abbrev pub writeOutcome : ℕ → List ℕ → Outcome
-writeOutcome code b = writeSaid (writePair code (pairIn b))
+abbrev pub pairOutcome : ℕ → List ℕ → Outcome
+pairOutcome code b = writeSaid (writePair code (pairIn b))

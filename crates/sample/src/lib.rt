@@ -10,7 +10,7 @@ ghost use Rattle.numbers.specs.TwosComplement.{signedOf};
 ghost use Rattle.value.specs.Value.{denominatorPower, signMagnitude, fraction, ibmValue, wholeValue, gainValue};
 ghost use Rattle.value.specs.Pair.{pairBytes};
 ghost use Rattle.sample.specs.Reading.{pairTaken, readWord};
-ghost use Rattle.sample.specs.Calls.{saidBy, wordRead, pairWritten, readOutcome, writeOutcome};
+ghost use Rattle.sample.specs.Calls.{saidBy, wordRead, pairWritten, wordOutcome, pairOutcome};
 use numbers::Place;
 use value::DENOMINATOR_POWER;
 use value::Written;
@@ -183,7 +183,7 @@ fn refusal(number: u8) -> Answer
 
 // One sample, from its word to its canonical pair.
 pub fn read_word(code: u32, word: [u8; 4]) -> WordRead
-    ensures { λ r. ⌜ wordRead r ≡ readOutcome code word ⌝ }
+    ensures { λ r. ⌜ wordRead r ≡ wordOutcome code word ⌝ }
 {
     match read(code, word) {
         Sample::Taken { e, m } => WordRead {
@@ -201,7 +201,7 @@ pub fn read_word(code: u32, word: [u8; 4]) -> WordRead
 
 // One sample, from its pair to its word.
 pub fn write_pair(code: u32, pair: [u8; 6]) -> PairWritten
-    ensures { λ r. ⌜ pairWritten r ≡ writeOutcome code pair ⌝ }
+    ensures { λ r. ⌜ pairWritten r ≡ pairOutcome code pair ⌝ }
 {
     match value::write(code, value::pair_in(pair)) {
         Written::Word { bits } => PairWritten {

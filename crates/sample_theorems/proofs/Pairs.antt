@@ -1,41 +1,41 @@
 -- # Theorems 1 and 2: what a pair says
 --
 -- `Bytes` says that each byte of a list is a number below 256.
-use mathlib.Core.Path.{_≡_, refl, sym, ap, ap₂, _∙_, subst}
-use mathlib.Core.Bool.{Bool, true, false, not, _&&_, _||_}
+use mathlib.Core.Path.{_≡_, refl, sym, ap, ap₂, _∙_}
+use mathlib.Core.Bool.{Bool, true, false, _&&_}
 use mathlib.Core.Logic.{⊎-elim}
-use mathlib.Core.List.{List, [], _∷_, _++_}
-use Prim.Native.Nat.{ℕ, zero, suc, _+_, _-_, _*_, _/_, _%_, _^_, _≤_, _<_}
-use native.Mathlib.Nat.{le-trans, mul-le-mul-right, one-mul, lt-of-le-of-lt, lt-of-lt-of-le, le-of-eq, zero-mul, zero-lt-suc, mul-assoc, not-le-of-lt}
+use mathlib.Core.List.{List, _++_}
+use Prim.Native.Nat.{ℕ, zero, suc, _+_, _-_, _*_, _%_, _^_, _≤_, _<_}
+use native.Mathlib.Nat.{mul-le-mul-right, one-mul, lt-of-le-of-lt, lt-of-lt-of-le, le-of-eq, zero-mul, zero-lt-suc, mul-assoc, not-le-of-lt}
 use native.Mathlib.Omega.{arith}
-use borrow.Author.Tests.{eqb-true, leb-true, le-leb, lt-leb}
-use lib.Dec.{T, leb, eqb}
+use borrow.Author.Tests.{eqb-true, leb-true, le-leb}
+use lib.Dec.{leb, eqb}
 use lib.Pow.{pow-mono, pow-add, shl-lt}
 use lib.Count.{trailingZeros}
 use lib.IntN.{ℤ, pos, negsuc, negℤ, natAbs, subℕ, _+ℤ_, _*ℤ_, +ℤ-negℤ-cancel}
 use lib.Signed.{mag}
 use lib.ListN.{length, getD, drop, length-drop, take-append-drop}
 use lib.Seq.{take-all}
+use Rattle.numbers.specs.Terms.{Bytes}
 use Rattle.numbers.specs.Iff.{Iff}
 use Rattle.numbers.specs.Walk.{pick, bytesAt}
 use Rattle.numbers.specs.BigEndian.{number, bytesOf}
 use Rattle.numbers.specs.TwosComplement.{signedOf, bitsOf}
 use Rattle.numbers.proofs.WalkLaws.{bytes-part}
-use Rattle.numbers.proofs.ByteLaws.{Bytes, number-bytes, number-at, bytes-again}
-use Rattle.numbers.proofs.SignLaws.{below-or, sub-below, sub-above, signed-bits, bits-signed, bits-lt, mag-signed}
+use Rattle.numbers.proofs.BoolLaws.{and-true}
+use Rattle.numbers.proofs.ByteLaws.{number-bytes, number-at, bytes-again}
+use Rattle.numbers.proofs.SignLaws.{below-or, sub-below, sub-above, abs-zero, signed-bits, bits-signed, bits-lt, mag-signed}
 use Rattle.value.specs.Value.{denominatorPower, signMagnitude, signBit, characteristic, fraction, ibmValue, wholeValue, gainValue, isCode, exactValue}
-use Rattle.value.specs.Pair.{highestExponent, mantissaBits, pairOf, valueOf, isExponent, isMantissa, isCanonical, pairBytes, pairIn}
+use Rattle.value.specs.Pair.{highestExponent, mantissaBits, pairOf, valueOf, isExponent, isCanonical, pairBytes, pairIn}
 use Rattle.value.specs.Writing.{isNegative}
 use Rattle.value.specs.declared.Pair.{Pair}
 use Rattle.value.proofs.Twos.{odd-pos, split}
-use Rattle.value.proofs.Magnitudes.{abs-signed, signed-mul, signed-back, signed-word, abs-high, abs-low}
-use Rattle.value.proofs.Pairs.{sub-add, pair-at, sixteens, value-pair}
-use Rattle.value.proofs.Apart.{highest, odd-yes}
+use Rattle.value.proofs.Magnitudes.{abs-signed, signed-mul, signed-back, signed-word}
+use Rattle.value.proofs.Pairs.{pair-at, sixteens, value-pair}
+use Rattle.value.proofs.Apart.{highest, shifted, odd-yes}
 use Rattle.value.proofs.IbmLaws.{grow}
 use Rattle.sample.specs.Reading.{pairTaken, badGain, readWord}
-use Rattle.sample.specs.declared.Sample.{Sample}
 use Rattle.sample.specs.declared.Sample.the-variants.{Taken, Refused}
-use Rattle.sample_theorems.proofs.Held.{and-true}
 
 -- ## A canonical pair and its value determine each other
 
@@ -43,24 +43,11 @@ use Rattle.sample_theorems.proofs.Held.{and-true}
 pub pair-value : (v : ℤ) → valueOf (pairOf v) ≡ v
 pair-value = value-pair
 
-exponent-at : (e : ℤ) → isExponent e ≡ true → (k : ℕ) × (e +ℤ pos denominatorPower ≡ pos k) × (k ≤ highest)
-exponent-at (pos n) h = let l = leb-true n highestExponent h in (n + denominatorPower, refl, omega arith)
-exponent-at (negsuc n) h =
-    let l = leb-true n (denominatorPower - 1) (and-true (leb n (denominatorPower - 1)) true h .0) in
-    (denominatorPower - suc n, sub-above denominatorPower (suc n) (omega arith), omega arith)
-
 unshift : (e : ℤ) (k : ℕ) → e +ℤ pos denominatorPower ≡ pos k → e ≡ subℕ k denominatorPower
 unshift e k h = sym (+ℤ-negℤ-cancel e (pos denominatorPower)) ∙ ap (λ (z : ℤ). z +ℤ negℤ (pos denominatorPower)) h
 
 eta : (p : Pair) (e m : ℤ) → p .e ≡ e → p .m ≡ m → p ≡ record { e = e; m = m }
 eta p e m h l = rw (sym h, sym l)
-
-zero-is : (z : ℤ) → natAbs z ≡ 0 → z ≡ pos 0
-zero-is (pos n) e = ap pos e
-zero-is (negsuc n) e = absurd (no e)
-  where
-    no : suc n ≡ 0 → ⊥
-    no e = omega arith
 
 -- A canonical pair is the pair of its value.
 pub value-pair-back : (p : Pair) → isCanonical p ≡ true → pairOf (valueOf p) ≡ p
@@ -69,18 +56,18 @@ value-pair-back p h = go (eqb (natAbs (p .e)) 0 && eqb (natAbs (p .m)) 0) refl
     go : (b : Bool) → (eqb (natAbs (p .e)) 0 && eqb (natAbs (p .m)) 0) ≡ b → pairOf (valueOf p) ≡ p
     go true q =
         let z = and-true (eqb (natAbs (p .e)) 0) _ q in
-        let e0 = zero-is (p .e) (eqb-true (natAbs (p .e)) 0 (z .0)) in
-        let m0 = zero-is (p .m) (eqb-true (natAbs (p .m)) 0 (z .1)) in
+        let e0 = abs-zero (p .e) (eqb-true (natAbs (p .e)) 0 (z .0)) in
+        let m0 = abs-zero (p .m) (eqb-true (natAbs (p .m)) 0 (z .1)) in
         let v : valueOf p ≡ pos 0 = rw (m0, e0) in
         rw v (sym (eta p (pos 0) (pos 0) e0 m0))
     go false q =
         let a = natAbs (p .m) in
         let r = and-true (isExponent (p .e)) _ (rw q at h) in
         let d = and-true (leb a (2 ^ (mantissaBits - 1) - 1)) _ (r .1) in
-        let k = exponent-at (p .e) (r .0) in
+        let k = shifted (p .e) (r .0) in
         let v : valueOf p ≡ signMagnitude (isNegative (p .m)) (a * 2 ^ k .0) =
-        ap₂ (λ (x y : ℤ). x *ℤ pos (2 ^ natAbs y)) (sym (signed-back (p .m))) (k .1) ∙ signed-mul (isNegative (p .m)) a (2 ^ k .0) in
-        rw (v, pair-at (isNegative (p .m)) a (k .0) (eqb-true (a % 2) 1 (d .1))) (sym (eta p _ _ (unshift (p .e) (k .0) (k .1)) (sym (signed-back (p .m)))))
+        ap₂ (λ (x y : ℤ). x *ℤ pos (2 ^ natAbs y)) (sym (signed-back (p .m))) (k .1 .is) ∙ signed-mul (isNegative (p .m)) a (2 ^ k .0) in
+        rw (v, pair-at (isNegative (p .m)) a (k .0) (eqb-true (a % 2) 1 (d .1))) (sym (eta p _ _ (unshift (p .e) (k .0) (k .1 .is)) (sym (signed-back (p .m)))))
 
 -- THEOREM 2, pairs and values. Two canonical pairs are the same exactly when their values are.
 pub pairs-by-value : (p q : Pair) → isCanonical p ≡ true → isCanonical q ≡ true → Iff (p ≡ q) (valueOf p ≡ valueOf q)

@@ -1,27 +1,28 @@
 -- # Theorem 4: there and back
 use mathlib.Core.Path.{_≡_, refl, sym, ap, _∙_}
-use mathlib.Core.Bool.{true, false}
 use mathlib.Core.List.{List, []}
 use Prim.Native.Nat.{ℕ}
 use native.Mathlib.Omega.{arith}
 use lib.ListN.{length}
 use lib.IntN.{ℤ}
+use Rattle.numbers.specs.Terms.{Bytes}
 use Rattle.numbers.specs.BigEndian.{bytesOf}
-use Rattle.numbers.specs.Outcome.{taken, refused, Outcome}
-use Rattle.numbers.proofs.ByteLaws.{Bytes}
+use Rattle.numbers.specs.Outcome.{taken, Outcome}
 use Rattle.value.specs.Value.{exactValue}
-use Rattle.value.specs.Pair.{pairOf, valueOf, isCanonical, pairIn}
+use Rattle.value.specs.Pair.{pairOf, pairIn}
 use Rattle.value.specs.Writing.{writePair}
 use Rattle.value.specs.declared.Pair.{Pair}
 use Rattle.value.specs.declared.Written.{Written}
 use Rattle.value.specs.declared.Written.the-variants.{Word, Refused}
+use Rattle.value.proofs.WrittenLaws.{written-is}
 use Rattle.sample.specs.Reading.{readWord}
-use Rattle.sample.specs.Calls.{readSaid, readOutcome, writeSaid, writeOutcome}
+use Rattle.sample.specs.Calls.{readSaid, wordOutcome, writeSaid, pairOutcome}
 use Rattle.sample.specs.declared.Sample.{Sample}
 use Rattle.sample.specs.declared.Sample.the-variants as sample
 use Rattle.sample.specs.declared.Sample.the-variants.{Taken}
+use Rattle.sample_theorems.specs.Statements.{Back}
 use Rattle.sample_theorems.proofs.Pairs.{bytes-pair, pair-bytes, taken-code, value-pair-back, reading-value, reading-canonical, reading-takes}
-use Rattle.sample_theorems.proofs.Words.{Normal, Writes, written-is, writing-sound, writing-complete, writing-normal}
+use Rattle.sample_theorems.proofs.Words.{writing-sound, writing-complete, writing-normal}
 
 -- THEOREM 4. A pair that is written under a code, and the word read under that code, give the pair again.
 pub write-read : (code : ℕ) (p : Pair) (n : ℕ) → writePair code p ≡ Word n → readWord code (bytesOf 4 n) ≡ Taken (p .e) (p .m)
@@ -30,12 +31,6 @@ write-read code p n h =
     let s = writing-sound code p n h in
     let same : pairOf (exactValue code (bytesOf 4 n)) ≡ p = ap pairOf (s .value) ∙ value-pair-back p (t .1) in
     reading-takes code (bytesOf 4 n) (t .0) (s .good) ∙ ap (λ (q : Pair). Taken (q .e) (q .m)) same
-
--- What a word that is read and its pair written under the same code become: a word of the same value, under code 1 the normal one.
-pub record Back (code : ℕ) (w : List ℕ) (p : Pair) (n : ℕ) : Type 0 where
-  pub word : writePair code p ≡ Word n
-  pub value : exactValue code (bytesOf 4 n) ≡ exactValue code w
-  pub normal : code ≡ 1 → Normal n
 
 -- A word that is read is never refused when its pair is written under the same code.
 pub read-write : (code : ℕ) (w : List ℕ) (e m : ℤ) → Bytes w → readWord code w ≡ Taken e m → (n : ℕ) × Back code w (record { e = e; m = m }) n
@@ -53,11 +48,11 @@ read-write code w e m b t =
 -- ## The two calls, by the bytes that they hand out
 
 -- Six bytes that are written, and the word read under the same code, give the six bytes again.
-pub calls-write-read : (code : ℕ) (b : List ℕ) → length b ≡ 6 → Bytes b → writeOutcome code b .said ≡ taken []
-    → readOutcome code (writeOutcome code b .bytes) ≡ record { said = taken []; bytes = b }
+pub calls-write-read : (code : ℕ) (b : List ℕ) → length b ≡ 6 → Bytes b → pairOutcome code b .said ≡ taken []
+    → wordOutcome code (pairOutcome code b .bytes) ≡ record { said = taken []; bytes = b }
 calls-write-read code b k h t = go (writePair code (pairIn b)) refl t
   where
-    go : (r : Written) → writePair code (pairIn b) ≡ r → writeSaid r .said ≡ taken [] → readOutcome code (writeSaid r .bytes) ≡ record { said = taken []; bytes = b }
+    go : (r : Written) → writePair code (pairIn b) ≡ r → writeSaid r .said ≡ taken [] → wordOutcome code (writeSaid r .bytes) ≡ record { said = taken []; bytes = b }
     go (Word n) e q = ap readSaid (write-read code (pairIn b) n e) ∙ ap (λ (l : List ℕ). outcome l) (pair-bytes b k h)
       where
         outcome : List ℕ → Outcome
@@ -65,10 +60,10 @@ calls-write-read code b k h t = go (writePair code (pairIn b)) refl t
     go (Refused n) e q = absurd (let z : _≡_ {A = ℕ} 0 1 = cc in omega arith)
 
 -- A word that is read is not refused when the six bytes are written under the same code.
-pub calls-read-write : (code : ℕ) (w : List ℕ) → Bytes w → readOutcome code w .said ≡ taken [] → writeOutcome code (readOutcome code w .bytes) .said ≡ taken []
+pub calls-read-write : (code : ℕ) (w : List ℕ) → Bytes w → wordOutcome code w .said ≡ taken [] → pairOutcome code (wordOutcome code w .bytes) .said ≡ taken []
 calls-read-write code w h t = go (readWord code w) refl t
   where
-    go : (r : Sample) → readWord code w ≡ r → readSaid r .said ≡ taken [] → writeOutcome code (readSaid r .bytes) .said ≡ taken []
+    go : (r : Sample) → readWord code w ≡ r → readSaid r .said ≡ taken [] → pairOutcome code (readSaid r .bytes) .said ≡ taken []
     go (sample.Taken e m) x q =
         let p : Pair = record { e = e; m = m } in
         let y = read-write code w e m h x in

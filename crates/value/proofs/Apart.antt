@@ -1,17 +1,17 @@
 -- A pair taken apart: its sign, its magnitude and e + 280, as the code finds them in the bits. Assumes nothing.
 use mathlib.Core.Path.{_≡_, refl, sym, ap, _∙_, subst}
-use mathlib.Core.Logic.{⊎-elim}
-use mathlib.Core.Bool.{Bool, true, false, _&&_, _||_}
-use Prim.Native.Nat.{ℕ, zero, suc, _+_, _-_, _*_, _%_, _^_, _≤_, _<_}
+use mathlib.Core.Bool.{true, false, _&&_}
+use Prim.Native.Nat.{ℕ, suc, _+_, _-_, _*_, _%_, _^_, _≤_, _<_}
 use native.Mathlib.Omega.{arith}
-use borrow.Author.Tests.{le-leb, lt-leb, leb-true, eq-eqb, ne-eqb}
-use lib.Dec.{leb, eqb}
+use borrow.Author.Tests.{ltb-true, ltb-false, leb-true, le-leb, lt-leb, ne-eqb}
+use lib.Dec.{T, leb, eqb}
 use lib.IntN.{ℤ, pos, negsuc, negℤ, natAbs, _+ℤ_, _*ℤ_}
-use lib.Signed.{leZ, mag}
+use lib.Signed.{leZ, ltZ, mag}
 use Rattle.numbers.specs.TwosComplement.{signedOf, bitsOf}
-use Rattle.numbers.proofs.SignLaws.{below-or, sub-below, sub-above, signed-bits, bits-lt}
+use Rattle.numbers.proofs.SignLaws.{sub-above, abs-zero, signed-bits, bits-lt}
+use Rattle.numbers.proofs.BoolLaws.{and-true, and-false, or-true}
 use Rattle.value.specs.Value.{denominatorPower, signMagnitude}
-use Rattle.value.specs.Pair.{highestExponent, mantissaBits, valueOf, isExponent, isMantissa, isCanonical}
+use Rattle.value.specs.Pair.{highestExponent, mantissaBits, valueOf, isExponent, isCanonical}
 use Rattle.value.specs.Parts.{Apart}
 use Rattle.value.specs.declared.Pair.{Pair}
 use Rattle.value.proofs.Magnitudes.{signed-mul, signed-word}
@@ -20,24 +20,25 @@ use Rattle.value.proofs.Magnitudes.{signed-mul, signed-word}
 abbrev pub highest : ℕ
 highest = denominatorPower + highestExponent
 
--- e + 280 wraps to a small number where e is in range, and nowhere else
-pub shift-is : (e : ℤ) → mag e < 2 ^ 15 → leb ((bitsOf 16 e + denominatorPower) % 2 ^ 16) highest ≡ isExponent e
-shift-is (pos n) f =
-    let k : (n + denominatorPower) % 2 ^ 16 ≡ n + denominatorPower = omega arith in
-    rw k
-    (⊎-elim (λ (h : highestExponent < n). lt-leb (n + denominatorPower) highest (omega arith) ∙ sym (lt-leb n highestExponent h))
-    (λ (h : n ≤ highestExponent). le-leb (n + denominatorPower) highest (omega arith) ∙ sym (le-leb n highestExponent h)) (below-or highestExponent n))
-shift-is (negsuc n) f =
-    ⊎-elim
-    (λ (h : denominatorPower - 1 < n).
-    rw (lt-leb n (denominatorPower - 1) h) (lt-leb ((2 ^ 16 - suc n + denominatorPower) % 2 ^ 16) highest (omega arith)))
-    (λ (h : n ≤ denominatorPower - 1).
-    rw (le-leb n (denominatorPower - 1) h) (le-leb ((2 ^ 16 - suc n + denominatorPower) % 2 ^ 16) highest (omega arith)))
-    (below-or (denominatorPower - 1) n)
+-- an e below the least one, and one that isn't
+pub below-least : (e : ℤ) → ltZ e (negℤ (pos denominatorPower)) ≡ true → isExponent e ≡ false
+below-least (pos n) h = absurd (subst T (sym h) tt)
+below-least (negsuc n) h = rw (lt-leb n (denominatorPower - 1) (ltb-true (denominatorPower - 1) n h))
 
-pub shift-at : (e : ℤ) → mag e < 2 ^ 15 → (bitsOf 16 e + denominatorPower) % 2 ^ 16 ≤ highest → natAbs (e +ℤ pos denominatorPower) ≡ (bitsOf 16 e + denominatorPower) % 2 ^ 16
-shift-at (pos n) f h = omega arith
-shift-at (negsuc n) f h = rw (sub-above denominatorPower (suc n) (omega arith)) (omega arith)
+pub from-least : (e : ℤ) → ltZ e (negℤ (pos denominatorPower)) ≡ false → leZ e (pos highestExponent) ≡ isExponent e
+from-least (pos n) h = refl
+from-least (negsuc n) h = rw (le-leb n (denominatorPower - 1) (ltb-false (denominatorPower - 1) n h))
+
+-- e + 280, for an e within its limits
+pub record Shifted (e : ℤ) (k : ℕ) : Type 0 where
+  pub is : e +ℤ pos denominatorPower ≡ pos k
+  pub low : k ≤ highest
+
+pub shifted : (e : ℤ) → isExponent e ≡ true → (k : ℕ) × Shifted e k
+shifted (pos n) h = let l = leb-true n highestExponent h in (n + denominatorPower, record { is = refl; low = omega arith })
+shifted (negsuc n) h =
+    let l = leb-true n (denominatorPower - 1) (and-true (leb n (denominatorPower - 1)) true h .0) in
+    (denominatorPower - suc n, record { is = sub-above denominatorPower (suc n) (omega arith); low = omega arith })
 
 -- the mantissa of its bits, and an exponent that is 0
 pub is-mantissa : (n : ℕ) (m : ℤ) → mag m < 2 ^ 31 → n ≡ bitsOf 32 m → signedOf 32 n ≡ m
@@ -50,14 +51,6 @@ zero-bits (negsuc n) f h = omega arith
 pub bits-zero : (e : ℤ) → natAbs e ≡ 0 → bitsOf 16 e ≡ 0
 bits-zero (pos n) h = h
 bits-zero (negsuc n) h = omega arith
-
-and-false : (b : Bool) → (b && false) ≡ false
-and-false true = refl
-and-false false = refl
-
-or-true : (b : Bool) → (b || true) ≡ true
-or-true true = refl
-or-true false = refl
 
 -- the pairs that are canonical, and those that are not, by what the code tests
 module _ (p : Pair) where
@@ -80,29 +73,20 @@ module _ (p : Pair) where
 
   -- a pair with m = 0 has the value zero
   pub zero-value : natAbs (p .m) ≡ 0 → valueOf p ≡ pos 0
-  zero-value h = ap (λ (z : ℤ). z *ℤ pos (2 ^ natAbs (p .e +ℤ pos denominatorPower))) (nil (p .m) h) ∙ ap pos (omega arith)
-    where
-      nil : (z : ℤ) → natAbs z ≡ 0 → z ≡ pos 0
-      nil (pos n) e = ap pos e
-      nil (negsuc n) e = absurd (no e)
-        where
-          no : suc n ≡ 0 → ⊥
-          no e = omega arith
+  zero-value h = ap (λ (z : ℤ). z *ℤ pos (2 ^ natAbs (p .e +ℤ pos denominatorPower))) (abs-zero (p .m) h) ∙ ap pos (omega arith)
 
-  -- a canonical pair other than zero, by the bits of its numbers
-  module _ (n k : ℕ) (fe : mag (p .e) < 2 ^ 15) (fm : mag (p .m) < 2 ^ 31) (bn : n ≡ bitsOf 32 (p .m)) (bk : k ≡ (bitsOf 16 (p .e) + denominatorPower) % 2 ^ 16) where
-    pub apart : natAbs (p .m) % 2 ≡ 1 → natAbs (p .m) ≤ 2 ^ 31 → k ≤ highest → (isCanonical p ≡ true) × Apart p (leb (2 ^ 31) n) (natAbs (p .m)) k
-    apart o b l =
-        let fits : n < 2 ^ 32 = rw bn (bits-lt 32 (p .m) (omega arith) fm) in
-        let range : isExponent (p .e) ≡ true = sym (shift-is (p .e) fe) ∙ rw (← bk) (le-leb k highest l) in
-        let sign : p .m ≡ signMagnitude (leb (2 ^ 31) n) (natAbs (p .m)) =
-        sym (is-mantissa n (p .m) fm bn) ∙ signed-word 32 n fits ∙ ap (λ (z : ℤ). signMagnitude (leb (2 ^ 31) n) (natAbs z)) (is-mantissa n (p .m) fm bn) in
-        let power : natAbs (p .e +ℤ pos denominatorPower) ≡ k = shift-at (p .e) fe (rw (← bk) l) ∙ sym bk in (
-          odd-yes o (omega arith) range,
-          record {
-            odd = o;
-            low = l;
-            value =
-                rw power (ap (λ (z : ℤ). z *ℤ pos (2 ^ k)) sign ∙ signed-mul (leb (2 ^ 31) n) (natAbs (p .m)) (2 ^ k));
-          },
-        )
+  -- a canonical pair other than zero, by the bits of its mantissa and e + 280
+  pub apart : (n k : ℕ) → mag (p .m) < 2 ^ 31 → n ≡ bitsOf 32 (p .m) → isExponent (p .e) ≡ true → k ≡ natAbs (p .e +ℤ pos denominatorPower) → k ≤ highest
+      → natAbs (p .m) % 2 ≡ 1 → natAbs (p .m) ≤ 2 ^ 31 → (isCanonical p ≡ true) × Apart p (leb (2 ^ 31) n) (natAbs (p .m)) k
+  apart n k fm bn range power l o b =
+      let fits : n < 2 ^ 32 = rw bn (bits-lt 32 (p .m) (omega arith) fm) in
+      let sign : p .m ≡ signMagnitude (leb (2 ^ 31) n) (natAbs (p .m)) =
+      sym (is-mantissa n (p .m) fm bn) ∙ signed-word 32 n fits ∙ ap (λ (z : ℤ). signMagnitude (leb (2 ^ 31) n) (natAbs z)) (is-mantissa n (p .m) fm bn) in (
+        odd-yes o (omega arith) range,
+        record {
+          odd = o;
+          low = l;
+          value =
+              rw (← power) (ap (λ (z : ℤ). z *ℤ pos (2 ^ k)) sign ∙ signed-mul (leb (2 ^ 31) n) (natAbs (p .m)) (2 ^ k));
+        },
+      )

@@ -1,12 +1,11 @@
 -- When an odd number times a power of two is a whole number of another power, and what the quotient is: the one fact behind every
 -- code's word. Assumes nothing.
-use mathlib.Core.Path.{_≡_, refl, sym, ap, _∙_, subst}
-use mathlib.Core.Bool.{Bool, true, false, _&&_}
-use Prim.Native.Nat.{ℕ, zero, suc, _+_, _-_, _*_, _/_, _%_, _^_, _≤_, _<_}
+use mathlib.Core.Path.{_≡_, sym, ap, _∙_}
+use mathlib.Core.Bool.{Bool, true, false}
+use Prim.Native.Nat.{ℕ, suc, _+_, _-_, _*_, _/_, _%_, _^_, _≤_, _<_}
 use native.Mathlib.Nat.{mul-assoc, mul-div-cancel, mul-mod-left, sub-add-cancel, pow-suc, div-add-mod', add-zero, le-of-lt}
 use native.Mathlib.Omega.{arith}
 use borrow.Author.Tests.{eq-eqb, ne-eqb, lt-ltb, le-ltb}
-use lib.Dec.{eqb}
 use lib.Pow.{pow-add, pow-pos, shl-shr}
 use Rattle.numbers.specs.Walk.{pick}
 use Rattle.value.specs.Value.{signMagnitude}
@@ -14,7 +13,7 @@ use Rattle.value.specs.Writing.{isMultiple, numberOf, holds}
 use Rattle.value.proofs.Magnitudes.{abs-signed, signed-quot, in-bits}
 
 module _ (o k j : ℕ) where
-  parted : j ≤ k → o * 2 ^ k ≡ o * 2 ^ (k - j) * 2 ^ j
+  pub parted : j ≤ k → o * 2 ^ k ≡ o * 2 ^ (k - j) * 2 ^ j
   parted h = ap (λ (x : ℕ). o * 2 ^ x) (sym (sub-add-cancel h)) ∙ ap (λ (x : ℕ). o * x) (pow-add 2 (k - j) j) ∙ sym (mul-assoc o (2 ^ (k - j)) (2 ^ j))
 
   pub exact-div : j ≤ k → o * 2 ^ k / 2 ^ j ≡ o * 2 ^ (k - j)

@@ -1,43 +1,31 @@
 -- The normal word of ± o × 2 ^ k under code 1, for an odd o. Assumes nothing.
-use mathlib.Core.Path.{_≡_, refl, sym, ap, _∙_, subst}
+use mathlib.Core.Path.{_≡_, sym, ap, ap₂, _∙_}
 use mathlib.Core.Logic.{_⊎_, inl, inr, ⊎-elim}
-use mathlib.Core.Bool.{Bool, true, false}
-use Prim.Native.Nat.{ℕ, zero, suc, _+_, _-_, _*_, _/_, _%_, _^_, _≤_, _<_, min}
+use mathlib.Core.Bool.{Bool, false}
+use Prim.Native.Nat.{ℕ, suc, _+_, _-_, _*_, _/_, _%_, _^_, _≤_, _<_, min}
 use native.Mathlib.Nat.{le-trans, mul-le-mul-right, mul-le-mul-left, mul-assoc, lt-of-le-of-lt, le-of-eq, mul-one, lt-of-lt-of-le}
 use native.Mathlib.Omega.{arith}
-use borrow.Author.Tests.{lt-ltb, le-ltb, le-leb, lt-leb, ne-eqb}
+use borrow.Author.Tests.{le-ltb}
 use lib.Pow.{pow-add, pow-pos, pow-mono, shl-lt}
-use lib.IntN.{ℤ, pos, negsuc, natAbs}
-use Rattle.numbers.specs.Walk.{pick}
+use lib.IntN.{natAbs}
 use Rattle.numbers.proofs.SignLaws.{below-or}
 use Rattle.value.specs.Value.{signMagnitude}
-use Rattle.value.specs.Writing.{first, isNormal, ibmFits, ibmBits, ibmAt, ibmWord}
+use Rattle.value.specs.Writing.{ibmFits, ibmBits, ibmAt, ibmWord}
 use Rattle.value.specs.declared.Written.the-variants.{Word, Refused}
 use Rattle.value.proofs.Twos.{odd-shl}
 use Rattle.value.proofs.Magnitudes.{neg-signed, abs-signed}
 use Rattle.value.proofs.Pairs.{sixteens}
-use Rattle.value.proofs.First.{first-at, first-none}
-use Rattle.value.proofs.Exact.{multiple, no-multiple, exact-div}
+use Rattle.numbers.proofs.FirstLaws.{none-passes}
+use Rattle.value.proofs.Exact.{parted, multiple, no-multiple, exact-div}
+use Rattle.value.proofs.NormalWords.{written-at}
 
 pub grow : (x n : ℕ) → x ≤ x * 2 ^ n
 grow x n = rw mul-one at (mul-le-mul-left x (pow-pos n))
-
--- a fraction is normal where its first hexadecimal digit isn't 0, or its characteristic is
-pub normal-yes : (c f : ℕ) → (c ≡ 0) ⊎ (2 ^ 20 ≤ f) → isNormal c f ≡ true
-normal-yes zero f h = refl
-normal-yes (suc c) f h = rw (ne-eqb (suc c) 0 no) (⊎-elim (λ (e : suc c ≡ 0). absurd (no e)) (λ (l : 2 ^ 20 ≤ f). le-leb (2 ^ 20) f l) h)
-  where
-    no : suc c ≡ 0 → ⊥
-    no e = omega arith
 
 module _ (s : Bool) (o k : ℕ) (e : o % 2 ≡ 1) where
   -- the fraction at a characteristic
   part-at : (c : ℕ) → c * 4 ≤ k → natAbs (signMagnitude s (o * 2 ^ k)) / 16 ^ c ≡ o * 2 ^ (k - c * 4)
   part-at c h = rw (abs-signed s (o * 2 ^ k), ← (sixteens c)) (exact-div o k (c * 4) h)
-
-  fits-at : (c f : ℕ) → c * 4 ≤ k → f ≡ o * 2 ^ (k - c * 4) → f < 2 ^ 24 → (c ≡ 0) ⊎ (2 ^ 20 ≤ f) → ibmFits (signMagnitude s (o * 2 ^ k)) c ≡ true
-  fits-at c f h q b n =
-      rw (part-at c h, ← q, lt-ltb f (2 ^ 24) b, normal-yes c f n, ← (sixteens c), multiple o k (c * 4) s h)
 
   too-big : (c : ℕ) → c * 4 ≤ k → 2 ^ 24 ≤ o * 2 ^ (k - c * 4) → ibmFits (signMagnitude s (o * 2 ^ k)) c ≡ false
   too-big c h b =
@@ -60,21 +48,13 @@ module _ (s : Bool) (o k : ℕ) (e : o % 2 ≡ 1) where
       → ibmWord (signMagnitude s (o * 2 ^ k)) ≡ Word (ibmBits s c f)
   ibm-word c f h l q b n =
       let v = signMagnitude s (o * 2 ^ k) in
-      let least : (i : ℕ) → 0 ≤ i → i < c → ibmFits v i ≡ false =
-      λ i z p. ⊎-elim (λ (y : c ≡ 0). absurd (none i p y))
-      (λ (y : 2 ^ 20 ≤ f). not-below i c (omega arith) l (le-trans (mul-le-mul-right 16 (le-trans y (le-of-eq q))) (mul-le-mul-left (o * 2 ^ (k - c * 4)) (pow-mono (four i p))))) n in
-      ap (ibmAt v) (first-at (ibmFits v) 128 0 c (omega arith) (omega arith) (fits-at c f l q b n) least)
-      ∙ rw (lt-ltb c 128 h, neg-signed s (o * 2 ^ k) (odd-shl o k e), part-at c l, ← q)
-    where
-      none : (i : ℕ) → i < c → c ≡ 0 → ⊥
-      none i p y = omega arith
-
-      four : (i : ℕ) → i < c → 4 ≤ c * 4 - i * 4
-      four i p = omega arith
+      let whole : f * 16 ^ c ≡ natAbs v = ap₂ (λ (x y : ℕ). x * y) q (sym (sixteens c)) ∙ sym (parted o k (c * 4) l) ∙ sym (abs-signed s (o * 2 ^ k)) in
+      written-at v c f h (record { whole = whole; small = b; normal = n })
+      ∙ ap (λ (b : Bool). Word (ibmBits b c f)) (neg-signed s (o * 2 ^ k) (odd-shl o k e))
 
   -- no characteristic serves
   pub ibm-unfit : (t : ℕ) → t ≡ min (k / 4) 127 → 2 ^ 24 ≤ o * 2 ^ (k - t * 4) → ibmWord (signMagnitude s (o * 2 ^ k)) ≡ Refused 14
-  ibm-unfit t q b = ap (ibmAt (signMagnitude s (o * 2 ^ k))) (first-none (ibmFits (signMagnitude s (o * 2 ^ k))) 128 0 none)
+  ibm-unfit t q b = ap (ibmAt (signMagnitude s (o * 2 ^ k))) (none-passes (ibmFits (signMagnitude s (o * 2 ^ k))) 128 0 none)
     where
       none : (i : ℕ) → 0 ≤ i → i < 0 + 128 → ibmFits (signMagnitude s (o * 2 ^ k)) i ≡ false
       none i z p =

@@ -1,10 +1,13 @@
 pub mod Twos
 pub mod Magnitudes
 pub mod Pairs
-pub mod First
 pub mod Exact
+pub mod NormalWords
 pub mod IbmLaws
 pub mod WholeLaws
+pub mod Held
+pub mod WrittenLaws
+pub mod WordBytes
 pub mod Apart
 pub mod PartsLaws
 pub mod PairBytes

@@ -1,10 +1,11 @@
 -- What writing a pair gives, by the pair's parts. Assumes nothing.
 use Prim.Native.Nat.{ℕ, _*_, _^_}
-use mathlib.Core.Path.{_≡_, refl, _∙_}
+use mathlib.Core.Path.{_≡_, refl}
 use mathlib.Core.Bool.{Bool, true}
 use lib.IntN.{pos}
+use Rattle.numbers.specs.First.{first}
 use Rattle.value.specs.Value.{signMagnitude, isCode}
-use Rattle.value.specs.Writing.{first, wordOf, writePair}
+use Rattle.value.specs.Writing.{isNormal, wordOf, writePair}
 use Rattle.value.specs.Parts.{PartsOf}
 use Rattle.value.specs.declared.Pair.{Pair}
 use Rattle.value.specs.declared.Parts.the-variants.{NotCanonical, Zero, Odd}
@@ -22,7 +23,7 @@ module _ (code : ℕ) (p : Pair) (i : isCode code ≡ true) where
 
 -- zero is written as 00000000 under every code
 pub zero-ibm : wordOf 1 (pos 0) ≡ Word 0
-unfolding first
+unfolding first isNormal
 zero-ibm = refl
 
 pub zero-whole32 : wordOf 2 (pos 0) ≡ Word 0

@@ -1,11 +1,11 @@
 -- The twos of a number: every number other than 0 is an odd number times a power of two, in one way. Assumes nothing.
 use mathlib.Core.Path.{_≡_, refl, sym, ap, _∙_, subst}
-use Prim.Native.Nat.{ℕ, zero, suc, _+_, _-_, _*_, _/_, _%_, _^_, _≤_, _<_}
-use native.Mathlib.Nat.{mul-one, mul-assoc, pow-suc, mul-mod-left, mul-div-cancel, zero-lt-suc, mod-lt, le-of-suc-le-suc, lt-of-lt-of-le, mul-le-mul-right, one-mul, le-refl}
+use Prim.Native.Nat.{ℕ, zero, suc, _-_, _*_, _/_, _%_, _^_, _≤_, _<_}
+use native.Mathlib.Nat.{mul-one, mul-assoc, pow-suc, mul-mod-left, mul-div-cancel, zero-lt-suc, le-of-suc-le-suc, lt-of-lt-of-le, mul-le-mul-right, one-mul}
 use native.Mathlib.Omega.{arith}
 use native.Mathlib.Decide.{decLt}
 use lib.Count.{trailingZeros, under}
-use lib.Pow.{pow-add, pow-pos, pow-mono, shr-lt, shl-shr}
+use lib.Pow.{pow-mono, shl-shr}
 use Rattle.value.specs.Pair.{twosIn, twos, oddPart}
 
 -- what a number of k digits other than 0 is: odd times the power that its trailing zeros count

@@ -1,11 +1,11 @@
 -- The words of ± o × 2 ^ k under codes 2, 3 and 4, for an odd o. Assumes nothing.
-use mathlib.Core.Path.{_≡_, refl, sym, ap, _∙_, subst}
+use mathlib.Core.Path.{_≡_, sym, ap, _∙_, subst}
 use mathlib.Core.Logic.{_⊎_, inl, inr, ⊎-elim}
-use mathlib.Core.Bool.{Bool, true, false}
-use Prim.Native.Nat.{ℕ, zero, suc, _+_, _-_, _*_, _/_, _%_, _^_, _≤_, _<_, min}
+use mathlib.Core.Bool.{Bool, false}
+use Prim.Native.Nat.{ℕ, _+_, _-_, _*_, _%_, _^_, _≤_, _<_, min}
 use native.Mathlib.Nat.{le-trans, mul-le-mul-left, mul-le-mul-right, one-mul}
 use native.Mathlib.Omega.{arith}
-use borrow.Author.Tests.{lt-ltb, le-ltb}
+use borrow.Author.Tests.{lt-ltb}
 use lib.Pow.{pow-mono}
 use Rattle.numbers.specs.Walk.{pick}
 use Rattle.numbers.specs.TwosComplement.{bitsOf}
@@ -13,7 +13,7 @@ use Rattle.numbers.proofs.SignLaws.{below-or}
 use Rattle.value.specs.Value.{denominatorPower, signMagnitude}
 use Rattle.value.specs.Writing.{wholeWord, gainFits, gainAt, gainWord}
 use Rattle.value.specs.declared.Written.the-variants.{Word, Refused}
-use Rattle.value.proofs.First.{first-at, first-none}
+use Rattle.numbers.proofs.FirstLaws.{first-at, none-passes}
 use Rattle.value.proofs.Exact.{holds-yes, holds-big, holds-odd, number-at}
 
 -- an odd number that is shifted up by 32 or more is beyond every limit of at most 2 ^ 32
@@ -41,7 +41,7 @@ module _ (s : Bool) (o k : ℕ) (e : o % 2 ≡ 1) where
 
   pub gain-low : 256 ≤ denominatorPower - min k denominatorPower → gainWord (signMagnitude s (o * 2 ^ k)) ≡ Refused 14
   gain-low h =
-      ap (gainAt (signMagnitude s (o * 2 ^ k))) (first-none (gainFits (signMagnitude s (o * 2 ^ k))) 256 0 (λ i z p. too-small i (omega arith)))
+      ap (gainAt (signMagnitude s (o * 2 ^ k))) (none-passes (gainFits (signMagnitude s (o * 2 ^ k))) 256 0 (λ i z p. too-small i (omega arith)))
 
   module _ (g q : ℕ) (m : g ≡ denominatorPower - min k denominatorPower) (h : g < 256) where
     pub gain-beyond : (k + g < denominatorPower) ⊎ ((denominatorPower ≤ k + g) × (2 ^ 15 + pick s 1 0 ≤ o * 2 ^ (k + g - denominatorPower))) → gainWord (signMagnitude s (o * 2 ^ k)) ≡ Refused 14
@@ -49,7 +49,7 @@ module _ (s : Bool) (o k : ℕ) (e : o % 2 ≡ 1) where
       where
         none : k + g < denominatorPower → ⊥
         none l = omega arith
-    gain-beyond (inr l) = ap (gainAt (signMagnitude s (o * 2 ^ k))) (first-none (gainFits (signMagnitude s (o * 2 ^ k))) 256 0 none)
+    gain-beyond (inr l) = ap (gainAt (signMagnitude s (o * 2 ^ k))) (none-passes (gainFits (signMagnitude s (o * 2 ^ k))) 256 0 none)
       where
         none : (i : ℕ) → 0 ≤ i → i < 0 + 256 → gainFits (signMagnitude s (o * 2 ^ k)) i ≡ false
         none i z p =

@@ -1,21 +1,18 @@
 -- The word of a value under each code, as a number of 32 bits, and what writing a pair gives.
-use Prim.Native.Nat.{ℕ, zero, suc, _+_, _-_, _*_, _/_, _%_, _^_}
-use mathlib.Core.Bool.{Bool, true, false, _&&_, _||_}
-use lib.Dec.{leb, ltb, eqb}
+use Prim.Native.Nat.{ℕ, _+_, _-_, _*_, _/_, _%_, _^_}
+use mathlib.Core.Path.{_≡_}
+use mathlib.Core.Bool.{Bool, true, false, not, _&&_, _||_}
+use lib.Dec.{ltb, eqb}
 use lib.IntN.{ℤ, pos, negsuc, negℤ, natAbs}
 use lib.Signed.{leZ, ltZ, quotZ}
 use Rattle.numbers.specs.Walk.{pick}
+use Rattle.numbers.specs.First.{first}
 use Rattle.numbers.specs.TwosComplement.{bitsOf}
-use Rattle.value.specs.Value.{denominatorPower, isCode}
+use Rattle.value.specs.Value.{denominatorPower, characteristic, fraction, ibmValue, isCode}
 use Rattle.value.specs.Pair.{valueOf, isCanonical}
 use Rattle.value.specs.declared.Pair.{Pair}
 use Rattle.value.specs.declared.Written.{Written}
 use Rattle.value.specs.declared.Written.the-variants.{Word, Refused}
-
--- The first of the n numbers from i on that passes a test; i + n where none does.
-unfoldable pub first : (ℕ → Bool) → ℕ → ℕ → ℕ
-first t zero i = i
-first t (suc n) i = pick (t i) i (first t n (suc i))
 
 abbrev pub isNegative : ℤ → Bool
 isNegative (pos n) = false
@@ -27,17 +24,24 @@ isMultiple p v = eqb (natAbs v % p) 0
 
 -- ## Code 1
 
--- A normal word, document 01's own term: the first hexadecimal digit of F isn't 0, unless C is 0.
-abbrev pub isNormal : ℕ → ℕ → Bool
-isNormal c f = eqb c 0 || leb (2 ^ 20) f
-
--- |V| = F × 16 ^ c for a fraction F of 24 bits that is normal beside c.
-abbrev pub ibmFits : ℤ → ℕ → Bool
-ibmFits v c = isMultiple (16 ^ c) v && (ltb (natAbs v / 16 ^ c) (2 ^ 24) && isNormal c (natAbs v / 16 ^ c))
-
 -- A word by sign, characteristic and fraction.
 abbrev pub ibmBits : Bool → ℕ → ℕ → ℕ
 ibmBits s c f = pick s (2 ^ 31) 0 + c * 2 ^ 24 + f
+
+-- The first of the six hexadecimal digits of F.
+abbrev pub firstDigit : ℕ → ℕ
+firstDigit n = fraction n / 16 ^ 5
+
+-- The normal word, document 01's own term, of a word as a number of 32 bits: for zero it is 00000000; otherwise the first hexadecimal
+-- digit of F isn't 0, unless C is 0. So 80000000 and 7F000000 are not normal: they are zero too.
+unfoldable pub isNormal : ℕ → Bool
+isNormal n =
+    pick (eqb (natAbs (ibmValue n)) 0) (eqb n 0) (not (eqb (firstDigit n) 0) || eqb (characteristic n) 0)
+
+-- |V| = F × 16 ^ c for a fraction F of 24 bits, and the word of c and F is normal.
+abbrev pub ibmFits : ℤ → ℕ → Bool
+ibmFits v c =
+    isMultiple (16 ^ c) v && (ltb (natAbs v / 16 ^ c) (2 ^ 24) && isNormal (ibmBits (isNegative v) c (natAbs v / 16 ^ c)))
 
 -- The word of a value with characteristic c, or 14 where c is 128: then none of the 128 characteristics serves.
 abbrev pub ibmAt : ℤ → ℕ → Written
@@ -98,3 +102,7 @@ writePair code p = pick (isCode code) (pick (isCanonical p) (wordOf code (valueO
 abbrev pub wordBits : Written → ℕ
 wordBits (Word n) = n
 wordBits (Refused number) = 0
+
+-- There is a word.
+abbrev pub Writes : Written → Type 0
+Writes r = (n : ℕ) × (r ≡ Word n)

@@ -1,11 +1,13 @@
 // What a sample is worth: the canonical pair, and the word of a pair under codes 1 to 4.
 ghost use mathlib.Core.Path.{_≡_};
 ghost use Prim.Native.Nat.{_+_, _*_, _%_, _^_, _<_, _≤_, min};
-ghost use lib.IntN.{natAbs};
+ghost use mathlib.Core.Bool.{true, _&&_};
+ghost use lib.Dec.{leb, ltb};
+ghost use lib.IntN.{pos, natAbs, _+ℤ_};
 ghost use Rattle.numbers.specs.Walk.{pick};
 ghost use Rattle.numbers.specs.TwosComplement.{signedOf, bitsOf};
 ghost use Rattle.value.specs.Value.{denominatorPower, signMagnitude};
-ghost use Rattle.value.specs.Pair.{highestExponent, isCanonical, pairOfBits, pairIn};
+ghost use Rattle.value.specs.Pair.{highestExponent, isExponent, isCanonical, pairOfBits, pairIn};
 ghost use Rattle.value.specs.Writing.{ibmWord, wholeWord, gainWord, writePair, wordBits};
 ghost use Rattle.value.specs.Parts.{PartsOf, WholeBelow};
 
@@ -24,8 +26,10 @@ pub enum Written {
 // The power of two of the denominator.
 pub const DENOMINATOR_POWER: u32 = 280;
 
-// e + DENOMINATOR_POWER of the largest e.
-const HIGHEST_SHIFT: u32 = 531;
+// The least and the largest e.
+const LOWEST_EXPONENT: i16 = -280;
+
+const HIGHEST_EXPONENT: i16 = 251;
 
 // Zero under every code.
 const ZERO_WORD: u32 = 0;
@@ -119,11 +123,7 @@ fn complement32(neg: bool, q: u32) -> u32
     requires { ⌜ (0 < q) × (q < 2 ^ 31 + pick neg 1 0) ⌝ }
     ensures { λ r. ⌜ r ≡ bitsOf 32 (signMagnitude neg q) ⌝ }
 {
-    if neg {
-        std::num::wrapping_sub_u32(0, q)
-    } else {
-        q
-    }
+    if neg { 0xffff_ffff - q + 1 } else { q }
 }
 
 fn complement16(neg: bool, q: u32) -> u32
@@ -139,20 +139,29 @@ enum Whole {
     Beyond,
 }
 
+// Whether k - 280 is from 0 to 31. Below, an odd number times 2^(k - 280) is a fraction; above, it has more than 32 bits.
+fn shifts_up(k: u32) -> bool
+    ensures { λ r. ⌜ r ≡ (leb denominatorPower k && ltb k (denominatorPower + 32)) ⌝ }
+{
+    if k < DENOMINATOR_POWER {
+        return false;
+    }
+    k < DENOMINATOR_POWER + 32
+}
+
 // o × 2^(k - 280), for an odd o, where that is a whole number below a limit.
 fn whole_below(o: u32, k: u32, limit: u64) -> Whole
     requires { ⌜ (o % 2 ≡ 1) × (limit ≤ 2 ^ 32) ⌝ }
     ensures { λ r. ⌜ WholeBelow o k limit r ⌝ }
 {
-    let up = std::num::wrapping_sub_u32(k, DENOMINATOR_POWER);
-    if 32 <= up {
-        return Whole::Beyond;
+    if shifts_up(k) {
+        let q = shifted_wide(o, k - DENOMINATOR_POWER);
+        if limit <= q {
+            return Whole::Beyond;
+        }
+        return Whole::Below { q: q as u32 };
     }
-    let q = shifted_wide(o, up);
-    if limit <= q {
-        return Whole::Beyond;
-    }
-    Whole::Below { q: q as u32 }
+    Whole::Beyond
 }
 
 // The word of V = ± o × 2^k under code 2, for an odd o.
@@ -208,11 +217,22 @@ fn bits_of(word: Written) -> u32
     }
 }
 
-// e + 280 as 16 bits: at most 531 for every e of a canonical pair, and for no other e.
-fn shift(e: i16) -> u32
-    ensures { λ r. ⌜ r ≡ (bitsOf 16 e + denominatorPower) % 2 ^ 16 ⌝ }
+// Whether e is within its limits.
+fn is_exponent(e: i16) -> bool
+    ensures { λ r. ⌜ r ≡ isExponent e ⌝ }
 {
-    std::num::wrapping_add_u16(numbers::bits16(e), DENOMINATOR_POWER as u16) as u32
+    if e < LOWEST_EXPONENT {
+        return false;
+    }
+    e <= HIGHEST_EXPONENT
+}
+
+// e + 280, for an e within its limits.
+fn shift(e: i16) -> u32
+    requires { ⌜ isExponent e ≡ true ⌝ }
+    ensures { λ r. ⌜ (r ≡ natAbs (e +ℤ pos denominatorPower)) × (r ≤ denominatorPower + highestExponent) ⌝ }
+{
+    (e + DENOMINATOR_POWER as i16) as u32
 }
 
 // A pair taken apart: not canonical, zero, or V = ± o × 2^k with an odd o.
@@ -234,18 +254,17 @@ impl Pair {
             }
             return Parts::NotCanonical;
         }
-        let k = shift(self.e);
         if o % 2 == 0 {
             return Parts::NotCanonical;
         }
-        if HIGHEST_SHIFT < k {
-            return Parts::NotCanonical;
+        if is_exponent(self.e) {
+            return Parts::Odd {
+                neg: 0x8000_0000 <= bits,
+                o,
+                k: shift(self.e),
+            };
         }
-        Parts::Odd {
-            neg: 0x8000_0000 <= bits,
-            o,
-            k,
-        }
+        Parts::NotCanonical
     }
 
     // Whether the pair is canonical.

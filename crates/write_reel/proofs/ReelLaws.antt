@@ -8,12 +8,12 @@ use native.Mathlib.Omega.{arith}
 use borrow.Author.Tests.{not-false}
 use lib.ListN.{replicate, take}
 use lib.IntN.{ℤ, pos}
+use Rattle.numbers.specs.Terms.{Bytes}
 use Rattle.numbers.specs.Walk.{walk, flat, bytesAt}
 use Rattle.numbers.specs.BigEndian.{bytesOf}
 use Rattle.numbers.specs.Cause.{refuseIf, then, firstOf}
 use Rattle.numbers.specs.declared.Check.the-variants.{Fine}
 use Rattle.numbers.proofs.CauseLaws.{passed, then-fine}
-use Rattle.numbers.proofs.ByteLaws.{Bytes}
 use Rattle.value.specs.Value.{isCode}
 use Rattle.value.specs.Pair.{isCanonical, pairLength, pairIn}
 use Rattle.reel.specs.Layout.{cardBytes, fieldsFrom, binaryWidths, binaryFields, traceWidths, traceFields, fieldNumber}

@@ -7,13 +7,13 @@ use native.Mathlib.Nat.{mul-le-mul}
 use native.Mathlib.Omega.{arith}
 use borrow.Author.Tests.{lt-ltb, le-ltb, not-false}
 use lib.ListN.{length, drop}
+use Rattle.numbers.specs.Terms.{Bytes}
 use Rattle.numbers.specs.Cause.{refuseIf, then}
 use Rattle.numbers.specs.Outcome.{taken, Outcome}
 use Rattle.numbers.specs.declared.Place.{Place}
 use Rattle.numbers.specs.declared.Check.{Check}
 use Rattle.numbers.specs.declared.Check.the-variants as check
 use Rattle.numbers.proofs.CauseLaws.{passed, then-assoc, then-fine}
-use Rattle.numbers.proofs.ByteLaws.{Bytes}
 use Rattle.value.specs.Value.{isCode}
 use Rattle.reel.specs.Layout.{firstTrace, stride, sampleBytes}
 use Rattle.reel.specs.Causes.{mostSamples, mostTraces}

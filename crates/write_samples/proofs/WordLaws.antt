@@ -13,7 +13,8 @@ use Rattle.numbers.specs.BigEndian.{number, bytesOf}
 use Rattle.numbers.specs.Cause.{firstOf}
 use Rattle.numbers.specs.declared.Check.{Check}
 use Rattle.numbers.specs.declared.Check.the-variants.{Fine}
-use Rattle.numbers.proofs.WalkLaws.{flat-length, flat-more, flat-none, both}
+use Rattle.numbers.proofs.WalkLaws.{flat-length, flat-more, flat-none}
+use Rattle.numbers.proofs.BoolLaws.{and-true}
 use Rattle.numbers.proofs.Filling.{Filling, finish, again, lend}
 use Rattle.value.specs.Value.{isCode}
 use Rattle.value.specs.Writing.{writePair, wordBits}
@@ -92,7 +93,7 @@ module _ (s : List ℕ) (code n at : ℕ) where
   -- what it is for the pairs to be there
   pub they-are-there : pairsThere s code n at ≡ true → (isCode code ≡ true) × (at + n * 6 ≤ length s)
   they-are-there e =
-      let b = both (isCode code) (leb (at + n * 6) (length s)) e in
+      let b = and-true (isCode code) (leb (at + n * 6) (length s)) e in
       (b .0, leb-true (at + n * 6) (length s) (b .1))
 
   there : isCode code ≡ true → at + n * 6 ≤ length s → pairsThere s code n at ≡ true

@@ -1,24 +1,10 @@
 -- `record::pair_at` meets its contract. Assumes nothing.
-use Rattle.numbers.specs.Walk.{bytesAt}
+use Rattle.numbers.proofs.WalkLaws.{six-bytes}
 use Rattle.value.specs.Pair.{pairIn}
-use lib.ListN.{getD}
-use Prim.Native.Nat.{ℕ, _+_}
-use mathlib.Core.List.{List, [], _∷_}
-use mathlib.Core.Path.{_≡_, sym, ap, _∙_}
-use native.Mathlib.Omega.{arith}
+use mathlib.Core.Path.{sym, ap, _∙_}
 use borrow.Author.Needs.{needs}
 use Rattle.record.proofs.pair_at.Statement.{statement}
 use Rattle.record.proofs.pair_at.Tie as tie
-
--- the six bytes from an offset on, one by one
-six-bytes : (s : List ℕ) (at : ℕ) → bytesAt s at 6 ≡ getD s at 0 ∷ getD s (at + 1) 0 ∷ getD s (at + 2) 0 ∷ getD s (at + 3) 0 ∷ getD s (at + 4) 0 ∷ getD s (at + 5) 0 ∷ []
-unfolding bytesAt
-six-bytes s at =
-    let d : at + 1 + 1 + 1 + 1 + 1 ≡ at + 5 = omega arith in
-    let c : at + 1 + 1 + 1 + 1 ≡ at + 4 = omega arith in
-    let b : at + 1 + 1 + 1 ≡ at + 3 = omega arith in
-    let a : at + 1 + 1 ≡ at + 2 = omega arith in
-    rw (d, c, b, a)
 
 shared-slice-read-t4 : tie.Need-shared-slice-read-t4
 shared-slice-read-t4 c = search needs

@@ -1,25 +1,31 @@
 -- `value::shift` meets its contract. Assumes nothing.
+use Rattle.value.proofs.Apart.{shifted}
 use mir.Facts.{toZ-ofZ}
+use mir.Syntax.{w16}
+use mir.Val.{SFits}
+use lib.IntN.{pos}
+use native.Mathlib.Omega.{arith}
 use borrow.Author.Needs.{needs}
 use Rattle.value.proofs.shift.Statement.{statement}
 use Rattle.value.proofs.shift.Tie as tie
 
-bits16-requires : tie.Need-bits16-requires
-bits16-requires c κs = search needs
-
-cast-wrapping-add-u16 : tie.Need-cast-wrapping-add-u16
-cast-wrapping-add-u16 c = search needs
-
-wrapping-add-u16-requires : tie.Need-wrapping-add-u16-requires
-wrapping-add-u16-requires c κs = search needs
+-- e + 280 fits
+fits : (c : tie.Start) → SFits w16 (pos (shifted (c .args .e) (c .pre) .0))
+fits c = record { sfits = omega (arith, shifted (c .args .e) (c .pre) .1 .low) }
 
 cast-result : tie.Need-cast-result
 cast-result c = search needs
 
+add-result : tie.Need-add-result
+add-result c = rw (toZ-ofZ (c .fits .e), shifted (c .args .e) (c .pre) .1 .is) (fits c)
+
+cast-result-2 : tie.Need-cast-result-2
+cast-result-2 c =
+    rw (toZ-ofZ (c .fits .e), shifted (c .args .e) (c .pre) .1 .is, toZ-ofZ (fits c)) (tt, record { fits = omega (arith, shifted (c .args .e) (c .pre) .1 .low) })
+
 returns : tie.Need-returns
-returns c = rw (c .wrapping-add-u16 .ensures, c .before .bits16 .ensures, toZ-ofZ (c .before .before .fits .e))
+returns c =
+    rw (toZ-ofZ (c .fits .e), shifted (c .args .e) (c .pre) .1 .is, toZ-ofZ (fits c)) (omega (arith, shifted (c .args .e) (c .pre) .1 .low))
 
 pub shift-spec : {M : Type 1} → statement M
-shift-spec =
-    tie.close
-    (tie.spec bits16-requires cast-wrapping-add-u16 wrapping-add-u16-requires cast-result returns)
+shift-spec = tie.close (tie.spec cast-result add-result cast-result-2 returns)

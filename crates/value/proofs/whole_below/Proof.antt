@@ -1,44 +1,64 @@
 -- `value::whole_below` meets its contract. Assumes nothing.
 use Rattle.value.proofs.WholeLaws.{far-up}
-use Rattle.numbers.proofs.SignLaws.{below-or}
 use Rattle.value.specs.Value.{denominatorPower}
-use Prim.Native.Nat.{ℕ, _-_, _*_, _^_, _≤_}
-use mathlib.Core.Logic.{_⊎_, inl, inr, ⊎-elim}
-use mathlib.Core.Path.{_≡_, ap, _∙_}
+use Rattle.numbers.proofs.BoolLaws.{and-true}
+use Rattle.numbers.proofs.SignLaws.{below-or}
+use lib.Dec.{leb, ltb}
+use borrow.Author.Tests.{le-leb, leb-true, ltb-true, ltb-false}
+use Prim.Native.Nat.{_+_, _-_, _≤_, _<_}
+use mathlib.Core.Logic.{inl, inr, ⊎-elim}
+use mathlib.Core.Path.{_≡_, sym, _∙_}
+use mathlib.Core.Bool.{false, _&&_}
 use native.Mathlib.Omega.{arith}
 use borrow.Author.Needs.{needs}
 use Rattle.value.proofs.whole_below.Statement.{statement}
 use Rattle.value.proofs.whole_below.Tie as tie
 
--- a difference below 32 is no wrapped one
-small : (c : tie.Else1) → (denominatorPower ≤ c .before .before .args .k) × (c .before .wrapping-sub-u32 .result ≡ c .before .before .args .k - denominatorPower)
-small c = (omega (arith, c .before .wrapping-sub-u32 .ensures, c .if1 .left), omega (arith, c .before .wrapping-sub-u32 .ensures, c .if1 .left))
+-- what the test says where it passes, and where it fails
+near : (c : tie.Then1) → (denominatorPower ≤ c .before .before .args .k) × (c .before .before .args .k < denominatorPower + 32)
+near c =
+    let k = c .before .before .args .k in
+    let t = and-true (leb denominatorPower k) (ltb k (denominatorPower + 32)) (sym (c .before .shifts-up .ensures) ∙ c .if1 .taken) in
+    (leb-true denominatorPower k (t .0), ltb-true k (denominatorPower + 32) (t .1))
 
-wrapping-sub-u32-requires : tie.Need-wrapping-sub-u32-requires
-wrapping-sub-u32-requires c κs = search needs
+far : (c : tie.Else1) → denominatorPower ≤ c .before .before .args .k → 32 ≤ c .before .before .args .k - denominatorPower
+far c h =
+    let k = c .before .before .args .k in
+    let t : (leb denominatorPower k && ltb k (denominatorPower + 32)) ≡ false = sym (c .before .shifts-up .ensures) ∙ c .if1 .left in
+    let l = ltb-false k (denominatorPower + 32) (rw (le-leb denominatorPower k h) at t) in
+    omega arith
 
-returns : tie.Need-returns
-returns c =
-    let a = c .before .before .args in
-    let far : denominatorPower ≤ a .k → 32 ≤ a .k - denominatorPower = λ h. omega (arith, c .before .wrapping-sub-u32 .ensures, c .if1 .taken, h) in
-    ⊎-elim inl (λ (h : denominatorPower ≤ a .k). inr (h, far-up (a .o) (a .k - denominatorPower) _ (c .before .before .pre .0) (far h) (c .before .before .pre .1))) (below-or (a .k) denominatorPower)
+shifts-up-requires : tie.Need-shifts-up-requires
+shifts-up-requires c κs = search needs
+
+sub-shifted-wide : tie.Need-sub-shifted-wide
+sub-shifted-wide c = near c .0
 
 shifted-wide-requires : tie.Need-shifted-wide-requires
-shifted-wide-requires c κs = search needs
+shifted-wide-requires c κs = omega (arith, near c .1)
+
+returns : tie.Need-returns
+returns c = inr (near (c .before .before) .0, rw (c .before .shifted-wide .ensures) at (c .if2 .taken))
+
+cast-t6 : tie.Need-cast-t6
+cast-t6 c = search needs
 
 returns-2 : tie.Need-returns-2
-returns-2 c =
-    inr (small (c .before .before) .0, rw (c .before .shifted-wide .ensures, small (c .before .before) .1) at (c .if2 .taken))
-
-cast-t7 : tie.Need-cast-t7
-cast-t7 c = search needs
+returns-2 c = (near (c .before .before) .0, c .before .shifted-wide .ensures, c .if2 .left)
 
 returns-3 : tie.Need-returns-3
 returns-3 c =
-    let o = c .before .before .before .before .args .o in
-    (small (c .before .before) .0, c .before .shifted-wide .ensures ∙ ap (λ (x : ℕ). o * 2 ^ x) (small (c .before .before) .1), c .if2 .left)
+    let s = c .before .before in
+    ⊎-elim inl (λ (h : denominatorPower ≤ s .args .k). inr (h, far-up (s .args .o) (s .args .k - denominatorPower) _ (s .pre .0) (far c h) (s .pre .1))) (below-or (s .args .k) denominatorPower)
 
 pub whole-below-spec : {M : Type 1} → statement M
 whole-below-spec =
     tie.close
-    (tie.spec wrapping-sub-u32-requires returns shifted-wide-requires returns-2 cast-t7 returns-3)
+    (tie.spec
+    shifts-up-requires
+    sub-shifted-wide
+    shifted-wide-requires
+    returns
+    cast-t6
+    returns-2
+    returns-3)

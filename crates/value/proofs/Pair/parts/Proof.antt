@@ -1,17 +1,17 @@
 -- `value::Pair::parts` meets its contract. Assumes nothing.
-use Rattle.value.proofs.Apart.{highest, shift-is, is-mantissa, zero-bits, bits-zero, zero-yes, zero-no, even-no, high-no, zero-value, apart}
+use Rattle.value.proofs.Apart.{is-mantissa, zero-bits, bits-zero, zero-yes, zero-no, even-no, high-no, zero-value, apart}
 use Rattle.value.specs.declared.Pair.{Pair}
 use Rattle.value.specs.Value.{denominatorPower}
+use Rattle.value.specs.Pair.{isExponent}
 use Rattle.numbers.specs.TwosComplement.{bitsOf}
 use mir.Facts.{toZ-ofZ}
 use mir.Val.{SFits}
 use mir.Syntax.{w16, w32}
 use lib.Signed.{mag}
-use lib.IntN.{natAbs}
-use borrow.Author.Tests.{lt-leb}
-use Prim.Native.Nat.{ℕ, _+_, _%_, _^_, _≤_, _<_}
-use mathlib.Core.Path.{_≡_, sym, ap, _∙_}
+use lib.IntN.{ℤ, pos, natAbs, _+ℤ_}
 use native.Mathlib.Omega.{arith}
+use Prim.Native.Nat.{ℕ, _%_, _^_, _≤_, _<_}
+use mathlib.Core.Path.{_≡_, sym, ap, _∙_}
 use borrow.Author.Needs.{needs}
 use Rattle.value.proofs.Pair.parts.Statement.{statement}
 use Rattle.value.proofs.Pair.parts.Tie as tie
@@ -40,12 +40,12 @@ known c =
       most = c .magnitude32 .ensures .1;
     }
 
-shifted : (c : tie.After-shift) → c .shift .result ≡ (bitsOf 16 (c .before .before .before .before .before .before .args .self .e) + denominatorPower) % 2 ^ 16
-shifted c =
-    c .shift .ensures ∙ ap (λ z. (bitsOf 16 z + denominatorPower) % 2 ^ 16) (toZ-ofZ (known (c .before .before .before) .se))
+odd : (c : tie.Else3) → c .before .before .magnitude32 .result % 2 ≡ 1
+odd c = omega (arith, c .if3 .left)
 
-odd : (c : tie.Else4) → c .before .before .before .before .before .magnitude32 .result % 2 ≡ 1
-odd c = omega (arith, c .before .if3 .left)
+-- what the test of the exponent says
+tested : (c : tie.After-is-exponent) → isExponent (c .before .before .before .before .before .before .before .args .self .e) ≡ c .is-exponent .result
+tested c = sym (c .is-exponent .ensures ∙ ap isExponent (toZ-ofZ (known (c .before .before .before .before) .se)))
 
 bits32-requires : tie.Need-bits32-requires
 bits32-requires c κs = search needs
@@ -71,27 +71,32 @@ returns-2 c =
     let m : natAbs (p .m) ≡ 0 = sym (k .abs) ∙ c .before .before .before .if1 .taken in
     zero-no p m (λ h. c .if2 .left (c .before .bits16 .ensures ∙ ap (bitsOf 16) (toZ-ofZ (k .se)) ∙ bits-zero (p .e) h))
 
-shift-requires : tie.Need-shift-requires
-shift-requires c κs = search needs
-
 returns-3 : tie.Need-returns-3
 returns-3 c =
-    let k = known (c .before .before .before .before) in
-    let p = c .before .before .before .before .before .before .before .args .self in
-    even-no p (λ h. c .before .before .before .if1 .left (k .abs ∙ h)) (sym (ap (λ (x : ℕ). x % 2) (k .abs)) ∙ c .if3 .taken)
+    let k = known (c .before .before) in
+    let p = c .before .before .before .before .before .args .self in
+    even-no p (λ h. c .before .if1 .left (k .abs ∙ h)) (sym (ap (λ (x : ℕ). x % 2) (k .abs)) ∙ c .if3 .taken)
+
+is-exponent-requires : tie.Need-is-exponent-requires
+is-exponent-requires c κs = search needs
+
+shift-requires : tie.Need-shift-requires
+shift-requires c κs = sym (c .before .before .is-exponent .ensures) ∙ c .before .if4 .taken
 
 returns-4 : tie.Need-returns-4
 returns-4 c =
-    let k = known (c .before .before .before .before .before) in
-    let p = c .before .before .before .before .before .before .before .before .args .self in
-    high-no p (λ h. c .before .before .before .before .if1 .left (k .abs ∙ h))
-    (sym (shift-is (p .e) (k .fe)) ∙ rw (← (shifted (c .before .before))) (lt-leb _ highest (c .if4 .taken)))
+    let k = known (c .before .before .before .before .before .before .before) in
+    let p = c .before .before .before .before .before .before .before .before .before .before .args .self in
+    let s = c .shift .ensures in
+    rw (k .abs)
+    (apart p _ _ (k .fm) (k .bits) (tested (c .before .before .before) ∙ c .before .before .if4 .taken) (s .0 ∙ ap (λ (z : ℤ). natAbs (z +ℤ pos denominatorPower)) (toZ-ofZ (k .se))) (s .1)
+    (rw (k .abs) at (odd (c .before .before .before .before .before))) (rw (k .abs) at (k .most)))
 
 returns-5 : tie.Need-returns-5
 returns-5 c =
     let k = known (c .before .before .before .before .before) in
     let p = c .before .before .before .before .before .before .before .before .args .self in
-    rw (k .abs) (apart p _ _ (k .fe) (k .fm) (k .bits) (shifted (c .before .before)) (rw (k .abs) at (odd c)) (rw (k .abs) at (k .most)) (c .if4 .left))
+    high-no p (λ h. c .before .before .before .before .if1 .left (k .abs ∙ h)) (tested (c .before) ∙ c .if4 .left)
 
 pub parts-spec : {M : Type 1} → statement M
 parts-spec =
@@ -102,7 +107,8 @@ parts-spec =
     bits16-requires
     returns
     returns-2
-    shift-requires
     returns-3
+    is-exponent-requires
+    shift-requires
     returns-4
     returns-5)

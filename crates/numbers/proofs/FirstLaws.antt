@@ -1,12 +1,14 @@
--- What `first` finds. Assumes nothing.
+-- What `first` finds: the first number that passes a test. Assumes nothing.
 use mathlib.Core.Path.{_≡_, refl, sym, ap, _∙_, subst}
-use mathlib.Core.Logic.{_⊎_, inl, inr, ⊎-elim}
+use mathlib.Core.Logic.{⊎-elim}
 use mathlib.Core.Bool.{Bool, true, false}
-use Rattle.numbers.specs.Walk.{pick}
 use Prim.Native.Nat.{ℕ, zero, suc, _+_, _≤_, _<_}
-use native.Mathlib.Nat.{add-zero, add-suc, suc-add, eq-or-lt-of-le}
+use native.Mathlib.Nat.{add-zero, eq-or-lt-of-le}
 use native.Mathlib.Omega.{arith}
-use Rattle.value.specs.Writing.{first}
+use lib.Dec.{T}
+use Rattle.numbers.specs.Walk.{pick}
+use Rattle.numbers.specs.First.{first}
+use Rattle.numbers.proofs.SignLaws.{below-or}
 
 -- the first number at which the test holds
 pub first-at : (t : ℕ → Bool) (n i c : ℕ) → i ≤ c → c < i + n → t c ≡ true → ((x : ℕ) → i ≤ x → x < c → t x ≡ false) → first t n i ≡ c
@@ -16,11 +18,11 @@ first-at t (suc n) i c l h e f =
     ⊎-elim (λ (q : i ≡ c). rw (ap t q ∙ e) q)
     (λ (q : i < c). rw (f i (omega arith) q) (first-at t n (suc i) c q (omega arith) e (λ x p. f x (omega arith)))) (eq-or-lt-of-le l)
 
--- there is none
-pub first-none : (t : ℕ → Bool) (n i : ℕ) → ((x : ℕ) → i ≤ x → x < i + n → t x ≡ false) → first t n i ≡ i + n
+-- no number passes
+pub none-passes : (t : ℕ → Bool) (n i : ℕ) → ((x : ℕ) → i ≤ x → x < i + n → t x ≡ false) → first t n i ≡ i + n
 unfolding first
-first-none t zero i f = sym (add-zero i)
-first-none t (suc n) i f = rw (f i (omega arith) (omega arith)) (first-none t n (suc i) (λ x p q. f x (omega arith) (omega arith)) ∙ omega arith)
+none-passes t zero i f = sym (add-zero i)
+none-passes t (suc n) i f = rw (f i (omega arith) (omega arith)) (none-passes t n (suc i) (λ x p q. f x (omega arith) (omega arith)) ∙ omega arith)
 
 -- what is found passes, and nothing before it does
 pub record Found (t : ℕ → Bool) (n i r : ℕ) : Type 0 where
@@ -45,3 +47,8 @@ found t (suc n) i = go (t i) refl (found t n (suc i))
         no : (x : ℕ) → i ≤ x → x < i → ⊥
         no x p q = omega arith
     go false e r = record { from = omega (arith, r .from); passes = λ h. r .passes (omega arith); before = λ x p q. ⊎-elim (λ (s : i ≡ x). sym (ap t s) ∙ e) (λ (s : i < x). r .before x s q) (eq-or-lt-of-le p) }
+
+-- a number that passes is not passed over
+pub first-le : (t : ℕ → Bool) (n i c : ℕ) → i ≤ c → t c ≡ true → first t n i ≤ c
+first-le t n i c l e =
+    ⊎-elim (λ (h : c < first t n i). absurd (subst T (sym e ∙ found t n i .before c l h) tt)) (λ (h : first t n i ≤ c). h) (below-or c (first t n i))

@@ -1,23 +1,20 @@
--- Values that are a number of w bits times p: the one fact behind codes 2, 3 and 4. Assumes nothing.
-use mathlib.Core.Path.{_≡_, refl, sym, ap, _∙_, subst}
-use mathlib.Core.Bool.{Bool, true, false, _&&_}
-use Prim.Native.Nat.{ℕ, zero, suc, _+_, _-_, _*_, _/_, _%_, _^_, _≤_, _<_}
+-- Quotients: values that are a whole number of p's, and those that are a number of w bits times p, the one fact behind codes 2, 3 and 4. Assumes nothing.
+use mathlib.Core.Path.{_≡_, sym, ap, _∙_}
+use mathlib.Core.Bool.{true, _&&_}
+use Prim.Native.Nat.{ℕ, suc, _+_, _-_, _*_, _/_, _%_, _^_, _<_}
 use native.Mathlib.Nat.{mul-div-cancel, mul-mod-left, div-add-mod', add-zero}
 use native.Mathlib.Omega.{arith}
-use borrow.Author.Tests.{lt-ltb, le-leb, eq-eqb, eqb-true, ltb-true, leb-true}
-use lib.Dec.{T, leb}
+use borrow.Author.Tests.{lt-ltb, le-leb, eqb-true, ltb-true, leb-true}
+use lib.Dec.{leb}
 use lib.Pow.{suc-ones}
-use lib.IntN.{ℤ, pos, negsuc, negℤ, natAbs, _*ℤ_}
+use lib.IntN.{ℤ, pos, negsuc, natAbs, _*ℤ_}
 use lib.Signed.{mag, leZ, ltZ}
 use Rattle.numbers.specs.TwosComplement.{signedOf, bitsOf}
-use Rattle.numbers.proofs.SignLaws.{signed-bits, mag-signed}
+use Rattle.numbers.proofs.BoolLaws.{and-true}
+use Rattle.numbers.proofs.SignLaws.{signed-bits, bits-signed, bits-lt, mag-signed}
 use Rattle.value.specs.Value.{signMagnitude}
 use Rattle.value.specs.Writing.{isNegative, isMultiple, numberOf, inBits, holds}
 use Rattle.value.proofs.Magnitudes.{abs-signed, signed-back, signed-mul, signed-quot}
-
-pub and-true : (b c : Bool) → (b && c) ≡ true → (b ≡ true) × (c ≡ true)
-and-true true c e = (refl, e)
-and-true false c e = absurd (subst T (sym e) tt)
 
 -- a multiple of p is its quotient times p
 pub quot-mul : (p : ℕ) (v : ℤ) → isMultiple p v ≡ true → numberOf p v *ℤ pos p ≡ v
@@ -66,3 +63,13 @@ held-sound w p v h e =
 pub held-complete : (w p n : ℕ) → 0 < w → 0 < p → n < 2 ^ w → holds w p (signedOf w n *ℤ pos p) ≡ true
 held-complete w p n h l b =
     rw (mul-multiple p (signedOf w n), mul-quot p (signedOf w n) l) (mag-in w (signedOf w n) (mag-signed w n h b))
+
+-- the bits of a held value's number
+pub held-lt : (w p : ℕ) (v : ℤ) → 0 < w → holds w p v ≡ true → bitsOf w (numberOf p v) < 2 ^ w
+held-lt w p v h e = bits-lt w (numberOf p v) h (in-mag w (numberOf p v) (and-true (isMultiple p v) _ e .1))
+
+-- no two numbers of w bits are the same number of p's
+pub held-only : (w p x y : ℕ) → 0 < w → 0 < p → x < 2 ^ w → y < 2 ^ w → signedOf w x *ℤ pos p ≡ signedOf w y *ℤ pos p → x ≡ y
+held-only w p x y h l a b e =
+    let same : signedOf w x ≡ signedOf w y = sym (mul-quot p (signedOf w x) l) ∙ ap (numberOf p) e ∙ mul-quot p (signedOf w y) l in
+    sym (bits-signed w x h a) ∙ ap (bitsOf w) same ∙ bits-signed w y h b

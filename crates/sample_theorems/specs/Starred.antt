@@ -1,0 +1,50 @@
+-- The lines of document 01's "Samples at the edges".
+use Prim.Native.Nat.{ℕ, _^_, _≤_, _<_}
+use mathlib.Core.Path.{_≡_}
+use mathlib.Core.List.{[], _∷_}
+use lib.IntN.{ℤ, pos, negsuc, negℤ}
+use Rattle.numbers.specs.Outcome.{taken}
+use Rattle.value.specs.Value.{wholeValue}
+use Rattle.value.specs.Pair.{pairOf}
+use Rattle.value.specs.Writing.{writePair}
+use Rattle.value.specs.declared.Written.{Written}
+use Rattle.value.specs.declared.Written.the-variants.{Word, Refused}
+use Rattle.sample.specs.Reading.{readWord}
+use Rattle.sample.specs.Calls.{wordOutcome, pairOutcome}
+use Rattle.sample.specs.declared.Sample.{Sample}
+use Rattle.sample.specs.declared.Sample.the-variants.{Taken}
+
+-- A word of code 1, and one of code 4, by its four bytes, as it is read.
+abbrev pub ibm : ℕ → ℕ → ℕ → ℕ → Sample
+ibm a b c d = readWord 1 (a ∷ b ∷ c ∷ d ∷ [])
+
+abbrev pub gain : ℕ → ℕ → ℕ → ℕ → Sample
+gain a b c d = readWord 4 (a ∷ b ∷ c ∷ d ∷ [])
+
+-- A whole number, as it is written under a code.
+abbrev pub wholeTo : ℕ → ℤ → Written
+wholeTo code n = writePair code (pairOf (wholeValue n))
+
+-- The starred lines, in document 01's order: "Starred lines form the set that is shown of the rules themselves, as a group."
+pub record Starred : Type 0 where
+  -- 41100000 and 42010000: e 0, m 1
+  pub one : (ibm 0x41 0x10 0 0 ≡ Taken (pos 0) (pos 1)) × (ibm 0x42 0x01 0 0 ≡ Taken (pos 0) (pos 1))
+  -- C276A000: e -3, m -949; bytes FF FD FF FF FC 4B
+  pub minus : (ibm 0xC2 0x76 0xA0 0 ≡ Taken (negsuc 2) (negsuc 948))
+      × (wordOutcome 1 (0xC2 ∷ 0x76 ∷ 0xA0 ∷ 0 ∷ []) ≡ record { said = taken []; bytes = 0xFF ∷ 0xFD ∷ 0xFF ∷ 0xFF ∷ 0xFC ∷ 0x4B ∷ [] })
+  -- 80000000 and 7F000000: zero
+  pub nothing : (ibm 0x80 0 0 0 ≡ Taken (pos 0) (pos 0)) × (ibm 0x7F 0 0 0 ≡ Taken (pos 0) (pos 0))
+  -- 00000001: e -280, m 1; 7F800000: e 251, m 1
+  pub ends : (ibm 0 0 0 1 ≡ Taken (negsuc 279) (pos 1)) × (ibm 0x7F 0x80 0 0 ≡ Taken (pos 251) (pos 1))
+  -- 7FFFFFFF: e 228, m 16,777,215
+  pub largest : ibm 0x7F 0xFF 0xFF 0xFF ≡ Taken (pos 228) (pos 16_777_215)
+  -- gain 00010002: e 0, m 1; written 00000001
+  pub halved : (gain 0 1 0 2 ≡ Taken (pos 0) (pos 1))
+      × (pairOutcome 4 (0 ∷ 0 ∷ 0 ∷ 0 ∷ 0 ∷ 1 ∷ []) ≡ record { said = taken []; bytes = 0 ∷ 0 ∷ 0 ∷ 1 ∷ [] })
+  -- 16,777,215 to code 1: 46FFFFFF; 16,777,217: number 14
+  pub bits-24 : (wholeTo 1 (pos 16_777_215) ≡ Word 0x46FF_FFFF) × (wholeTo 1 (pos 16_777_217) ≡ Refused 14)
+  -- 33,554,416 to code 1: 471FFFFF; 33,554,430: number 14, though its m has 24 bits
+  pub digits-6 : (wholeTo 1 (pos 33_554_416) ≡ Word 0x471F_FFFF) × (wholeTo 1 (pos 33_554_430) ≡ Refused 14)
+      × (pairOf (wholeValue (pos 33_554_430)) .m ≡ pos 16_777_215) × (2 ^ 23 ≤ 16_777_215) × (16_777_215 < 2 ^ 24)
+  -- -32,768 to code 4: 00008000; 32,768: number 14
+  pub bits-16 : (wholeTo 4 (negℤ (pos 32_768)) ≡ Word 0x0000_8000) × (wholeTo 4 (pos 32_768) ≡ Refused 14)

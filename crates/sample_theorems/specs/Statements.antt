@@ -1,0 +1,24 @@
+-- What the theorems say of a word that is written.
+use Prim.Native.Nat.{ℕ, _^_, _<_}
+use mathlib.Core.Path.{_≡_}
+use mathlib.Core.Bool.{true, false}
+use mathlib.Core.List.{List}
+use lib.IntN.{ℤ}
+use Rattle.numbers.specs.BigEndian.{bytesOf}
+use Rattle.value.specs.Value.{exactValue}
+use Rattle.value.specs.Writing.{isNormal, writePair}
+use Rattle.value.specs.declared.Pair.{Pair}
+use Rattle.value.specs.declared.Written.the-variants.{Word}
+use Rattle.sample.specs.Reading.{badGain}
+
+-- The number n of 32 bits is, in four bytes, a word that reading takes under the code, and has the value v.
+pub record Says (code : ℕ) (v : ℤ) (n : ℕ) : Type 0 where
+  pub fit : n < 2 ^ 32
+  pub good : badGain code (bytesOf 4 n) ≡ false
+  pub value : exactValue code (bytesOf 4 n) ≡ v
+
+-- The pair p of the word w is written under the same code as the word n: one of the same value, under code 1 the normal one.
+pub record Back (code : ℕ) (w : List ℕ) (p : Pair) (n : ℕ) : Type 0 where
+  pub word : writePair code p ≡ Word n
+  pub value : exactValue code (bytesOf 4 n) ≡ exactValue code w
+  pub normal : code ≡ 1 → isNormal n ≡ true
