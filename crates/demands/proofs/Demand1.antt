@@ -3,14 +3,14 @@
 -- "Every call comes to a defined end on every input: no access outside the lent buffers and no number that loses bits; each refusal has the
 -- number and place that document 01 sets, and is given in just the cases set there; a refused call changes no byte of its output buffer."
 --
--- Rattle proves of every function that it ends, reads and writes nothing outside the buffers lent to it, divides by no zero, and that no sum,
--- difference, product or cast loses bits. Two operations wrap, and are meant to: `magnitude32`, in `value`, and `magnitude16`, in `sample`,
--- take the magnitude of a two's complement word by wrapping subtraction from zero, the form that document 01 names for it; their contracts say
--- that what comes out is the magnitude, so no bit of the number is lost there. No public call asks anything of its input, so all this holds on
--- every input.
+-- Rattle proves of every function that it ends, reads and writes nothing outside the buffers lent to it, divides by no zero, and that no
+-- sum, difference, product or cast loses bits. Two operations wrap, and are meant to: `magnitude32`, in `value`, and `magnitude16`, in
+-- `sample`, take the magnitude of a two's complement word by wrapping subtraction from zero, the form that document 01 names for it; their
+-- contracts say that what comes out is the magnitude, so no bit of the number is lost there. A shift up says in its contract that it gives
+-- the whole product. No public call asks anything of its input, so all this holds on every input.
 --
--- What is left of the demand is shown here for each call of document 01, over the outcome that its contract gives: what it says, and each byte
--- that it hands out or leaves in its output. The contracts:
+-- What is left of the demand is shown here for each call of document 01, over the outcome that its contract gives: what it says, and each
+-- byte that it hands out or leaves in its output. The contracts:
 --
 -- - `read_reel`: outcome answer (output after) ≡ readOutcome reel (output before)
 -- - `write_reel`: outcome answer (output after) ≡ writeOutcome record code (output before)
@@ -19,10 +19,10 @@
 -- - `write_pair`: pairWritten answer ≡ writeOutcome code pair, for a single pair
 -- - the program prints what reading into 65,536 bytes says: `programLine` of the crate `line`
 --
--- The rows of each call are in `specs/Tables`, those of 1 to 9 in `ReelTable` of `reel_theorems`. Over each theorem stands the clause that it
--- answers, in the user's words; where it is a sentence of document 01, that is said. Beside each, here and in the files on the other demands,
--- stands what it rules out of document 01's list: the six wrong programs of "Agreement between the parties", and the six "Mistakes to rule
--- out".
+-- The rows of each call are in `specs/Tables`, those of 1 to 9 in `ReelTable` of `reel_theorems`. Over each theorem stands the clause that
+-- it answers, in the user's words; where it is a sentence of document 01, that is said. Beside each, here and in the files on the other
+-- demands, stands what it rules out of document 01's list: the six wrong programs of "Agreement between the parties", and the six "Mistakes
+-- to rule out".
 use mathlib.Core.Path.{_≡_, refl, sym, ap, _∙_, subst}
 use mathlib.Core.List.{List, [], _∷_}
 use mathlib.Core.Logic.{_⊎_}
@@ -102,8 +102,8 @@ module _ (s out : List ℕ) where
   abbrev readChecks : Check
   readChecks = readCauses s (length out)
 
-  -- THEOREM. "Every call comes to a defined end on every input: no access outside the lent buffers and no number that loses bits": reading is
-  -- taken with T, N and the record's length, or refused by a number with a place. The rest of the clause Rattle proves of each function.
+  -- THEOREM. "Every call comes to a defined end on every input: no access outside the lent buffers and no number that loses bits": reading
+  -- is taken with T, N and the record's length, or refused by a number with a place. The rest of the clause Rattle proves of each function.
   -- Alone it rules out none of the list.
   pub read-ends : (readOutcome s out .said ≡ taken (readNumbers s)) ⊎ ((number : ℕ) × (place : ℕ) × (readOutcome s out .said ≡ refused number place))
   read-ends = says-either readSays (readNumbers s) refl (λ n p. refl) readChecks
@@ -126,8 +126,8 @@ module _ (s out : List ℕ) where
   read-keeps number place e =
       ap (λ (c : Check). readEnd s out c .bytes) (says-refused readSays (readNumbers s) refl (λ n p. refl) readChecks number place .0 e)
 
-  -- THEOREM. A taken call leaves the output's length, and each byte behind the length returned, as they were; document 01: "The rest of a longer
-  -- output buffer keeps its content."
+  -- THEOREM. A taken call leaves the output's length, and each byte behind the length returned, as they were; document 01: "The rest of a
+  -- longer output buffer keeps its content."
   -- Alone it rules out none of the list.
   pub read-rest : (t n l : ℕ) → Bytes s → readOutcome s out .said ≡ taken (t ∷ n ∷ l ∷ [])
       → (length (readOutcome s out .bytes) ≡ length out) × (drop l (readOutcome s out .bytes) ≡ drop l out)
@@ -139,8 +139,8 @@ module _ (s out : List ℕ) where
       subst (λ (x : ℕ). (length (readOutcome s out .bytes) ≡ length out) × (drop x (readOutcome s out .bytes) ≡ drop x out)) size
       (keeps-rest (readEnd s out) (reelRecord s) out (recordLengthOf s) readChecks refl q (record-size s b (f .0)) (at-most (length out) (recordLengthOf s) 10 (recordLengthOf s) (f .1)))
 
--- THEOREM. Document 01's example, of which it says: "it prints whole: `taken 1 2 3471`". It is taken with T 1, N 2 and a record of 3,471 bytes,
--- for which an output of that length is long enough.
+-- THEOREM. Document 01's example, of which it says: "it prints whole: `taken 1 2 3471`". It is taken with T 1, N 2 and a record of 3,471
+-- bytes, for which an output of that length is long enough.
 -- Rules out a reader that declines every reel.
 pub example-taken : readOutcome example (replicate 3471 0) .said ≡ taken (1 ∷ 2 ∷ 3471 ∷ [])
 unfolding causesOf behindCauses traceCauses bytesAt
@@ -157,8 +157,8 @@ module _ (r : List ℕ) (code : ℕ) (out : List ℕ) where
   abbrev writeChecks : Check
   writeChecks = writeCauses r code (length out)
 
-  -- THEOREM. "Every call comes to a defined end on every input: no access outside the lent buffers and no number that loses bits": writing is
-  -- taken with T, N and the reel's length, or refused by a number with a place. The rest of the clause Rattle proves of each function.
+  -- THEOREM. "Every call comes to a defined end on every input: no access outside the lent buffers and no number that loses bits": writing
+  -- is taken with T, N and the reel's length, or refused by a number with a place. The rest of the clause Rattle proves of each function.
   -- Alone it rules out none of the list.
   pub write-ends : (writeOutcome r code out .said ≡ taken (writtenNumbers r code))
       ⊎ ((number : ℕ) × (place : ℕ) × (writeOutcome r code out .said ≡ refused number place))
@@ -249,8 +249,8 @@ module _ (s : List ℕ) (k : ℕ) (b : ByteNo) where
   abbrev lookUpSays : Check → Said
   lookUpSays c = numberSaid c (foundNumber s k (fieldAt k b)) .said
 
-  -- THEOREM. "Every call comes to a defined end on every input: no access outside the lent buffers and no number that loses bits": looking up
-  -- is taken, or refused by a number with a place. The rest of the clause Rattle proves of each function.
+  -- THEOREM. "Every call comes to a defined end on every input: no access outside the lent buffers and no number that loses bits": looking
+  -- up is taken, or refused by a number with a place. The rest of the clause Rattle proves of each function.
   -- Alone it rules out none of the list.
   pub look-up-ends : (lookUpOutcome s k b .said ≡ taken []) ⊎ ((number : ℕ) × (place : ℕ) × (lookUpOutcome s k b .said ≡ refused number place))
   unfolding lookUpOutcome
@@ -269,8 +269,8 @@ module _ (s : List ℕ) (k : ℕ) (b : ByteNo) where
   unfolding lookUpOutcome
   look-up-taken = taken-by lookUpSays [] refl (λ n p. refl) (LookUpRow s k b) (lookUpCauses s k b) look-up-exact
 
-  -- THEOREM. Document 01: "It returns the signed number, with 115 and 117 filled in and 3225 as on the reel". Where it is taken, some assigned
-  -- field of that header begins at the byte number, and the number is that field's.
+  -- THEOREM. Document 01: "It returns the signed number, with 115 and 117 filled in and 3225 as on the reel". Where it is taken, some
+  -- assigned field of that header begins at the byte number, and the number is that field's.
   -- Rules out a look-up that gives one fixed number, one that takes the first trace's number for the rest, and filling field 115 only for
   -- the first trace.
   pub look-up-number : lookUpOutcome s k b .said ≡ taken [] → LookedUp s k b (lookUpOutcome s k b .number)
@@ -304,6 +304,21 @@ module _ (s : List ℕ) (k : ℕ) (b : ByteNo) where
 abbrev says : Check → Said
 says Fine = taken []
 says (Refused number place) = refused number (placeNo place)
+
+-- Such a call, of which `said` is what it says and c what its checks answer, and a table R of rows that are exact against them.
+module _ (said : Said) (c : Check) (is : said ≡ says c) (R : ℕ → ℕ → Type 0) (exact : (number place : ℕ) → Iff (c ≡ Refused number (atPlace place)) (R number place)) where
+  -- It is taken, or refused by a number with a place;
+  single-ends : (said ≡ taken []) ⊎ ((number : ℕ) × (place : ℕ) × (said ≡ refused number place))
+  single-ends =
+      subst (λ (x : Said). (x ≡ taken []) ⊎ ((number : ℕ) × (place : ℕ) × (x ≡ refused number place))) (sym is) (says-either says [] refl (λ n p. refl) c)
+
+  -- refused exactly when a row applies,
+  single-refused : (number place : ℕ) → Iff (said ≡ refused number place) (R number place)
+  single-refused number place = iff-trans (λ e. sym is ∙ e, λ e. is ∙ e) (refused-by says [] refl (λ n p. refl) R c exact number place)
+
+  -- and taken exactly when none does.
+  single-taken : Iff (said ≡ taken []) ((number place : ℕ) → ¬ (R number place))
+  single-taken = iff-trans (λ e. sym is ∙ e, λ e. is ∙ e) (taken-by says [] refl (λ n p. refl) R c exact)
 
 module _ (code : ℕ) (w : List ℕ) where
   -- The checks of a single word.
@@ -350,19 +365,19 @@ module _ (code : ℕ) (w : List ℕ) where
   -- single word is taken, or refused by a number with a place. The rest of the clause Rattle proves of each function.
   -- Alone it rules out none of the list.
   pub word-ends : (calls.readOutcome code w .said ≡ taken []) ⊎ ((number : ℕ) × (place : ℕ) × (calls.readOutcome code w .said ≡ refused number place))
-  word-ends = subst (λ (x : Said). (x ≡ taken []) ⊎ ((number : ℕ) × (place : ℕ) × (x ≡ refused number place))) (sym word-says) (says-either says [] refl (λ n p. refl) wordChecks)
+  word-ends = single-ends (calls.readOutcome code w .said) wordChecks word-says (WordRow code w) word-exact
 
-  -- THEOREM. "each refusal has the number and place that document 01 sets, and is given in just the cases set there"; document 01: "A single word
-  -- is refused by 2, then 9; a single pair by 11, 13, 14; the place is 0 and the bytes handed out are all 00." Exactly when that row applies.
+  -- THEOREM. "each refusal has the number and place that document 01 sets, and is given in just the cases set there"; document 01: "A
+  -- single word is refused by 2, then 9; a single pair by 11, 13, 14; the place is 0 and the bytes handed out are all 00." Exactly when
+  -- that row applies.
   -- Rules out a call that declines every word.
   pub word-refused : (number place : ℕ) → Iff (calls.readOutcome code w .said ≡ refused number place) (WordRow code w number place)
-  word-refused number place =
-      iff-trans (λ e. sym word-says ∙ e, λ e. word-says ∙ e) (refused-by says [] refl (λ n p. refl) (WordRow code w) wordChecks word-exact number place)
+  word-refused = single-refused (calls.readOutcome code w .said) wordChecks word-says (WordRow code w) word-exact
 
   -- THEOREM. "in just the cases set there": it is taken exactly when no row applies.
   -- Rules out a call that declines every word.
   pub word-taken : Iff (calls.readOutcome code w .said ≡ taken []) ((number place : ℕ) → ¬ (WordRow code w number place))
-  word-taken = iff-trans (λ e. sym word-says ∙ e, λ e. word-says ∙ e) (taken-by says [] refl (λ n p. refl) (WordRow code w) wordChecks word-exact)
+  word-taken = single-taken (calls.readOutcome code w .said) wordChecks word-says (WordRow code w) word-exact
 
   -- THEOREM. "the place is 0 and the bytes handed out are all 00": the six of a word that is refused.
   -- Alone it rules out none of the list.
@@ -424,19 +439,18 @@ module _ (code : ℕ) (b : List ℕ) where
   -- single pair is taken, or refused by a number with a place. The rest of the clause Rattle proves of each function.
   -- Alone it rules out none of the list.
   pub pair-ends : (calls.writeOutcome code b .said ≡ taken []) ⊎ ((number : ℕ) × (place : ℕ) × (calls.writeOutcome code b .said ≡ refused number place))
-  pair-ends = subst (λ (x : Said). (x ≡ taken []) ⊎ ((number : ℕ) × (place : ℕ) × (x ≡ refused number place))) (sym pair-says) (says-either says [] refl (λ n p. refl) pairChecks)
+  pair-ends = single-ends (calls.writeOutcome code b .said) pairChecks pair-says (PairRow code b) pair-exact
 
-  -- THEOREM. "each refusal has the number and place that document 01 sets, and is given in just the cases set there"; document 01: "a single pair
-  -- by 11, 13, 14; the place is 0". Exactly when that row applies.
+  -- THEOREM. "each refusal has the number and place that document 01 sets, and is given in just the cases set there"; document 01: "a
+  -- single pair by 11, 13, 14; the place is 0". Exactly when that row applies.
   -- Rules out a call that declines every pair; and by 14, normalising by single bits, pushing C below 0 and shifting up for a negative e.
   pub pair-refused : (number place : ℕ) → Iff (calls.writeOutcome code b .said ≡ refused number place) (PairRow code b number place)
-  pair-refused number place =
-      iff-trans (λ e. sym pair-says ∙ e, λ e. pair-says ∙ e) (refused-by says [] refl (λ n p. refl) (PairRow code b) pairChecks pair-exact number place)
+  pair-refused = single-refused (calls.writeOutcome code b .said) pairChecks pair-says (PairRow code b) pair-exact
 
   -- THEOREM. "in just the cases set there": it is taken exactly when no row applies.
   -- Rules out a call that declines every pair, and what `pair-refused` rules out by 14.
   pub pair-taken : Iff (calls.writeOutcome code b .said ≡ taken []) ((number place : ℕ) → ¬ (PairRow code b number place))
-  pair-taken = iff-trans (λ e. sym pair-says ∙ e, λ e. pair-says ∙ e) (taken-by says [] refl (λ n p. refl) (PairRow code b) pairChecks pair-exact)
+  pair-taken = single-taken (calls.writeOutcome code b .said) pairChecks pair-says (PairRow code b) pair-exact
 
   -- THEOREM. "the place is 0 and the bytes handed out are all 00": the four of a pair that is refused.
   -- Alone it rules out none of the list.

@@ -18,8 +18,9 @@
 -- - `round-trip`: the second sentence at once. A valid record, a code of 1 to 4 that holds every sample exactly and an output long enough:
 --   the writing is taken, and reading what it wrote gives the record again.
 --
--- "A record is valid when neither 12 nor 13 applies to it" (document 01): `formCauses` finds nothing, and `valid-is` in `Determined` spells it out. Each byte of a reel and of a record is below
--- 256, which `written` doesn't ask for; nothing else is assumed. Every reel, record, code and output is meant.
+-- "A record is valid when neither 12 nor 13 applies to it" (document 01): `formCauses` finds nothing, and `valid-is` in `Determined` spells
+-- it out. Each byte of a reel and of a record is below 256, which `written` doesn't ask for; nothing else is assumed. Every reel, record,
+-- code and output is meant.
 use mathlib.Core.Path.{_≡_, sym, ap, ap₂, _∙_}
 use mathlib.Core.List.{List, [], _∷_, _++_}
 use Prim.Native.Nat.{ℕ, _+_, _*_, _≤_}
@@ -89,8 +90,8 @@ writing r code out b v = (
   λ h. ap (λ (o : Outcome). o .said) (write-taken r code out (needs r code out b v (h .code-is) (h .held) (h .room))),
 )
 
--- THEOREM. "A valid record is written as a reel": what is written is the reel of what the record holds, under code 1 each sample by its normal word (`writing-normal`), under code 4
--- with the smallest gain (`writing-least`), unassigned bytes 0.
+-- THEOREM. "A valid record is written as a reel": what is written is the reel of what the record holds, under code 1 each sample by its
+-- normal word (`writing-normal`), under code 4 with the smallest gain (`writing-least`), unassigned bytes 0.
 -- Rules out a writer that writes nothing and says taken, one that converts the first trace and copies it for the rest, and one whose T or
 -- length is invented; normalising by single bits, pushing C below 0, and shifting up for a negative e.
 pub written : (r : List ℕ) (code : ℕ) (out : List ℕ) (t n l : ℕ) → writeOutcome r code out .said ≡ taken (t ∷ n ∷ l ∷ [])

@@ -1,16 +1,16 @@
 -- # Demand 3: records are equal exactly when the reels mean the same, and a reel written again means the same
 --
--- "Take any two reels, each in any of the formats, that are read without refusal, that is wherever none of the causes set for reading applies.
--- Their records, in the bytes laid out in document 01, are equal byte for byte exactly when the two reels mean the same. They mean the same
--- when they have the same card text, the same number in every assigned header field but the sample format code, the same count of traces, and
--- sample by sample the same exact value, a whole number over 16 to the power 70. Document 01 takes each of these from the reel's own bytes, and
--- names the few spellings taken as one (a zero byte for a blank, a zero in a trace's own sample count or interval for the reel's). Every reel
--- written from the record of a reel so read, in whichever of the formats holds it, is itself read without refusal, means the same and has the
--- same record, wherever the outputs are long enough."
+-- "Take any two reels, each in any of the formats, that are read without refusal, that is wherever none of the causes set for reading
+-- applies. Their records, in the bytes laid out in document 01, are equal byte for byte exactly when the two reels mean the same. They mean
+-- the same when they have the same card text, the same number in every assigned header field but the sample format code, the same count of
+-- traces, and sample by sample the same exact value, a whole number over 16 to the power 70. Document 01 takes each of these from the
+-- reel's own bytes, and names the few spellings taken as one (a zero byte for a blank, a zero in a trace's own sample count or interval for
+-- the reel's). Every reel written from the record of a reel so read, in whichever of the formats holds it, is itself read without refusal,
+-- means the same and has the same record, wherever the outputs are long enough."
 --
--- "A record or a written reel is the output's first bytes, as many as the length returned" (document 01). That a reel is read without refusal
--- exactly where none of the causes set for reading applies is `read-taken`, of demand 1. `MeanTheSame`, in `Meaning` of `reel`, looks at the
--- two reels' bytes only.
+-- "A record or a written reel is the output's first bytes, as many as the length returned" (document 01). That a reel is read without
+-- refusal exactly where none of the causes set for reading applies is `read-taken`, of demand 1. `MeanTheSame`, in `Meaning` of `reel`,
+-- looks at the two reels' bytes only.
 --
 -- - `records-equal`: where the readings of two reels are taken, each in any code and each into any output, the two records are equal
 --   exactly when the reels mean the same.
@@ -64,8 +64,8 @@ use Rattle.demands.specs.Results.{sampleValue, ReelAgain, OwnCode}
 
 -- ## Two reels
 
--- THEOREM. "Take any two reels, each in any of the formats, that are read without refusal, that is wherever none of the causes set for reading
--- applies. Their records, in the bytes laid out in document 01, are equal byte for byte exactly when the two reels mean the same."
+-- THEOREM. "Take any two reels, each in any of the formats, that are read without refusal, that is wherever none of the causes set for
+-- reading applies. Their records, in the bytes laid out in document 01, are equal byte for byte exactly when the two reels mean the same."
 -- Rules out a reader that gives one fixed record, and one that converts the first trace and copies it for the rest; two's complement for the
 -- IBM fraction, keeping minus zero, and filling field 115 only for the first trace. Also copying the words through, since two words of one
 -- value must give one pair.
@@ -89,9 +89,9 @@ all-values : (s : List ℕ) → map (λ (t : Trace). t .values) (meaningOf s .tr
 unfolding meaningOf traceMeaning traceValues
 all-values s = map-walk (λ (t : Trace). t .values) (traceMeaning s (codeOf s) (samplesOf s) (intervalOf s)) (strideOf s) (tracesOf s) firstTrace
 
--- THEOREM. "They mean the same when they have the same card text, the same number in every assigned header field but the sample format code,
--- the same count of traces, and sample by sample the same exact value, a whole number over 16 to the power 70." That is `MeanTheSame`, field by
--- field; so where two reels mean the same, sample j of trace k has the same exact value in both.
+-- THEOREM. "They mean the same when they have the same card text, the same number in every assigned header field but the sample format
+-- code, the same count of traces, and sample by sample the same exact value, a whole number over 16 to the power 70." That is
+-- `MeanTheSame`, field by field; so where two reels mean the same, sample j of trace k has the same exact value in both.
 -- Alone it rules out none of the list: it spells out what `records-equal` compares.
 pub by-sample : (s₁ s₂ : List ℕ) → MeanTheSame s₁ s₂ → (k j : ℕ) → k < tracesOf s₁ → j < samplesOf s₁ → sampleValue s₁ k j ≡ sampleValue s₂ k j
 unfolding traceValues
@@ -124,14 +124,14 @@ one-spelling {A} zero-is none own only is a b = (there (zero-is a) (zero-is b) r
     back : (a ≡ b) ⊎ (((a ≡ none) ⊎ (a ≡ own)) × ((b ≡ none) ⊎ (b ≡ own))) → pick (zero-is a) own a ≡ pick (zero-is b) own b
     back h = ⊎-elim (λ (e : a ≡ b). ap (λ (x : A). pick (zero-is x) own x) e) (λ r. taken-for a (r .0) ∙ sym (taken-for b (r .1))) h
 
--- THEOREM. "Document 01 takes each of these from the reel's own bytes, and names the few spellings taken as one (a zero byte for a blank": two
--- card bytes are taken as one exactly when they are the same or each is 00 or 40.
+-- THEOREM. "Document 01 takes each of these from the reel's own bytes, and names the few spellings taken as one (a zero byte for a blank":
+-- two card bytes are taken as one exactly when they are the same or each is 00 or 40.
 -- Alone it rules out none of the list: it spells out what `records-equal` compares.
 pub cards-alike : (b c : ℕ) → Iff (blank b ≡ blank c) ((b ≡ c) ⊎ (ZeroOr 0x40 b × ZeroOr 0x40 c))
 cards-alike b c = one-spelling (λ x. eqb x 0) 0 0x40 (λ x e. eqb-true x 0 e) refl b c
 
--- THEOREM. "a zero in a trace's own sample count or interval for the reel's)": two numbers of field 115, or of field 117, are taken as one exactly
--- when they are the same or each is 0 or the reel's own. No other field is filled in (`traceNumber`, in `Meaning` of `reel`).
+-- THEOREM. "a zero in a trace's own sample count or interval for the reel's)": two numbers of field 115, or of field 117, are taken as one
+-- exactly when they are the same or each is 0 or the reel's own. No other field is filled in (`traceNumber`, in `Meaning` of `reel`).
 -- Alone it rules out none of the list: it spells out what `records-equal` compares.
 pub own-alike : (own : ℕ) (y z : ℤ) → Iff (filled own y ≡ filled own z) ((y ≡ z) ⊎ (((y ≡ pos 0) ⊎ (y ≡ pos own)) × ((z ≡ pos 0) ⊎ (z ≡ pos own))))
 own-alike own y z = one-spelling (λ x. eqb (natAbs x) 0) (pos 0) (pos own) only refl y z
@@ -142,8 +142,8 @@ own-alike own y z = one-spelling (λ x. eqb (natAbs x) 0) (pos 0) (pos own) only
 
 -- ## A reel written from a record
 
--- THEOREM. "Every reel written from the record of a reel so read, in whichever of the formats holds it, is itself read without refusal, means
--- the same and has the same record, wherever the outputs are long enough."
+-- THEOREM. "Every reel written from the record of a reel so read, in whichever of the formats holds it, is itself read without refusal,
+-- means the same and has the same record, wherever the outputs are long enough."
 -- Rules out a writer that writes nothing and says taken, a writer or a reader that converts the first trace and copies it for the rest, and
 -- either with a length that is invented, or a T that the other doesn't have. That T is the reel's own is `reading`.
 pub reel-again : (s out : List ℕ) (t n l : ℕ) (code : ℕ) (out₂ : List ℕ) (t₂ n₂ l₂ : ℕ) → Bytes s → readOutcome s out .said ≡ taken (t ∷ n ∷ l ∷ [])
@@ -176,8 +176,8 @@ reel-again s out t n l code out₂ t₂ n₂ l₂ b e e₂ =
 
 -- ## Which reels are written
 
--- THEOREM. "in whichever of the formats holds it": the record of a reel so read is written under every code of 1 to 4 that has a word for each
--- of the reel's sample values, "wherever the outputs are long enough".
+-- THEOREM. "in whichever of the formats holds it": the record of a reel so read is written under every code of 1 to 4 that has a word for
+-- each of the reel's sample values, "wherever the outputs are long enough".
 -- Rules out a writer that declines every record, and one whose T or length is invented.
 pub written-in-each-code : (s out : List ℕ) (t n l : ℕ) (code : ℕ) (out₂ : List ℕ) → Bytes s → readOutcome s out .said ≡ taken (t ∷ n ∷ l ∷ [])
     → isCode code ≡ true → Worded code (meaningOf s .traces)

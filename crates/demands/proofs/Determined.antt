@@ -1,8 +1,8 @@
 -- # A record and what it holds determine each other
 --
--- Document 01: "A record is valid when neither 12 nor 13 applies to it." "A record or a written reel is the output's first bytes, as many as the
--- length returned." Demand 2: "A reel becomes the record that SEG-Y revision 0 and the IBM floating point word define, as document 01 condenses
--- them."
+-- Document 01: "A record is valid when neither 12 nor 13 applies to it." "A record or a written reel is the output's first bytes, as many
+-- as the length returned." Demand 2: "A reel becomes the record that SEG-Y revision 0 and the IBM floating point word define, as document
+-- 01 condenses them."
 --
 -- - `read-valid`: where reading a reel is taken, the record in the output is valid, it holds what the reel means, and its T and N are those
 --   returned.
@@ -54,11 +54,11 @@ meant s b f =
       samples = record-samples n i m p;
     }
 
--- THEOREM. "A reel becomes the record that SEG-Y revision 0 and the IBM floating point word define": every record that reading gives is valid and
--- holds what the reel means.
--- Rules out a reader that gives one fixed record, one that writes nothing and says taken, one that converts the first trace and copies it for
--- the rest, and one whose T or length is invented; two's complement for the IBM fraction, keeping minus zero, and filling field 115 only for
--- the first trace.
+-- THEOREM. "A reel becomes the record that SEG-Y revision 0 and the IBM floating point word define": every record that reading gives is
+-- valid and holds what the reel means.
+-- Rules out a reader that gives one fixed record, one that writes nothing and says taken, one that converts the first trace and copies it
+-- for the rest, and one whose T or length is invented; two's complement for the IBM fraction, keeping minus zero, and filling field 115
+-- only for the first trace.
 pub read-valid : (s out : List ℕ) (t n l : ℕ) → Bytes s → readOutcome s out .said ≡ taken (t ∷ n ∷ l ∷ [])
     → RecordHolds s t n (take l (readOutcome s out .bytes))
 read-valid s out t n l b e =
@@ -68,14 +68,14 @@ read-valid s out t n l b e =
 
 -- ## Valid records
 
--- THEOREM. "A record is valid when neither 12 nor 13 applies to it" (document 01): they don't exactly when it is right from tag 01 to its last
--- byte, with some count of traces.
+-- THEOREM. "A record is valid when neither 12 nor 13 applies to it" (document 01): they don't exactly when it is right from tag 01 to its
+-- last byte, with some count of traces.
 -- Alone it rules out none of the list: it spells out what valid means.
 pub valid-is : (r : List ℕ) → Iff (formCauses r ≡ Fine) ((t : ℕ) × RecordRight r t)
 valid-is r = (λ e. (heldCount r (heldSamples r), record-right r e), λ h. record-fine r (h .0) (h .1))
 
--- THEOREM. "Two records are equal byte for byte when they have the same length and the same bytes" (document 01): two valid records that hold the
--- same are.
+-- THEOREM. "Two records are equal byte for byte when they have the same length and the same bytes" (document 01): two valid records that
+-- hold the same are.
 -- With `read-valid` it leaves no second record to a reel. Alone it rules out none of the list, as it speaks of records only.
 pub held-same : (r₁ r₂ : List ℕ) → Bytes r₁ → Bytes r₂ → formCauses r₁ ≡ Fine → formCauses r₂ ≡ Fine → heldBy r₁ ≡ heldBy r₂ → r₁ ≡ r₂
 held-same r₁ r₂ b₁ b₂ v₁ v₂ e = sym (held-again r₁ b₁ v₁) ∙ ap recordOf e ∙ held-again r₂ b₂ v₂

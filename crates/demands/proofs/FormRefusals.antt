@@ -1,7 +1,7 @@
 -- # Refusals of a record's form are exact
 --
--- The rows of 12 and 13 are `FormRow`, in `specs/Tables`: a record is refused by one of them with a place exactly when that row applies to it, and
--- it is valid exactly when no row does. Assumes nothing.
+-- The rows of 12 and 13 are `FormRow`, in `specs/Tables`: a record is refused by one of them with a place exactly when that row applies to
+-- it, and it is valid exactly when no row does. Assumes nothing.
 use mathlib.Core.Path.{_≡_, refl, sym, _∙_}
 use mathlib.Core.List.{List}
 use Prim.Native.Nat.{ℕ, zero, suc, _+_}

@@ -55,12 +55,12 @@ meaning-eq {a} {b} p q r = ap₂ (λ (x : List ℕ) (y : List ℤ). made x y (a 
 -- ## The binary header
 
 -- The eighth of the 26 binary numbers is field 3221.
-pub eighth : (s : List ℕ) (start : ℕ) → getD (map (fieldNumber s start) (otherThan 3225 binaryFields)) 7 (pos 0) ≡ signedOf 16 (number16 s (start + 3220))
+eighth : (s : List ℕ) (start : ℕ) → getD (map (fieldNumber s start) (otherThan 3225 binaryFields)) 7 (pos 0) ≡ signedOf 16 (number16 s (start + 3220))
 unfolding binaryFields binaryWidths
 eighth s start = refl
 
 -- The sixth of them is field 3217.
-pub sixth : (s : List ℕ) (start : ℕ) → getD (map (fieldNumber s start) (otherThan 3225 binaryFields)) 5 (pos 0) ≡ signedOf 16 (number16 s (start + 3216))
+sixth : (s : List ℕ) (start : ℕ) → getD (map (fieldNumber s start) (otherThan 3225 binaryFields)) 5 (pos 0) ≡ signedOf 16 (number16 s (start + 3216))
 unfolding binaryFields binaryWidths
 sixth s start = refl
 

@@ -36,6 +36,7 @@ use Rattle.reel_theorems.proofs.Ranges.{Fit, Some, fields-fit}
 use Rattle.reel_theorems.proofs.Same.{allSome, some-of, binary-front-some, binary-back-some, trace-like, eighth}
 use Rattle.demands.proofs.Proper.{ProperTrace, Proper}
 use Rattle.demands.proofs.Valid.{record-right}
+use Rattle.demands.proofs.Headers.{count-at, interval-at}
 use Rattle.demands.specs.ValidRecord.{CanonicalAt, tracePlace, pairPlace, TraceRight}
 
 -- ## Numbers and lists
@@ -64,12 +65,10 @@ value-held s at c = ap isCanonical (value-pair-back (pairIn (bytesAt s at pairLe
 
 -- The numbers of fields 115 and 117 in a record's trace.
 held-count : (s : List ℕ) (at : ℕ) → getD (map (fieldNumber s (at + 3)) traceFields) 38 (pos 0) ≡ signedOf 16 (number16 s (bytePlace (at + 3) 115))
-unfolding traceFields traceWidths
-held-count s at = refl
+held-count s at = count-at s (at + 3)
 
 held-interval : (s : List ℕ) (at : ℕ) → getD (map (fieldNumber s (at + 3)) traceFields) 39 (pos 0) ≡ signedOf 16 (number16 s (bytePlace (at + 3) 117))
-unfolding traceFields traceWidths
-held-interval s at = refl
+held-interval s at = interval-at s (at + 3)
 
 -- A trace of a record that is right holds a proper trace.
 trace-held : (s : List ℕ) → Bytes s → heldSamples s < 2 ^ 15 → heldInterval s < 2 ^ 15 → (k : ℕ) → TraceRight s k

@@ -1,8 +1,8 @@
 -- # Refusals of writing are exact
 --
--- The rows against writing a record as a reel are `WriteRow`, in `specs/Tables`; those of 12 and 13 are shown to be exact in `FormRefusals`.
--- Writing is refused by a number with a place exactly when that row of the table applies, and it has no cause exactly when no row does. Assumes
--- nothing.
+-- The rows against writing a record as a reel are `WriteRow`, in `specs/Tables`; those of 12 and 13 are shown to be exact in
+-- `FormRefusals`. Writing is refused by a number with a place exactly when that row of the table applies, and it has no cause exactly when
+-- no row does. Assumes nothing.
 use mathlib.Core.Path.{_≡_, refl, sym, ap, _∙_}
 use mathlib.Core.List.{List}
 use mathlib.Core.Logic.{inl, inr}

@@ -33,11 +33,11 @@ pub data ReadRow (s : List ℕ) (room : ℕ) : ℕ → ℕ → Type 0 where
 
 -- ## The form of a record
 
--- The rows of 12 and 13: "the record front to back, each field first by 12, then by 13". "Number 12: a wrong tag, a wrong length, a field cut
--- short or missing, trace 100,001 (place where that field's tag stands or should stand); a wrong count in tag 05 (place of its tag); bytes after
--- it (place of the first). Number 13: a card byte 00, a format code other than 0, N or an interval outside its limits, trace fields 115 or 117
--- unlike the reel's, a pair that isn't canonical; the place is its first byte, and in tag 02 the order is interval, N, code." Traces k and pairs j
--- are counted from 0.
+-- The rows of 12 and 13: "the record front to back, each field first by 12, then by 13". "Number 12: a wrong tag, a wrong length, a field
+-- cut short or missing, trace 100,001 (place where that field's tag stands or should stand); a wrong count in tag 05 (place of its tag);
+-- bytes after it (place of the first). Number 13: a card byte 00, a format code other than 0, N or an interval outside its limits, trace
+-- fields 115 or 117 unlike the reel's, a pair that isn't canonical; the place is its first byte, and in tag 02 the order is interval, N,
+-- code." Traces k and pairs j are counted from 0.
 pub data FormRow (s : List ℕ) : ℕ → ℕ → Type 0 where
   -- 12: tag 01 doesn't stand at the front, whole and with its 3,200 bytes
   no-cards : ¬ (Stands s 1 3200 0) → FormRow s 12 0
@@ -125,8 +125,8 @@ headerFields k = pick (eqb k 0) binaryFields traceFields
 abbrev pub NoField : ℕ → ByteNo → Type 0
 NoField k b = All (λ f. ¬ (f .begins ≡ byteNo b)) (headerFields k)
 
--- "Look-up takes a reel, a trace number (0 means the binary header, 1 the first trace) and a byte number. It refuses by 1 to 9, then 15, then
--- 16." The trace number is k, the byte number b.
+-- "Look-up takes a reel, a trace number (0 means the binary header, 1 the first trace) and a byte number. It refuses by 1 to 9, then 15,
+-- then 16." The trace number is k, the byte number b.
 pub data LookUpRow (s : List ℕ) (k : ℕ) (b : ByteNo) : ℕ → ℕ → Type 0 where
   -- 1 to 9: a row of their table applies to the reel
   by-reel : {number place : ℕ} → Row s number place → LookUpRow s k b number place

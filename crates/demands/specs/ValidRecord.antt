@@ -1,5 +1,5 @@
--- What a valid record is, tag by tag and front to back. Document 01: "A record is valid when neither 12 nor 13 applies to it." `valid-is`, in
--- `proofs/Determined`, shows that this is the same.
+-- What a valid record is, tag by tag and front to back. Document 01: "A record is valid when neither 12 nor 13 applies to it." `valid-is`,
+-- in `proofs/Determined`, shows that this is the same.
 use mathlib.Core.Path.{_≡_}
 use mathlib.Core.List.{List}
 use mathlib.Core.Logic.{_⊎_}

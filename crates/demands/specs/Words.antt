@@ -1,5 +1,5 @@
--- When a sample format holds a value: where some word of its code has that very value, as the user's demand asks, "whenever that format holds
--- every sample exactly".
+-- When a sample format holds a value: where some word of its code has that very value, as the user's demand asks, "whenever that format
+-- holds every sample exactly".
 use mathlib.Core.Path.{_≡_}
 use mathlib.Core.List.{List}
 use mathlib.Core.Bool.{false}

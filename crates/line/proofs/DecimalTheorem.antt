@@ -55,7 +55,8 @@ text-in (suc k) n h =
     rw (le-ltb n 10 p) (subst (λ (x : ℕ). DecimalText x l) e (more (n / 10) (n % 10) _ t (omega arith) (omega arith))))
     (below-or n 10)
 
--- THEOREM. The text of a number below 2 ^ 64 is its decimal text: "Each number is printed most significant digit first, without leading zeros."
+-- THEOREM. The text of a number below 2 ^ 64 is its decimal text: "Each number is printed most significant digit first, without leading
+-- zeros."
 pub decimal-right : (n : ℕ) → n < 2 ^ 64 → DecimalText n (decimalOf n)
 unfolding decimalOf
 decimal-right n h = text-in 19 n (omega arith)

@@ -1,5 +1,5 @@
--- What the decimal text of a number is, apart from how it is made. Document 01: "Each number is printed most significant digit first, without
--- leading zeros."
+-- What the decimal text of a number is, apart from how it is made. Document 01: "Each number is printed most significant digit first,
+-- without leading zeros."
 use mathlib.Core.Path.{_≡_}
 use mathlib.Core.List.{List, [], _∷_}
 use Prim.Native.Nat.{ℕ, _+_, _-_, _*_, _≤_, _<_}

@@ -98,8 +98,8 @@ pub first-all : {A : Type 0} (f : ℕ → Check) (g : ℕ → A) (P : A → Type
     → (w k at : ℕ) → firstOf (walk f w k at) ≡ Fine → All P (walk g w k at)
 first-all f g P h w k at e = all-walk (λ c. c ≡ Fine) P f g h w k at (each-fine (walk f w k at) e)
 
--- And where P of the value at an offset shows that the check there finds nothing, P of each value along a walk shows that the checks along it
--- find nothing.
+-- And where P of the value at an offset shows that the check there finds nothing, P of each value along a walk shows that the checks along
+-- it find nothing.
 pub all-first : {A : Type 0} (f : ℕ → Check) (g : ℕ → A) (P : A → Type 0) → ((a : ℕ) → P (g a) → f a ≡ Fine)
     → (w k at : ℕ) → All P (walk g w k at) → firstOf (walk f w k at) ≡ Fine
 all-first f g P h w k at p = fine-each (walk f w k at) (all-walk P (λ c. c ≡ Fine) g f h w k at p)

@@ -75,8 +75,8 @@ pub behind : (front out : List ℕ) (l : ℕ) → length front ≡ l → l ≤ l
     → (length (front ++ drop l out) ≡ length out) × (drop l (front ++ drop l out) ≡ drop l out)
 behind front out l e h = (omega (arith, length-append front (drop l out), length-drop l out), drop-at front (drop l out) l e)
 
--- A call that puts l bytes to its output's front where its checks find nothing leaves the output's length, and each byte behind those, as they
--- were.
+-- A call that puts l bytes to its output's front where its checks find nothing leaves the output's length, and each byte behind those, as
+-- they were.
 pub keeps-rest : (end : Check → Outcome) (front out : List ℕ) (l : ℕ) (c : Check) → end Fine .bytes ≡ front ++ drop l out → c ≡ Fine → length front ≡ l → l ≤ length out
     → (length (end c .bytes) ≡ length out) × (drop l (end c .bytes) ≡ drop l out)
 keeps-rest end front out l c is e size room =

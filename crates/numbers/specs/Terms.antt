@@ -1,5 +1,5 @@
--- The terms that theorems are stated in: what holds of each element of a list, what bytes are, which limits a number keeps, and a place by its
--- number.
+-- The terms that theorems are stated in: what holds of each element of a list, what bytes are, which limits a number keeps, and a place by
+-- its number.
 use mathlib.Core.Path.{_≡_}
 use mathlib.Core.Logic.{_⊎_}
 use mathlib.Core.List.{List, [], _∷_}

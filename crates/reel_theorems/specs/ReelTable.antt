@@ -1,5 +1,5 @@
--- The causes 1 to 9 against a reel, as a table in document 01's order: 1 to 6; then trace by trace 7, 8, 9 (first such word). Each row says in
--- which case it applies, and what stands beside it: as the order sets, it applies only where no row before it does.
+-- The causes 1 to 9 against a reel, as a table in document 01's order: 1 to 6; then trace by trace 7, 8, 9 (first such word). Each row says
+-- in which case it applies, and what stands beside it: as the order sets, it applies only where no row before it does.
 use mathlib.Core.Path.{_≡_}
 use mathlib.Core.List.{List}
 use Prim.Native.Nat.{ℕ, _+_, _*_, _≤_, _<_}
