@@ -15,8 +15,8 @@
 -- - `read_reel`: outcome answer (output after) ≡ readOutcome reel (output before)
 -- - `write_reel`: outcome answer (output after) ≡ writeOutcome record code (output before)
 -- - `look_up`: lookedUp answer ≡ lookUpOutcome reel (trace number) (byte number)
--- - `read_word`: wordRead answer ≡ readOutcome code word, for a single word
--- - `write_pair`: pairWritten answer ≡ writeOutcome code pair, for a single pair
+-- - `read_word`: wordRead answer ≡ wordOutcome code word, for a single word
+-- - `write_pair`: pairWritten answer ≡ pairOutcome code pair, for a single pair
 -- - the program prints what reading into 65,536 bytes says: `programLine` of the crate `line`
 --
 -- The rows of each call are in `specs/Tables`, those of 1 to 9 in `ReelTable` of `reel_theorems`. Over each theorem stands the clause that
@@ -326,7 +326,7 @@ module _ (code : ℕ) (w : List ℕ) where
   wordChecks = then (refuseIf (not (isCode code)) 2 0) (refuseIf (badGain code w) 9 0)
 
   -- What the call says is what they answer.
-  word-says : calls.readOutcome code w .said ≡ says wordChecks
+  word-says : calls.wordOutcome code w .said ≡ says wordChecks
   unfolding wordChecks
   word-says = go (isCode code) (badGain code w)
     where
@@ -364,20 +364,20 @@ module _ (code : ℕ) (w : List ℕ) where
   -- THEOREM. "Every call comes to a defined end on every input: no access outside the lent buffers and no number that loses bits": reading a
   -- single word is taken, or refused by a number with a place. The rest of the clause Rattle proves of each function.
   -- Alone it rules out none of the list.
-  pub word-ends : (calls.readOutcome code w .said ≡ taken []) ⊎ ((number : ℕ) × (place : ℕ) × (calls.readOutcome code w .said ≡ refused number place))
-  word-ends = single-ends (calls.readOutcome code w .said) wordChecks word-says (WordRow code w) word-exact
+  pub word-ends : (calls.wordOutcome code w .said ≡ taken []) ⊎ ((number : ℕ) × (place : ℕ) × (calls.wordOutcome code w .said ≡ refused number place))
+  word-ends = single-ends (calls.wordOutcome code w .said) wordChecks word-says (WordRow code w) word-exact
 
   -- THEOREM. "each refusal has the number and place that document 01 sets, and is given in just the cases set there"; document 01: "A
   -- single word is refused by 2, then 9; a single pair by 11, 13, 14; the place is 0 and the bytes handed out are all 00." Exactly when
   -- that row applies.
   -- Rules out a call that declines every word.
-  pub word-refused : (number place : ℕ) → Iff (calls.readOutcome code w .said ≡ refused number place) (WordRow code w number place)
-  word-refused = single-refused (calls.readOutcome code w .said) wordChecks word-says (WordRow code w) word-exact
+  pub word-refused : (number place : ℕ) → Iff (calls.wordOutcome code w .said ≡ refused number place) (WordRow code w number place)
+  word-refused = single-refused (calls.wordOutcome code w .said) wordChecks word-says (WordRow code w) word-exact
 
   -- THEOREM. "in just the cases set there": it is taken exactly when no row applies.
   -- Rules out a call that declines every word.
-  pub word-taken : Iff (calls.readOutcome code w .said ≡ taken []) ((number place : ℕ) → ¬ (WordRow code w number place))
-  word-taken = single-taken (calls.readOutcome code w .said) wordChecks word-says (WordRow code w) word-exact
+  pub word-taken : Iff (calls.wordOutcome code w .said ≡ taken []) ((number place : ℕ) → ¬ (WordRow code w number place))
+  word-taken = single-taken (calls.wordOutcome code w .said) wordChecks word-says (WordRow code w) word-exact
 
   -- THEOREM. "the place is 0 and the bytes handed out are all 00": the six of a word that is refused.
   -- Alone it rules out none of the list.
@@ -396,7 +396,7 @@ module _ (code : ℕ) (b : List ℕ) where
       (then (refuseIf (not (isCanonical (pairIn b))) 13 0) (refuseIf (isUnfit (wordOf code (valueOf (pairIn b)))) 14 0))
 
   -- What the call says is what they answer.
-  pair-says : calls.writeOutcome code b .said ≡ says pairChecks
+  pair-says : calls.pairOutcome code b .said ≡ says pairChecks
   unfolding pairChecks
   pair-says = go (isCode code) (isCanonical (pairIn b)) (wordOf code (valueOf (pairIn b))) (only-14 code (valueOf (pairIn b)))
     where
@@ -438,19 +438,19 @@ module _ (code : ℕ) (b : List ℕ) where
   -- THEOREM. "Every call comes to a defined end on every input: no access outside the lent buffers and no number that loses bits": writing a
   -- single pair is taken, or refused by a number with a place. The rest of the clause Rattle proves of each function.
   -- Alone it rules out none of the list.
-  pub pair-ends : (calls.writeOutcome code b .said ≡ taken []) ⊎ ((number : ℕ) × (place : ℕ) × (calls.writeOutcome code b .said ≡ refused number place))
-  pair-ends = single-ends (calls.writeOutcome code b .said) pairChecks pair-says (PairRow code b) pair-exact
+  pub pair-ends : (calls.pairOutcome code b .said ≡ taken []) ⊎ ((number : ℕ) × (place : ℕ) × (calls.pairOutcome code b .said ≡ refused number place))
+  pair-ends = single-ends (calls.pairOutcome code b .said) pairChecks pair-says (PairRow code b) pair-exact
 
   -- THEOREM. "each refusal has the number and place that document 01 sets, and is given in just the cases set there"; document 01: "a
   -- single pair by 11, 13, 14; the place is 0". Exactly when that row applies.
   -- Rules out a call that declines every pair; and by 14, normalising by single bits, pushing C below 0 and shifting up for a negative e.
-  pub pair-refused : (number place : ℕ) → Iff (calls.writeOutcome code b .said ≡ refused number place) (PairRow code b number place)
-  pair-refused = single-refused (calls.writeOutcome code b .said) pairChecks pair-says (PairRow code b) pair-exact
+  pub pair-refused : (number place : ℕ) → Iff (calls.pairOutcome code b .said ≡ refused number place) (PairRow code b number place)
+  pair-refused = single-refused (calls.pairOutcome code b .said) pairChecks pair-says (PairRow code b) pair-exact
 
   -- THEOREM. "in just the cases set there": it is taken exactly when no row applies.
   -- Rules out a call that declines every pair, and what `pair-refused` rules out by 14.
-  pub pair-taken : Iff (calls.writeOutcome code b .said ≡ taken []) ((number place : ℕ) → ¬ (PairRow code b number place))
-  pair-taken = single-taken (calls.writeOutcome code b .said) pairChecks pair-says (PairRow code b) pair-exact
+  pub pair-taken : Iff (calls.pairOutcome code b .said ≡ taken []) ((number place : ℕ) → ¬ (PairRow code b number place))
+  pair-taken = single-taken (calls.pairOutcome code b .said) pairChecks pair-says (PairRow code b) pair-exact
 
   -- THEOREM. "the place is 0 and the bytes handed out are all 00": the four of a pair that is refused.
   -- Alone it rules out none of the list.

@@ -21,7 +21,8 @@ use Rattle.value.specs.Writing.{wordOf, writePair, Writes}
 use Rattle.value.specs.declared.Written.{Written}
 use Rattle.value.specs.declared.Written.the-variants.{Word, Refused}
 use Rattle.sample_theorems.proofs.Pairs.{pair-value}
-use Rattle.sample_theorems.proofs.Words.{Writes, written-is, writing-sound, writing-complete}
+use Rattle.value.proofs.WrittenLaws.{written-is}
+use Rattle.sample_theorems.proofs.Words.{writing-sound, writing-complete}
 use Rattle.reel.specs.Meaning.{Trace, Meaning}
 use Rattle.record.specs.Form.{tracesPlace, heldSamples, heldStride, heldCount}
 use Rattle.record.specs.Held.{heldValue, heldTrace, heldBy}
