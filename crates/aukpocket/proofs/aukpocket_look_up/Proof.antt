@@ -9,18 +9,6 @@ use borrow.Author.Needs.{needs}
 use Rattle.aukpocket.proofs.aukpocket_look_up.Statement.{statement}
 use Rattle.aukpocket.proofs.aukpocket_look_up.Tie as tie
 
-look-up-requires : tie.Need-look-up-requires
-look-up-requires c κs = search needs
-
-enum-known-number : tie.Need-enum-known-number
-enum-known-number c = search needs
-
-enum-known-number-2 : tie.Need-enum-known-number-2
-enum-known-number-2 c = search needs
-
-cast-t10 : tie.Need-cast-t10
-cast-t10 c = search needs
-
 returns : tie.Need-returns
 returns c =
     let n = c .before .number in
@@ -33,4 +21,4 @@ returns-2 c = ap (λ x. fieldHanded (lookedUp x)) (sym (c .before .number2 .give
 pub aukpocket-look-up-spec : {M : Type 1} → statement M
 aukpocket-look-up-spec =
     tie.close
-    (tie.spec look-up-requires enum-known-number enum-known-number-2 cast-t10 returns returns-2)
+    (tie.spec (λ c κs. search needs) (λ c. search needs) (λ c. search needs) (λ c. search needs) returns returns-2)

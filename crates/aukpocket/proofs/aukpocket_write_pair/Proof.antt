@@ -4,14 +4,8 @@ use borrow.Author.Needs.{needs}
 use Rattle.aukpocket.proofs.aukpocket_write_pair.Statement.{statement}
 use Rattle.aukpocket.proofs.aukpocket_write_pair.Tie as tie
 
-write-pair-requires : tie.Need-write-pair-requires
-write-pair-requires c κs = search needs
-
-sample-answer-requires : tie.Need-sample-answer-requires
-sample-answer-requires c κs = search needs
-
 returns : tie.Need-returns
 returns c = sample-handed _ (c .before .before .write-pair .result .answer) _ _ (c .sample-answer .ensures) (c .before .before .write-pair .ensures)
 
 pub aukpocket-write-pair-spec : {M : Type 1} → statement M
-aukpocket-write-pair-spec = tie.close (tie.spec write-pair-requires sample-answer-requires returns)
+aukpocket-write-pair-spec = tie.close (tie.spec (λ c κs. search needs) (λ c κs. search needs) returns)

@@ -6,15 +6,6 @@ use borrow.Author.Needs.{needs}
 use Rattle.aukpocket.proofs.sample_answer.Statement.{statement}
 use Rattle.aukpocket.proofs.sample_answer.Tie as tie
 
-enum-told : tie.Need-enum-told
-enum-told c = search needs
-
-enum-known-answer : tie.Need-enum-known-answer
-enum-known-answer c = search needs
-
-cast-t5 : tie.Need-cast-t5
-cast-t5 c = search needs
-
 returns : tie.Need-returns
 returns c = ap (λ x. sampleAnswer (saidBy x)) (sym (c .enum-told .given .1))
 
@@ -22,4 +13,4 @@ returns-2 : tie.Need-returns-2
 returns-2 c = ap (λ x. sampleAnswer (saidBy x)) (sym (c .before .answer .given .1))
 
 pub sample-answer-spec : {M : Type 1} → statement M
-sample-answer-spec = tie.close (tie.spec enum-told enum-known-answer cast-t5 returns returns-2)
+sample-answer-spec = tie.close (tie.spec (λ c. search needs) (λ c. search needs) (λ c. search needs) returns returns-2)

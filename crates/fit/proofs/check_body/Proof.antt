@@ -40,29 +40,8 @@ room c =
     let s = a .«record» .now in
     form-room s (a .n) (a .i) (c .before .before .before .before .before .loop .at) (trace-fine s (a .code) (a .n) (a .i) (c .before .before .before .before .before .before .before .pre) (c .before .before .before .before .before .loop .at) (fine c) .0)
 
-mul-w : tie.Need-mul-w Inv-loop μ-loop
-mul-w c = search needs
-
-add-w : tie.Need-add-w Inv-loop μ-loop
-add-w c = search needs
-
-loop-holds : tie.Need-loop-holds Inv-loop μ-loop
-loop-holds c = refl
-
-is-trace-requires : tie.Need-is-trace-requires Inv-loop μ-loop
-is-trace-requires c κs = tt
-
 check-trace-requires : tie.Need-check-trace-requires Inv-loop μ-loop
 check-trace-requires c κs = c .before .before .before .before .pre
-
-enum-told : tie.Need-enum-told Inv-loop μ-loop
-enum-told c = c .match .keys1
-
-enum-told-2 : tie.Need-enum-told-2 Inv-loop μ-loop
-enum-told-2 c = c .match .keys2
-
-check-later-requires : tie.Need-check-later-requires Inv-loop μ-loop
-check-later-requires c κs = tt
 
 returns : tie.Need-returns Inv-loop μ-loop
 returns c =
@@ -88,9 +67,6 @@ loop-again c =
     let a = c .before .before .before .before .before .before .before .args in
     h .loop .inv ∙ body-more (a .«record» .now) (a .n) (a .code) (a .i) (c .before .before .before .before .before .before .before .pre) (h .loop .t) (h .loop .at) (is-more (c .before .before .before)) (fine c)
 
-check-end-requires : tie.Need-check-end-requires Inv-loop μ-loop
-check-end-requires c κs = tt
-
 returns-2 : tie.Need-returns-2 Inv-loop μ-loop
 returns-2 c =
     let h = c .before .before .before in
@@ -105,18 +81,18 @@ check-body-spec =
     (tie.spec
     Inv-loop
     μ-loop
-    mul-w
-    add-w
-    loop-holds
-    is-trace-requires
+    (λ c. search needs)
+    (λ c. search needs)
+    (λ c. refl)
+    (λ c κs. tt)
     check-trace-requires
-    enum-told
-    enum-told-2
-    check-later-requires
+    (λ c. c .match .keys1)
+    (λ c. c .match .keys2)
+    (λ c κs. tt)
     returns
     add-at
     add-t
     loop-less
     loop-again
-    check-end-requires
+    (λ c κs. tt)
     returns-2)

@@ -27,27 +27,9 @@ a-code c = not-false (isCode (c .before .before .before .before .args .code)) (p
 front : (c : tie.After-enum-told3) → let s = c .before .before .before .before .before .before .before .args .«record» .now in then (cardsCauses s) (binaryCauses s) ≡ Fine
 front c = sym (c .before .before .check-front .ensures) ∙ c .enum-told3 .given .1
 
-check-limits-requires : tie.Need-check-limits-requires
-check-limits-requires c κs = tt
-
-enum-told : tie.Need-enum-told
-enum-told c = c .match .keys1
-
-enum-told-2 : tie.Need-enum-told-2
-enum-told-2 c = c .match .keys2
-
 returns : tie.Need-returns
 unfolding targetCauses
 returns c = let e = c .before .before .check-limits .ensures in e ∙ then-stop _ _ (sym e ∙ c .enum-told2 .given .1)
-
-check-front-requires : tie.Need-check-front-requires
-check-front-requires c κs = tt
-
-enum-told-3 : tie.Need-enum-told-3
-enum-told-3 c = c .match2 .keys1
-
-enum-told-4 : tie.Need-enum-told-4
-enum-told-4 c = c .match2 .keys2
 
 returns-2 : tie.Need-returns-2
 returns-2 c =
@@ -55,18 +37,6 @@ returns-2 c =
     let e = c .before .before .check-front .ensures in
     let t = c .enum-told4 .given .1 in
     t ∙ sym (target-stop s (c .before .before .before .before .before .before .before .args .code) (a-code (c .before .before .before)) (sym e ∙ t))
-
-field-at-requires : tie.Need-field-at-requires
-field-at-requires c κs = tt
-
-number16-at-requires : tie.Need-number16-at-requires
-number16-at-requires c κs = tt
-
-field-at-requires-2 : tie.Need-field-at-requires-2
-field-at-requires-2 c κs = tt
-
-number16-at-requires-2 : tie.Need-number16-at-requires-2
-number16-at-requires-2 c κs = tt
 
 check-body-requires : tie.Need-check-body-requires
 check-body-requires c κs = a-code (c .before .before .before .before .before .before .before)
@@ -93,17 +63,17 @@ pub check-causes-spec : {M : Type 1} → statement M
 check-causes-spec =
     tie.close
     (tie.spec
-    check-limits-requires
-    enum-told
-    enum-told-2
+    (λ c κs. tt)
+    (λ c. c .match .keys1)
+    (λ c. c .match .keys2)
     returns
-    check-front-requires
-    enum-told-3
-    enum-told-4
+    (λ c κs. tt)
+    (λ c. c .match2 .keys1)
+    (λ c. c .match2 .keys2)
     returns-2
-    field-at-requires
-    number16-at-requires
-    field-at-requires-2
-    number16-at-requires-2
+    (λ c κs. tt)
+    (λ c κs. tt)
+    (λ c κs. tt)
+    (λ c κs. tt)
     check-body-requires
     returns-3)

@@ -6,15 +6,6 @@ use mathlib.Core.Path.{_≡_, sym, _∙_}
 use Rattle.fit.proofs.check_later.Statement.{statement}
 use Rattle.fit.proofs.check_later.Tie as tie
 
-check-rest-requires : tie.Need-check-rest-requires
-check-rest-requires c κs = tt
-
-enum-told : tie.Need-enum-told
-enum-told c = c .match .keys1
-
-enum-told-2 : tie.Need-enum-told-2
-enum-told-2 c = c .match .keys2
-
 returns : tie.Need-returns
 returns c = let e = c .before .before .check-rest .ensures in e ∙ then-stop _ _ (sym e ∙ c .enum-told2 .given .1)
 
@@ -22,4 +13,4 @@ returns-2 : tie.Need-returns-2
 returns-2 c = then-next _ _ (sym (c .before .before .check-rest .ensures) ∙ c .enum-told .given .1)
 
 pub check-later-spec : {M : Type 1} → statement M
-check-later-spec = tie.close (tie.spec check-rest-requires enum-told enum-told-2 returns returns-2)
+check-later-spec = tie.close (tie.spec (λ c κs. tt) (λ c. c .match .keys1) (λ c. c .match .keys2) returns returns-2)

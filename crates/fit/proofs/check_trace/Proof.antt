@@ -19,24 +19,12 @@ fine c = sym (c .before .before .check-head .ensures) ∙ c .enum-told .given .1
 room : (c : tie.After-enum-told) → let a = c .before .before .before .before .args in a .at + (186 + a .n * 6) ≤ length (a .«record» .now)
 room c = let a = c .before .before .before .before .args in head-room (a .«record» .now) (a .n) (a .i) (a .at) (fine c)
 
-check-head-requires : tie.Need-check-head-requires
-check-head-requires c κs = tt
-
-enum-told : tie.Need-enum-told
-enum-told c = c .match .keys1
-
-enum-told-2 : tie.Need-enum-told-2
-enum-told-2 c = c .match .keys2
-
 returns : tie.Need-returns
 unfolding traceCheck
 returns c = let e = c .before .before .check-head .ensures in e ∙ then-stop _ _ (sym e ∙ c .enum-told2 .given .1)
 
 add-t9 : tie.Need-add-t9
 add-t9 c = omega (arith, room c)
-
-check-samples-requires : tie.Need-check-samples-requires
-check-samples-requires c κs = tt
 
 returns-2 : tie.Need-returns-2
 unfolding traceCheck
@@ -49,10 +37,10 @@ pub check-trace-spec : {M : Type 1} → statement M
 check-trace-spec =
     tie.close
     (tie.spec
-    check-head-requires
-    enum-told
-    enum-told-2
+    (λ c κs. tt)
+    (λ c. c .match .keys1)
+    (λ c. c .match .keys2)
     returns
     add-t9
-    check-samples-requires
+    (λ c κs. tt)
     returns-2)

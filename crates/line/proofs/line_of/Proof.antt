@@ -9,54 +9,6 @@ use Rattle.line.proofs.StoreLaws.{begin, next, item, finish}
 use Rattle.line.proofs.line_of.Statement.{statement}
 use Rattle.line.proofs.line_of.Tie as tie
 
-enum-known-answer : tie.Need-enum-known-answer
-enum-known-answer c = search needs
-
-slice-aggregate-put-word : tie.Need-slice-aggregate-put-word
-slice-aggregate-put-word c = search needs
-
-put-word-requires : tie.Need-put-word-requires
-put-word-requires c κs = search needs
-
-put-item-requires : tie.Need-put-item-requires
-put-item-requires c κs = search needs
-
-put-item-requires-2 : tie.Need-put-item-requires-2
-put-item-requires-2 c κs = search needs
-
-put-item-requires-3 : tie.Need-put-item-requires-3
-put-item-requires-3 c κs = search needs
-
-array-write-bytes : tie.Need-array-write-bytes
-array-write-bytes c = search needs
-
-add-t27 : tie.Need-add-t27
-add-t27 c = search needs
-
-enum-known-answer-2 : tie.Need-enum-known-answer-2
-enum-known-answer-2 c = search needs
-
-slice-aggregate-put-word-2 : tie.Need-slice-aggregate-put-word-2
-slice-aggregate-put-word-2 c = search needs
-
-put-word-requires-2 : tie.Need-put-word-requires-2
-put-word-requires-2 c κs = search needs
-
-cast-put-item : tie.Need-cast-put-item
-cast-put-item c = search needs
-
-put-item-requires-4 : tie.Need-put-item-requires-4
-put-item-requires-4 c κs = search needs
-
-put-item-requires-5 : tie.Need-put-item-requires-5
-put-item-requires-5 c κs = search needs
-
-array-write-bytes-2 : tie.Need-array-write-bytes-2
-array-write-bytes-2 c = search needs
-
-add-t31 : tie.Need-add-t31
-add-t31 c = search needs
-
 returns : tie.Need-returns
 returns c =
     let third = c .put-item3 .ensures in
@@ -91,21 +43,21 @@ pub line-of-spec : {M : Type 1} → statement M
 line-of-spec =
     tie.close
     (tie.spec
-    enum-known-answer
-    slice-aggregate-put-word
-    put-word-requires
-    put-item-requires
-    put-item-requires-2
-    put-item-requires-3
-    array-write-bytes
-    add-t27
-    enum-known-answer-2
-    slice-aggregate-put-word-2
-    put-word-requires-2
-    cast-put-item
-    put-item-requires-4
-    put-item-requires-5
-    array-write-bytes-2
-    add-t31
+    (λ c. search needs)
+    (λ c. search needs)
+    (λ c κs. search needs)
+    (λ c κs. search needs)
+    (λ c κs. search needs)
+    (λ c κs. search needs)
+    (λ c. search needs)
+    (λ c. search needs)
+    (λ c. search needs)
+    (λ c. search needs)
+    (λ c κs. search needs)
+    (λ c. search needs)
+    (λ c κs. search needs)
+    (λ c κs. search needs)
+    (λ c. search needs)
+    (λ c. search needs)
     returns
     returns-2)

@@ -8,22 +8,10 @@ use borrow.Author.Needs.{needs}
 use Rattle.line.proofs.program_line.Statement.{statement}
 use Rattle.line.proofs.program_line.Tie as tie
 
-too-long-requires : tie.Need-too-long-requires
-too-long-requires c κs = search needs
-
 returns : tie.Need-returns
 returns c =
     let l = lt-ltb mostInput (length (c .before .before .before .before .args .input .now)) (c .before .if1 .taken) in
     (c .too-long .ensures .0 ∙ rw l, (rw l, c .too-long .ensures .1))
-
-read-reel-requires : tie.Need-read-reel-requires
-read-reel-requires c κs = search needs
-
-line-of-requires : tie.Need-line-of-requires
-line-of-requires c κs = search needs
-
-same-length : tie.Need-same-length
-same-length c = search needs
 
 returns-2 : tie.Need-returns-2
 returns-2 c =
@@ -37,4 +25,4 @@ returns-2 c =
 pub program-line-spec : {M : Type 1} → statement M
 program-line-spec =
     tie.close
-    (tie.spec too-long-requires returns read-reel-requires line-of-requires same-length returns-2)
+    (tie.spec (λ c κs. search needs) returns (λ c κs. search needs) (λ c κs. search needs) (λ c. search needs) returns-2)

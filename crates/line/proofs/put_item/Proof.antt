@@ -11,15 +11,6 @@ use Rattle.line.proofs.DecimalLaws.{decimal-size}
 use Rattle.line.proofs.put_item.Statement.{statement}
 use Rattle.line.proofs.put_item.Tie as tie
 
-element-write-out : tie.Need-element-write-out
-element-write-out c = search needs
-
-add-put-digits : tie.Need-add-put-digits
-add-put-digits c = search needs
-
-put-digits-requires : tie.Need-put-digits-requires
-put-digits-requires c κs = search needs
-
 returns : tie.Need-returns
 returns c =
     let start = c .before .before in
@@ -33,4 +24,4 @@ returns c =
     )
 
 pub put-item-spec : {M : Type 1} → statement M
-put-item-spec = tie.close (tie.spec element-write-out add-put-digits put-digits-requires returns)
+put-item-spec = tie.close (tie.spec (λ c. search needs) (λ c. search needs) (λ c κs. search needs) returns)

@@ -7,16 +7,10 @@ use Rattle.line.proofs.StoreLaws.{begin, finish}
 use Rattle.line.proofs.too_long.Statement.{statement}
 use Rattle.line.proofs.too_long.Tie as tie
 
-slice-aggregate-put-word : tie.Need-slice-aggregate-put-word
-slice-aggregate-put-word c = search needs
-
-put-word-requires : tie.Need-put-word-requires
-put-word-requires c κs = search needs
-
 returns : tie.Need-returns
 returns c =
     let e = c .put-word .ensures in
     finish tooLong (begin tooLong (e .0) (e .1)) refl (omega arith)
 
 pub too-long-spec : {M : Type 1} → statement M
-too-long-spec = tie.close (tie.spec slice-aggregate-put-word put-word-requires returns)
+too-long-spec = tie.close (tie.spec (λ c. search needs) (λ c κs. search needs) returns)

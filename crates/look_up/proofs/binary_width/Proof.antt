@@ -6,16 +6,10 @@ use borrow.Author.Needs.{needs}
 use Rattle.look_up.proofs.binary_width.Statement.{statement}
 use Rattle.look_up.proofs.binary_width.Tie as tie
 
-in-row-requires : tie.Need-in-row-requires
-in-row-requires c κs = search needs
-
 returns : tie.Need-returns
 returns c =
     let b = c .before .before .args .b in
     c .in-row .ensures ∙ rw (lt-ltb b 3213 (c .before .if1 .taken)) at (binary-width b)
-
-in-row-requires-2 : tie.Need-in-row-requires-2
-in-row-requires-2 c κs = search needs
 
 returns-2 : tie.Need-returns-2
 returns-2 c =
@@ -29,4 +23,4 @@ returns-3 c =
 
 pub binary-width-spec : {M : Type 1} → statement M
 binary-width-spec =
-    tie.close (tie.spec in-row-requires returns in-row-requires-2 returns-2 returns-3)
+    tie.close (tie.spec (λ c κs. search needs) returns (λ c κs. search needs) returns-2 returns-3)

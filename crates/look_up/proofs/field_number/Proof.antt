@@ -25,15 +25,6 @@ at-is c =
     let e : c .place .given .0 .0 ≡ record { 0 = placeNo (a .start) + (byteNo (a .b) - 1) } = cc (sym (c .place .given .1) ∙ is-at (c .before .before)) in
     ap placeNo e
 
-place-of-requires : tie.Need-place-of-requires
-place-of-requires c κs = search needs
-
-enum-known-place : tie.Need-enum-known-place
-enum-known-place c = search needs
-
-enum-told : tie.Need-enum-told
-enum-told c = search needs
-
 returns : tie.Need-returns
 returns c =
     let z : _≡_ {A = ℕ} 0 1 = cc (sym (is-at (c .before .before)) ∙ c .enum-told .given .1) in
@@ -58,9 +49,9 @@ pub field-number-spec : {M : Type 1} → statement M
 field-number-spec =
     tie.close
     (tie.spec
-    place-of-requires
-    enum-known-place
-    enum-told
+    (λ c κs. search needs)
+    (λ c. search needs)
+    (λ c. search needs)
     returns
     signed-two-requires
     returns-2

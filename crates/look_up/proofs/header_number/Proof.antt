@@ -29,9 +29,6 @@ field-number-requires c κs = binary-on _ _ _ _ (c .before .before .pre .1) _ (c
 returns : tie.Need-returns
 returns c = rw (eq-eqb (c .before .before .before .args .trace) 0 (c .before .if1 .taken)) (toZ-ofZ {w = w32} (sfits-of (c .field-number .ok)) ∙ c .field-number .ensures)
 
-sub-start : tie.Need-sub-start
-sub-start c = search needs
-
 mul-start : tie.Need-mul-start
 mul-start c = omega (arith, on-reel c, c .before .before .good)
 
@@ -55,7 +52,7 @@ header-number-spec =
     (tie.spec
     field-number-requires
     returns
-    sub-start
+    (λ c. search needs)
     mul-start
     add-start
     trace-number-requires

@@ -8,9 +8,6 @@ use Rattle.look_up.proofs.in_row.Tie as tie
 returns : tie.Need-returns
 returns c = rw (lt-leb (c .before .args .first) (c .before .args .b) (c .if1 .taken))
 
-rem-if2 : tie.Need-rem-if2
-rem-if2 c = search needs
-
 returns-2 : tie.Need-returns-2
 returns-2 c =
     let a = c .before .before .args in
@@ -22,4 +19,4 @@ returns-3 c =
     rw (le-leb (a .first) (a .b) (c .before .if1 .left), ne-eqb ((a .b - a .first) % a .width) 0 (c .if2 .left))
 
 pub in-row-spec : {M : Type 1} → statement M
-in-row-spec = tie.close (tie.spec returns rem-if2 returns-2 returns-3)
+in-row-spec = tie.close (tie.spec returns (λ c. search needs) returns-2 returns-3)

@@ -24,18 +24,6 @@ has c =
     let s = f .before .before .before in
     in-header (s .args .reel .now) (s .args .traces) (s .args .trace) (s .args .b) (f .before .width-at .result) (s .pre .1) (f .before .width-at .ensures) (sym (f .check-field .ensures) ∙ c .enum-told .given .1)
 
-width-at-requires : tie.Need-width-at-requires
-width-at-requires c κs = search needs
-
-check-field-requires : tie.Need-check-field-requires
-check-field-requires c κs = search needs
-
-enum-known-c : tie.Need-enum-known-c
-enum-known-c c = search needs
-
-enum-told : tie.Need-enum-told
-enum-told c = search needs
-
 header-number-requires : tie.Need-header-number-requires
 header-number-requires c κs = (c .before .before .before .before .before .pre .0, has c)
 
@@ -56,10 +44,10 @@ pub look-spec : {M : Type 1} → statement M
 look-spec =
     tie.close
     (tie.spec
-    width-at-requires
-    check-field-requires
-    enum-known-c
-    enum-told
+    (λ c κs. search needs)
+    (λ c κs. search needs)
+    (λ c. search needs)
+    (λ c. search needs)
     header-number-requires
     returns
     returns-2)

@@ -11,33 +11,6 @@ use Rattle.numbers.proofs.WalkLaws.{four-bytes}
 use Rattle.look_up.proofs.signed_four.Statement.{statement}
 use Rattle.look_up.proofs.signed_four.Tie as tie
 
-shared-slice-read-be32 : tie.Need-shared-slice-read-be32
-shared-slice-read-be32 c = search needs
-
-add-be32 : tie.Need-add-be32
-add-be32 c = search needs
-
-shared-slice-read-be32-2 : tie.Need-shared-slice-read-be32-2
-shared-slice-read-be32-2 c = search needs
-
-add-be32-2 : tie.Need-add-be32-2
-add-be32-2 c = search needs
-
-shared-slice-read-be32-3 : tie.Need-shared-slice-read-be32-3
-shared-slice-read-be32-3 c = search needs
-
-add-be32-3 : tie.Need-add-be32-3
-add-be32-3 c = search needs
-
-shared-slice-read-be32-4 : tie.Need-shared-slice-read-be32-4
-shared-slice-read-be32-4 c = search needs
-
-be32-requires : tie.Need-be32-requires
-be32-requires c κs = search needs
-
-signed32-requires : tie.Need-signed32-requires
-signed32-requires c κs = search needs
-
 returns : tie.Need-returns
 returns c =
     let a = c .before .before .before .before .before .before .before .args in
@@ -47,13 +20,13 @@ pub signed-four-spec : {M : Type 1} → statement M
 signed-four-spec =
     tie.close
     (tie.spec
-    shared-slice-read-be32
-    add-be32
-    shared-slice-read-be32-2
-    add-be32-2
-    shared-slice-read-be32-3
-    add-be32-3
-    shared-slice-read-be32-4
-    be32-requires
-    signed32-requires
+    (λ c. search needs)
+    (λ c. search needs)
+    (λ c. search needs)
+    (λ c. search needs)
+    (λ c. search needs)
+    (λ c. search needs)
+    (λ c. search needs)
+    (λ c κs. search needs)
+    (λ c κs. search needs)
     returns)

@@ -6,19 +6,10 @@ use borrow.Author.Tests.{eq-eqb, ne-eqb}
 use Rattle.look_up.proofs.trace_number.Statement.{statement}
 use Rattle.look_up.proofs.trace_number.Tie as tie
 
-field-number-requires : tie.Need-field-number-requires
-field-number-requires c κs = search needs
-
-fill-requires : tie.Need-fill-requires
-fill-requires c κs = search needs
-
 returns : tie.Need-returns
 returns c =
     let n = c .before .before .before .before .args .b .0 in
     rw (toZ-ofZ {w = w32} (sfits-of (c .fill .ok)), c .fill .ensures, toZ-ofZ {w = w32} (sfits-of (c .before .before .field-number .ok)), c .before .before .field-number .ensures, eq-eqb n 115 (c .before .if1 .taken))
-
-fill-requires-2 : tie.Need-fill-requires-2
-fill-requires-2 c κs = search needs
 
 returns-2 : tie.Need-returns-2
 returns-2 c =
@@ -33,4 +24,4 @@ returns-3 c =
 pub trace-number-spec : {M : Type 1} → statement M
 trace-number-spec =
     tie.close
-    (tie.spec field-number-requires fill-requires returns fill-requires-2 returns-2 returns-3)
+    (tie.spec (λ c κs. search needs) (λ c κs. search needs) returns (λ c κs. search needs) returns-2 returns-3)

@@ -7,48 +7,30 @@ use borrow.Author.Needs.{needs}
 use Rattle.look_up.proofs.trace_width.Statement.{statement}
 use Rattle.look_up.proofs.trace_width.Tie as tie
 
-in-row-requires : tie.Need-in-row-requires
-in-row-requires c κs = search needs
-
 returns : tie.Need-returns
 returns c =
     let b = c .before .before .args .b in
     c .in-row .ensures ∙ rw (lt-ltb b 29 (c .before .if1 .taken)) at (trace-width b)
-
-in-row-requires-2 : tie.Need-in-row-requires-2
-in-row-requires-2 c κs = search needs
 
 returns-2 : tie.Need-returns-2
 returns-2 c =
     let b = c .before .before .before .args .b in
     c .in-row2 .ensures ∙ rw (le-ltb b 29 (omega arith), lt-ltb b 37 (c .before .if2 .taken)) at (trace-width b)
 
-in-row-requires-3 : tie.Need-in-row-requires-3
-in-row-requires-3 c κs = search needs
-
 returns-3 : tie.Need-returns-3
 returns-3 c =
     let b = c .before .before .before .before .args .b in
     c .in-row3 .ensures ∙ rw (le-ltb b 29 (omega arith), le-ltb b 37 (omega arith), lt-ltb b 69 (c .before .if3 .taken)) at (trace-width b)
-
-in-row-requires-4 : tie.Need-in-row-requires-4
-in-row-requires-4 c κs = search needs
 
 returns-4 : tie.Need-returns-4
 returns-4 c =
     let b = c .before .before .before .before .before .args .b in
     c .in-row4 .ensures ∙ rw (le-ltb b 29 (omega arith), le-ltb b 37 (omega arith), le-ltb b 69 (omega arith), lt-ltb b 73 (c .before .if4 .taken)) at (trace-width b)
 
-in-row-requires-5 : tie.Need-in-row-requires-5
-in-row-requires-5 c κs = search needs
-
 returns-5 : tie.Need-returns-5
 returns-5 c =
     let b = c .before .before .before .before .before .before .args .b in
     c .in-row5 .ensures ∙ rw (le-ltb b 29 (omega arith), le-ltb b 37 (omega arith), le-ltb b 69 (omega arith), le-ltb b 73 (omega arith), lt-ltb b 89 (c .before .if5 .taken)) at (trace-width b)
-
-in-row-requires-6 : tie.Need-in-row-requires-6
-in-row-requires-6 c κs = search needs
 
 returns-6 : tie.Need-returns-6
 returns-6 c =
@@ -64,16 +46,16 @@ pub trace-width-spec : {M : Type 1} → statement M
 trace-width-spec =
     tie.close
     (tie.spec
-    in-row-requires
+    (λ c κs. search needs)
     returns
-    in-row-requires-2
+    (λ c κs. search needs)
     returns-2
-    in-row-requires-3
+    (λ c κs. search needs)
     returns-3
-    in-row-requires-4
+    (λ c κs. search needs)
     returns-4
-    in-row-requires-5
+    (λ c κs. search needs)
     returns-5
-    in-row-requires-6
+    (λ c κs. search needs)
     returns-6
     returns-7)

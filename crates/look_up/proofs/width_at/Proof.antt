@@ -4,17 +4,11 @@ use borrow.Author.Needs.{needs}
 use Rattle.look_up.proofs.width_at.Statement.{statement}
 use Rattle.look_up.proofs.width_at.Tie as tie
 
-binary-width-requires : tie.Need-binary-width-requires
-binary-width-requires c κs = search needs
-
 returns : tie.Need-returns
 returns c = rw (eq-eqb (c .before .before .args .trace) 0 (c .before .if1 .taken)) (c .binary-width .ensures)
-
-trace-width-requires : tie.Need-trace-width-requires
-trace-width-requires c κs = search needs
 
 returns-2 : tie.Need-returns-2
 returns-2 c = rw (ne-eqb (c .before .before .args .trace) 0 (c .before .if1 .left)) (c .trace-width .ensures)
 
 pub width-at-spec : {M : Type 1} → statement M
-width-at-spec = tie.close (tie.spec binary-width-requires returns trace-width-requires returns-2)
+width-at-spec = tie.close (tie.spec (λ c κs. search needs) returns (λ c κs. search needs) returns-2)

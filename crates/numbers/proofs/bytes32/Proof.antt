@@ -4,20 +4,8 @@ use borrow.Author.Needs.{needs}
 use Rattle.numbers.proofs.bytes32.Statement.{statement}
 use Rattle.numbers.proofs.bytes32.Tie as tie
 
-cast-t4 : tie.Need-cast-t4
-cast-t4 c = search needs
-
-cast-t7 : tie.Need-cast-t7
-cast-t7 c = search needs
-
-cast-t10 : tie.Need-cast-t10
-cast-t10 c = search needs
-
-cast-t12 : tie.Need-cast-t12
-cast-t12 c = search needs
-
 returns : tie.Need-returns
 returns c = rw div-one
 
 pub bytes32-spec : {M : Type 1} → statement M
-bytes32-spec = tie.close (tie.spec cast-t4 cast-t7 cast-t10 cast-t12 returns)
+bytes32-spec = tie.close (tie.spec (λ c. search needs) (λ c. search needs) (λ c. search needs) (λ c. search needs) returns)

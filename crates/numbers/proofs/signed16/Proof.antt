@@ -14,15 +14,6 @@ use Rattle.numbers.proofs.signed16.Tie as tie
 flipped : (c : tie.Else1) → negsuc 0 -ℤ toZ w16 (65535 - c .before .args .n) ≡ toZ w16 (c .before .args .n)
 flipped c = signed-flip w16 (c .before .args .n) (65535 - c .before .args .n) (c .if1 .left) (omega arith) (omega arith)
 
-cast-result : tie.Need-cast-result
-cast-result c = search needs
-
-sub-result : tie.Need-sub-result
-sub-result c = search needs
-
-cast-result-2 : tie.Need-cast-result-2
-cast-result-2 c = search needs
-
 sub-result-2 : tie.Need-sub-result-2
 sub-result-2 c = rw (flipped c) (sfits-toZ {w = w16} (c .before .fits .n))
 
@@ -35,4 +26,4 @@ returns-2 c =
 
 pub signed16-spec : {M : Type 1} → statement M
 signed16-spec =
-    tie.close (tie.spec cast-result sub-result cast-result-2 sub-result-2 returns returns-2)
+    tie.close (tie.spec (λ c. search needs) (λ c. search needs) (λ c. search needs) sub-result-2 returns returns-2)

@@ -5,15 +5,6 @@ use borrow.Author.Needs.{needs}
 use Rattle.places.proofs.field_at.Statement.{statement}
 use Rattle.places.proofs.field_at.Tie as tie
 
-place-of-requires : tie.Need-place-of-requires
-place-of-requires c κs = search needs
-
-enum-known-found : tie.Need-enum-known-found
-enum-known-found c = search needs
-
-enum-told : tie.Need-enum-told
-enum-told c = search needs
-
 returns : tie.Need-returns
 returns c =
     sym (ap placeOr (sym (c .before .before .place-of .ensures) ∙ c .enum-told .given .1))
@@ -23,4 +14,4 @@ returns-2 c =
     sym (ap placeOr (sym (c .before .before .before .place-of .ensures) ∙ c .before .found .given .1))
 
 pub field-at-spec : {M : Type 1} → statement M
-field-at-spec = tie.close (tie.spec place-of-requires enum-known-found enum-told returns returns-2)
+field-at-spec = tie.close (tie.spec (λ c κs. search needs) (λ c. search needs) (λ c. search needs) returns returns-2)

@@ -16,14 +16,8 @@ place c =
     let l : 6 + byteNo (s .args .b) < 2 ^ 64 = search needs in
     ap placeNo (c .field-at .ensures ∙ field-place (record { 0 = 6 }) (s .args .b) (s .pre) l)
 
-field-at-requires : tie.Need-field-at-requires
-field-at-requires c κs = tt
-
-number16-at-requires : tie.Need-number16-at-requires
-number16-at-requires c κs = tt
-
 returns : tie.Need-returns
 returns c = c .number16-at .ensures ∙ ap (number16 (c .before .before .before .args .«record» .now)) (place (c .before))
 
 pub binary-number-spec : {M : Type 1} → statement M
-binary-number-spec = tie.close (tie.spec field-at-requires number16-at-requires returns)
+binary-number-spec = tie.close (tie.spec (λ c κs. tt) (λ c κs. tt) returns)

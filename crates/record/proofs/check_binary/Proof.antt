@@ -12,30 +12,9 @@ use Rattle.record.proofs.check_binary.Tie as tie
 fine : (c : tie.After-enum-told) → fieldCause (c .before .before .before .before .args .«record» .now) 2 60 3203 ≡ Fine
 fine c = sym (c .before .before .check-field .ensures) ∙ c .enum-told .given .1
 
-check-field-requires : tie.Need-check-field-requires
-check-field-requires c κs = tt
-
-enum-told : tie.Need-enum-told
-enum-told c = c .match .keys1
-
-enum-told-2 : tie.Need-enum-told-2
-enum-told-2 c = c .match .keys2
-
 returns : tie.Need-returns
 unfolding binaryCauses
 returns c = let e = c .before .before .check-field .ensures in e ∙ then-stop _ _ (sym e ∙ c .enum-told2 .given .1)
-
-binary-number-requires : tie.Need-binary-number-requires
-binary-number-requires c κs = omega arith
-
-binary-number-requires-2 : tie.Need-binary-number-requires-2
-binary-number-requires-2 c κs = omega arith
-
-binary-number-requires-3 : tie.Need-binary-number-requires-3
-binary-number-requires-3 c κs = omega arith
-
-check-numbers-requires : tie.Need-check-numbers-requires
-check-numbers-requires c κs = tt
 
 returns-2 : tie.Need-returns-2
 unfolding binaryCauses
@@ -52,12 +31,12 @@ pub check-binary-spec : {M : Type 1} → statement M
 check-binary-spec =
     tie.close
     (tie.spec
-    check-field-requires
-    enum-told
-    enum-told-2
+    (λ c κs. tt)
+    (λ c. c .match .keys1)
+    (λ c. c .match .keys2)
     returns
-    binary-number-requires
-    binary-number-requires-2
-    binary-number-requires-3
-    check-numbers-requires
+    (λ c κs. omega arith)
+    (λ c κs. omega arith)
+    (λ c κs. omega arith)
+    (λ c κs. tt)
     returns-2)

@@ -32,9 +32,6 @@ loop-holds c = (refl, c .before .pre)
 pair-at-requires : tie.Need-pair-at-requires Inv-loop μ-loop
 pair-at-requires c κs = omega (arith, times-more (c .before .loop .left) 6 (c .loop-test .taken), c .before .loop .inv)
 
-is-canonical-requires : tie.Need-is-canonical-requires Inv-loop μ-loop
-is-canonical-requires c κs = tt
-
 returns : tie.Need-returns Inv-loop μ-loop
 returns c =
     let h = c .before .before .before .before in
@@ -72,7 +69,7 @@ check-canonical-spec =
     μ-loop
     loop-holds
     pair-at-requires
-    is-canonical-requires
+    (λ c κs. tt)
     returns
     add-at
     sub-left

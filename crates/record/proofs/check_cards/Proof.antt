@@ -4,21 +4,11 @@ use Rattle.record.specs.Form.{fieldCause, cardsCauses}
 use Rattle.numbers.proofs.CauseLaws.{then-stop, then-next}
 use Rattle.numbers.specs.declared.Check.the-variants.{Fine}
 use mathlib.Core.Path.{_≡_, sym, _∙_}
-use native.Mathlib.Omega.{arith}
 use Rattle.record.proofs.check_cards.Statement.{statement}
 use Rattle.record.proofs.check_cards.Tie as tie
 
 fine : (c : tie.After-enum-told) → fieldCause (c .before .before .before .before .args .«record» .now) 1 3200 0 ≡ Fine
 fine c = sym (c .before .before .check-field .ensures) ∙ c .enum-told .given .1
-
-check-field-requires : tie.Need-check-field-requires
-check-field-requires c κs = tt
-
-enum-told : tie.Need-enum-told
-enum-told c = c .match .keys1
-
-enum-told-2 : tie.Need-enum-told-2
-enum-told-2 c = c .match .keys2
 
 returns : tie.Need-returns
 unfolding cardsCauses
@@ -34,4 +24,4 @@ returns-2 c = c .check-card-bytes .ensures ∙ then-next _ _ (fine (c .before))
 pub check-cards-spec : {M : Type 1} → statement M
 check-cards-spec =
     tie.close
-    (tie.spec check-field-requires enum-told enum-told-2 returns check-card-bytes-requires returns-2)
+    (tie.spec (λ c κs. tt) (λ c. c .match .keys1) (λ c. c .match .keys2) returns check-card-bytes-requires returns-2)

@@ -35,26 +35,11 @@ same c =
     let m : count (c .before) (c .before .number32-at .result) ≡ Fine = rw (eq-eqb (c .before .number32-at .result) (c .before .before .before .before .before .before .args .t) (c .if1 .left)) in
     sym (ap (count (c .before)) (c .before .number32-at .ensures)) ∙ m
 
-check-field-requires : tie.Need-check-field-requires
-check-field-requires c κs = tt
-
-enum-told : tie.Need-enum-told
-enum-told c = c .match .keys1
-
-enum-told-2 : tie.Need-enum-told-2
-enum-told-2 c = c .match .keys2
-
 returns : tie.Need-returns
 returns c = let e = c .before .before .check-field .ensures in e ∙ then-stop _ _ (sym e ∙ c .enum-told2 .given .1)
 
 add-if2 : tie.Need-add-if2
 add-if2 c = omega (arith, room c)
-
-number32-at-requires : tie.Need-number32-at-requires
-number32-at-requires c κs = tt
-
-cast-if1 : tie.Need-cast-if1
-cast-if1 c = search needs
 
 returns-2 : tie.Need-returns-2
 returns-2 c =
@@ -85,13 +70,13 @@ pub check-end-spec : {M : Type 1} → statement M
 check-end-spec =
     tie.close
     (tie.spec
-    check-field-requires
-    enum-told
-    enum-told-2
+    (λ c κs. tt)
+    (λ c. c .match .keys1)
+    (λ c. c .match .keys2)
     returns
     add-if2
-    number32-at-requires
-    cast-if1
+    (λ c κs. tt)
+    (λ c. search needs)
     returns-2
     add-if2-2
     add-t11

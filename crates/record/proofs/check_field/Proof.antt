@@ -18,9 +18,6 @@ whole c = sym (c .before .ends-within .ensures) ∙ not-false (c .before .ends-w
 room : (c : tie.Else1) → let a = c .before .before .before .args in a .at + (3 + a .size) ≤ length (a .«record» .now)
 room c = let a = c .before .before .before .args in leb-true (a .at + (3 + a .size)) (length (a .«record» .now)) (whole c)
 
-ends-within-requires : tie.Need-ends-within-requires
-ends-within-requires c κs = search needs
-
 returns : tie.Need-returns
 returns c = rw (sym (c .before .ends-within .ensures) ∙ not-true (c .before .ends-within .result) (c .if1 .taken))
 
@@ -34,12 +31,6 @@ returns-2 c =
 
 add-t6 : tie.Need-add-t6
 add-t6 c = omega (arith, room (c .before .before), c .before .before .before .before .before .good .0)
-
-number16-at-requires : tie.Need-number16-at-requires
-number16-at-requires c κs = search needs
-
-cast-if3 : tie.Need-cast-if3
-cast-if3 c = search needs
 
 returns-3 : tie.Need-returns-3
 returns-3 c =
@@ -59,12 +50,12 @@ pub check-field-spec : {M : Type 1} → statement M
 check-field-spec =
     tie.close
     (tie.spec
-    ends-within-requires
+    (λ c κs. search needs)
     returns
     shared-slice-read-if2
     returns-2
     add-t6
-    number16-at-requires
-    cast-if3
+    (λ c κs. search needs)
+    (λ c. search needs)
     returns-3
     returns-4)

@@ -14,28 +14,10 @@ use Rattle.record.proofs.check_form.Tie as tie
 front : (c : tie.After-enum-told) → let s = c .before .before .before .before .args .«record» .now in then (cardsCauses s) (binaryCauses s) ≡ Fine
 front c = sym (c .before .before .check-front .ensures) ∙ c .enum-told .given .1
 
-check-front-requires : tie.Need-check-front-requires
-check-front-requires c κs = tt
-
-enum-told : tie.Need-enum-told
-enum-told c = c .match .keys1
-
-enum-told-2 : tie.Need-enum-told-2
-enum-told-2 c = c .match .keys2
-
 returns : tie.Need-returns
 returns c =
     let t = c .enum-told2 .given .1 in
     t ∙ sym (form-stop (c .before .before .before .before .args .«record» .now) (sym (c .before .before .check-front .ensures) ∙ t))
-
-binary-number-requires : tie.Need-binary-number-requires
-binary-number-requires c κs = omega arith
-
-binary-number-requires-2 : tie.Need-binary-number-requires-2
-binary-number-requires-2 c κs = omega arith
-
-check-rest-requires : tie.Need-check-rest-requires
-check-rest-requires c κs = tt
 
 returns-2 : tie.Need-returns-2
 returns-2 c =
@@ -50,11 +32,11 @@ pub check-form-spec : {M : Type 1} → statement M
 check-form-spec =
     tie.close
     (tie.spec
-    check-front-requires
-    enum-told
-    enum-told-2
+    (λ c κs. tt)
+    (λ c. c .match .keys1)
+    (λ c. c .match .keys2)
     returns
-    binary-number-requires
-    binary-number-requires-2
-    check-rest-requires
+    (λ c κs. omega arith)
+    (λ c κs. omega arith)
+    (λ c κs. tt)
     returns-2)

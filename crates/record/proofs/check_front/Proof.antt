@@ -9,20 +9,8 @@ use Rattle.record.proofs.check_front.Tie as tie
 fine : (c : tie.After-enum-told) → cardsCauses (c .before .before .before .before .args .«record» .now) ≡ Fine
 fine c = sym (c .before .before .check-cards .ensures) ∙ c .enum-told .given .1
 
-check-cards-requires : tie.Need-check-cards-requires
-check-cards-requires c κs = tt
-
-enum-told : tie.Need-enum-told
-enum-told c = c .match .keys1
-
-enum-told-2 : tie.Need-enum-told-2
-enum-told-2 c = c .match .keys2
-
 returns : tie.Need-returns
 returns c = let e = c .before .before .check-cards .ensures in e ∙ then-stop _ _ (sym e ∙ c .enum-told2 .given .1)
-
-check-binary-requires : tie.Need-check-binary-requires
-check-binary-requires c κs = tt
 
 returns-2 : tie.Need-returns-2
 returns-2 c = c .check-binary .ensures ∙ then-next _ _ (fine (c .before))
@@ -30,4 +18,4 @@ returns-2 c = c .check-binary .ensures ∙ then-next _ _ (fine (c .before))
 pub check-front-spec : {M : Type 1} → statement M
 check-front-spec =
     tie.close
-    (tie.spec check-cards-requires enum-told enum-told-2 returns check-binary-requires returns-2)
+    (tie.spec (λ c κs. tt) (λ c. c .match .keys1) (λ c. c .match .keys2) returns (λ c κs. tt) returns-2)

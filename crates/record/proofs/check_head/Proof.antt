@@ -39,15 +39,6 @@ row117 c = c .check-like2 .ensures
 fine117 : (c : tie.After-enum-told5) → let a = c .before .before .before .before .before .before .before .before .before .before .args in refuseIf (not (eqb (number16 (a .«record» .now) (bytePlace (placeNo (a .at) + 3) 117)) (a .i))) 13 (bytePlace (placeNo (a .at) + 3) 117) ≡ Fine
 fine117 c = sym (row117 (c .before .before)) ∙ c .enum-told5 .given .1
 
-check-field-requires : tie.Need-check-field-requires
-check-field-requires c κs = tt
-
-enum-told : tie.Need-enum-told
-enum-told c = c .match .keys1
-
-enum-told-2 : tie.Need-enum-told-2
-enum-told-2 c = c .match .keys2
-
 returns : tie.Need-returns
 returns c =
     let e = c .before .before .check-field .ensures in
@@ -59,12 +50,6 @@ add-check-like c = omega (arith, room c)
 
 check-like-requires : tie.Need-check-like-requires
 check-like-requires c κs = (omega arith, omega (arith, room c))
-
-enum-told-3 : tie.Need-enum-told-3
-enum-told-3 c = c .match2 .keys1
-
-enum-told-4 : tie.Need-enum-told-4
-enum-told-4 c = c .match2 .keys2
 
 returns-2 : tie.Need-returns-2
 returns-2 c =
@@ -78,12 +63,6 @@ add-check-like-2 c = omega (arith, room (c .before .before .before))
 check-like-requires-2 : tie.Need-check-like-requires-2
 check-like-requires-2 c κs = (omega arith, omega (arith, room (c .before .before .before)))
 
-enum-told-5 : tie.Need-enum-told-5
-enum-told-5 c = c .match3 .keys1
-
-enum-told-6 : tie.Need-enum-told-6
-enum-told-6 c = c .match3 .keys2
-
 returns-3 : tie.Need-returns-3
 returns-3 c =
     let e = row117 (c .before .before) in
@@ -91,14 +70,8 @@ returns-3 c =
     e ∙ then-stop _ _ (sym e ∙ c .enum-told6 .given .1) ∙ then-next _ _ (fine115 (c .before .before .before)) ∙ then-next _ _ (fine (c .before .before .before .before .before .before))
     ∙ sym (head-form (a .«record» .now) (a .n) (a .i) (placeNo (a .at)))
 
-mul-check-field : tie.Need-mul-check-field
-mul-check-field c = search needs
-
 add-check-field : tie.Need-add-check-field
 add-check-field c = omega (arith, room (c .before .before .before .before .before .before))
-
-check-field-requires-2 : tie.Need-check-field-requires-2
-check-field-requires-2 c κs = tt
 
 returns-4 : tie.Need-returns-4
 returns-4 c =
@@ -110,21 +83,21 @@ pub check-head-spec : {M : Type 1} → statement M
 check-head-spec =
     tie.close
     (tie.spec
-    check-field-requires
-    enum-told
-    enum-told-2
+    (λ c κs. tt)
+    (λ c. c .match .keys1)
+    (λ c. c .match .keys2)
     returns
     add-check-like
     check-like-requires
-    enum-told-3
-    enum-told-4
+    (λ c. c .match2 .keys1)
+    (λ c. c .match2 .keys2)
     returns-2
     add-check-like-2
     check-like-requires-2
-    enum-told-5
-    enum-told-6
+    (λ c. c .match3 .keys1)
+    (λ c. c .match3 .keys2)
     returns-3
-    mul-check-field
+    (λ c. search needs)
     add-check-field
-    check-field-requires-2
+    (λ c κs. tt)
     returns-4)

@@ -20,43 +20,13 @@ row2 c = c .check-limits2 .ensures ∙ ap (λ (x : ℕ). refuseIf (not (within 1
 row3 : (c : tie.After-check-same) → c .check-same .result ≡ refuseIf (not (eqb (c .before .before .before .before .before .before .before .before .before .before .args .code) 0)) 13 3230
 row3 c = c .check-same .ensures ∙ ap (λ (x : ℕ). refuseIf (not (eqb (c .before .before .before .before .before .before .before .before .before .before .args .code) 0)) 13 x) (ap placeNo (c .before .field-at3 .ensures))
 
-field-at-requires : tie.Need-field-at-requires
-field-at-requires c κs = tt
-
-check-limits-requires : tie.Need-check-limits-requires
-check-limits-requires c κs = tt
-
-enum-told : tie.Need-enum-told
-enum-told c = c .match .keys1
-
-enum-told-2 : tie.Need-enum-told-2
-enum-told-2 c = c .match .keys2
-
 returns : tie.Need-returns
 returns c = let e = row1 (c .before .before) in e ∙ then-stop _ _ (sym e ∙ c .enum-told2 .given .1)
-
-field-at-requires-2 : tie.Need-field-at-requires-2
-field-at-requires-2 c κs = tt
-
-check-limits-requires-2 : tie.Need-check-limits-requires-2
-check-limits-requires-2 c κs = tt
-
-enum-told-3 : tie.Need-enum-told-3
-enum-told-3 c = c .match2 .keys1
-
-enum-told-4 : tie.Need-enum-told-4
-enum-told-4 c = c .match2 .keys2
 
 returns-2 : tie.Need-returns-2
 returns-2 c =
     let e = row2 (c .before .before) in
     e ∙ then-stop _ _ (sym e ∙ c .enum-told4 .given .1) ∙ then-next _ _ (sym (row1 (c .before .before .before .before .before .before)) ∙ c .before .before .before .before .enum-told .given .1)
-
-field-at-requires-3 : tie.Need-field-at-requires-3
-field-at-requires-3 c κs = tt
-
-check-same-requires : tie.Need-check-same-requires
-check-same-requires c κs = tt
 
 returns-3 : tie.Need-returns-3
 returns-3 c =
@@ -66,16 +36,16 @@ pub check-numbers-spec : {M : Type 1} → statement M
 check-numbers-spec =
     tie.close
     (tie.spec
-    field-at-requires
-    check-limits-requires
-    enum-told
-    enum-told-2
+    (λ c κs. tt)
+    (λ c κs. tt)
+    (λ c. c .match .keys1)
+    (λ c. c .match .keys2)
     returns
-    field-at-requires-2
-    check-limits-requires-2
-    enum-told-3
-    enum-told-4
+    (λ c κs. tt)
+    (λ c κs. tt)
+    (λ c. c .match2 .keys1)
+    (λ c. c .match2 .keys2)
     returns-2
-    field-at-requires-3
-    check-same-requires
+    (λ c κs. tt)
+    (λ c κs. tt)
     returns-3)

@@ -35,27 +35,6 @@ fine c = sym (c .before .before .check-trace-form .ensures) ∙ c .enum-told .gi
 room : (c : tie.After-enum-told Inv-loop μ-loop) → let a = c .before .before .before .before .before .before .before .args in c .before .before .before .before .before .loop .at + (186 + a .n * 6) ≤ length (a .«record» .now)
 room c = let a = c .before .before .before .before .before .before .before .args in form-room (a .«record» .now) (a .n) (a .i) (c .before .before .before .before .before .loop .at) (fine c)
 
-mul-w : tie.Need-mul-w Inv-loop μ-loop
-mul-w c = search needs
-
-add-w : tie.Need-add-w Inv-loop μ-loop
-add-w c = search needs
-
-loop-holds : tie.Need-loop-holds Inv-loop μ-loop
-loop-holds c = refl
-
-is-trace-requires : tie.Need-is-trace-requires Inv-loop μ-loop
-is-trace-requires c κs = tt
-
-check-trace-form-requires : tie.Need-check-trace-form-requires Inv-loop μ-loop
-check-trace-form-requires c κs = tt
-
-enum-told : tie.Need-enum-told Inv-loop μ-loop
-enum-told c = c .match .keys1
-
-enum-told-2 : tie.Need-enum-told-2 Inv-loop μ-loop
-enum-told-2 c = c .match .keys2
-
 returns : tie.Need-returns Inv-loop μ-loop
 returns c =
     let h = c .before .before .before .before .before in
@@ -79,9 +58,6 @@ loop-again c =
     let s = a .«record» .now in
     h .loop .inv ∙ form-more s (a .n) (a .i) (h .loop .t) (h .loop .at) (is-more (c .before .before .before)) ∙ ap (λ x. then x (formFrom s (a .n) (a .i) (mostTraces - (h .loop .t + 1)) (h .loop .t + 1) (h .loop .at + heldStride (a .n)))) (fine c)
 
-check-end-requires : tie.Need-check-end-requires Inv-loop μ-loop
-check-end-requires c κs = tt
-
 returns-2 : tie.Need-returns-2 Inv-loop μ-loop
 returns-2 c =
     let h = c .before .before .before in
@@ -94,17 +70,17 @@ check-rest-spec =
     (tie.spec
     Inv-loop
     μ-loop
-    mul-w
-    add-w
-    loop-holds
-    is-trace-requires
-    check-trace-form-requires
-    enum-told
-    enum-told-2
+    (λ c. search needs)
+    (λ c. search needs)
+    (λ c. refl)
+    (λ c κs. tt)
+    (λ c κs. tt)
+    (λ c. c .match .keys1)
+    (λ c. c .match .keys2)
     returns
     add-at
     add-t
     loop-less
     loop-again
-    check-end-requires
+    (λ c κs. tt)
     returns-2)

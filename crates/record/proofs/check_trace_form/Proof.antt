@@ -17,15 +17,6 @@ fine c = sym (c .before .before .check-head .ensures) ∙ c .enum-told .given .1
 room : (c : tie.After-enum-told) → let a = c .before .before .before .before .args in a .at + (186 + a .n * 6) ≤ length (a .«record» .now)
 room c = let a = c .before .before .before .before .args in head-room (a .«record» .now) (a .n) (a .i) (a .at) (fine c)
 
-check-head-requires : tie.Need-check-head-requires
-check-head-requires c κs = tt
-
-enum-told : tie.Need-enum-told
-enum-told c = c .match .keys1
-
-enum-told-2 : tie.Need-enum-told-2
-enum-told-2 c = c .match .keys2
-
 returns : tie.Need-returns
 returns c =
     let a = c .before .before .before .before .args in
@@ -47,9 +38,9 @@ pub check-trace-form-spec : {M : Type 1} → statement M
 check-trace-form-spec =
     tie.close
     (tie.spec
-    check-head-requires
-    enum-told
-    enum-told-2
+    (λ c κs. tt)
+    (λ c. c .match .keys1)
+    (λ c. c .match .keys2)
     returns
     add-check-canonical
     check-canonical-requires

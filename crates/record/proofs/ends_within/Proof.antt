@@ -15,9 +15,6 @@ returns c = let a = c .before .args in sym (lt-leb (a .at + (3 + a .size)) (a .b
 returns-2 : tie.Need-returns-2
 returns-2 c = let a = c .before .before .args in sym (lt-leb (a .at + (3 + a .size)) (a .bytes) (omega (arith, c .before .if1 .left, c .if2 .taken)))
 
-sub-result : tie.Need-sub-result
-sub-result c = search needs
-
 returns-3 : tie.Need-returns-3
 returns-3 c =
     let a = c .before .before .args in
@@ -26,4 +23,4 @@ returns-3 c =
     (λ (p : e ≤ a .bytes). le-leb (a .size) (a .bytes - a .at - 3) (omega arith) ∙ sym (le-leb e (a .bytes) p)) (below-or (a .bytes) e)
 
 pub ends-within-spec : {M : Type 1} → statement M
-ends-within-spec = tie.close (tie.spec returns returns-2 sub-result returns-3)
+ends-within-spec = tie.close (tie.spec returns returns-2 (λ c. search needs) returns-3)

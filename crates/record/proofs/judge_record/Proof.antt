@@ -7,18 +7,6 @@ use mathlib.Core.Path.{_≡_, sym, ap, _∙_}
 use Rattle.record.proofs.judge_record.Statement.{statement}
 use Rattle.record.proofs.judge_record.Tie as tie
 
-check-form-requires : tie.Need-check-form-requires
-check-form-requires c κs = tt
-
-enum-known-c : tie.Need-enum-known-c
-enum-known-c c = c .match .keys1
-
-enum-told : tie.Need-enum-told
-enum-told c = c .match .keys2
-
-numbers-in-requires : tie.Need-numbers-in-requires
-numbers-in-requires c κs = tt
-
 returns : tie.Need-returns
 returns c = ap (recordFound (c .before .before .before .before .before .args .«record» .now)) (sym (c .before .c .given .1) ∙ c .before .before .before .check-form .ensures)
 
@@ -31,4 +19,4 @@ returns-2 c =
 pub judge-record-spec : {M : Type 1} → statement M
 judge-record-spec =
     tie.close
-    (tie.spec check-form-requires enum-known-c enum-told numbers-in-requires returns returns-2)
+    (tie.spec (λ c κs. tt) (λ c. c .match .keys1) (λ c. c .match .keys2) (λ c κs. tt) returns returns-2)

@@ -15,18 +15,6 @@ use Rattle.record.proofs.numbers_in.Tie as tie
 last-four : (c : tie.Joined1) → c .if1 .last ≡ length (c .before .before .args .«record» .now) - 4
 last-four c = ⊎-elim (λ w. omega (arith, w .0 .taken, w .1)) (λ w. w .1) (c .if1 .came)
 
-binary-number-requires : tie.Need-binary-number-requires
-binary-number-requires c κs = search needs
-
-cast-t8 : tie.Need-cast-t8
-cast-t8 c = search needs
-
-number32-at-requires : tie.Need-number32-at-requires
-number32-at-requires c κs = search needs
-
-cast-t11 : tie.Need-cast-t11
-cast-t11 c = search needs
-
 returns : tie.Need-returns
 returns c =
     let b = c .before .before in
@@ -38,4 +26,4 @@ returns c =
 
 pub numbers-in-spec : {M : Type 1} → statement M
 numbers-in-spec =
-    tie.close (tie.spec binary-number-requires cast-t8 number32-at-requires cast-t11 returns)
+    tie.close (tie.spec (λ c κs. search needs) (λ c. search needs) (λ c κs. search needs) (λ c. search needs) returns)

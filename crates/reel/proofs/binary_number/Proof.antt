@@ -16,19 +16,10 @@ place c =
     let l : byteNo (s .args .b) < 2 ^ 64 = search needs in
     ap placeNo (c .field-at .ensures ∙ field-place (record { 0 = 0 }) (s .args .b) (s .pre) (omega arith))
 
-field-at-requires : tie.Need-field-at-requires
-field-at-requires c κs = search needs
-
-number16-at-requires : tie.Need-number16-at-requires
-number16-at-requires c κs = search needs
-
-cast-result : tie.Need-cast-result
-cast-result c = search needs
-
 returns : tie.Need-returns
 returns c =
     let a = c .before .before .before .args in
     (c .number16-at .ensures ∙ ap (number16 (a .reel .now)) (place (c .before)), search needs)
 
 pub binary-number-spec : {M : Type 1} → statement M
-binary-number-spec = tie.close (tie.spec field-at-requires number16-at-requires cast-result returns)
+binary-number-spec = tie.close (tie.spec (λ c κs. search needs) (λ c κs. search needs) (λ c. search needs) returns)

@@ -11,29 +11,11 @@ use borrow.Author.Needs.{needs}
 use Rattle.reel.proofs.check_behind.Statement.{statement}
 use Rattle.reel.proofs.check_behind.Tie as tie
 
-sub-t : tie.Need-sub-t
-sub-t c = search needs
-
-div-t : tie.Need-div-t
-div-t c = search needs
-
-sub-check-size : tie.Need-sub-check-size
-sub-check-size c = search needs
-
-rem-check-size : tie.Need-rem-check-size
-rem-check-size c = search needs
-
 check-size-requires : tie.Need-check-size-requires
 check-size-requires c κs =
     let s = c .before in
     let size = length (s .args .reel .now) in
     (omega (arith, mod-le (size - firstTrace) (s .args .w)), s .pre .2)
-
-enum-told : tie.Need-enum-told
-enum-told c = search needs
-
-enum-told-2 : tie.Need-enum-told-2
-enum-told-2 c = search needs
 
 returns : tie.Need-returns
 unfolding behindCauses
@@ -53,13 +35,13 @@ pub check-behind-spec : {M : Type 1} → statement M
 check-behind-spec =
     tie.close
     (tie.spec
-    sub-t
-    div-t
-    sub-check-size
-    rem-check-size
+    (λ c. search needs)
+    (λ c. search needs)
+    (λ c. search needs)
+    (λ c. search needs)
     check-size-requires
-    enum-told
-    enum-told-2
+    (λ c. search needs)
+    (λ c. search needs)
     returns
     check-traces-requires
     returns-2)

@@ -17,18 +17,6 @@ returns : tie.Need-returns
 unfolding causesOf
 returns c = rw (lt-ltb (length (c .before .before .args .reel .now)) firstTrace (c .if1 .taken))
 
-binary-number-requires : tie.Need-binary-number-requires
-binary-number-requires c κs = search needs
-
-binary-number-requires-2 : tie.Need-binary-number-requires-2
-binary-number-requires-2 c κs = search needs
-
-binary-number-requires-3 : tie.Need-binary-number-requires-3
-binary-number-requires-3 c κs = search needs
-
-check-numbers-requires : tie.Need-check-numbers-requires
-check-numbers-requires c κs = search needs
-
 returns-2 : tie.Need-returns-2
 unfolding causesOf
 returns-2 c =
@@ -45,8 +33,8 @@ check-causes-spec =
     tie.close
     (tie.spec
     returns
-    binary-number-requires
-    binary-number-requires-2
-    binary-number-requires-3
-    check-numbers-requires
+    (λ c κs. search needs)
+    (λ c κs. search needs)
+    (λ c κs. search needs)
+    (λ c κs. search needs)
     returns-2)

@@ -38,9 +38,6 @@ cause c =
     let at = h .loop .at in
     ap (λ w. wordRefused w at) (c .gain .ensures) ∙ gain-refused (getD s at 0 ∷ getD s (at + 1) 0 ∷ getD s (at + 2) 0 ∷ getD s (at + 3) 0 ∷ []) at
 
-loop-holds : tie.Need-loop-holds Inv-loop μ-loop
-loop-holds c = search needs
-
 shared-slice-read-gain : tie.Need-shared-slice-read-gain Inv-loop μ-loop
 shared-slice-read-gain c = omega (arith, room (c .before))
 
@@ -62,18 +59,6 @@ add-gain-3 c = omega (arith, room (c .before .before .before))
 shared-slice-read-gain-4 : tie.Need-shared-slice-read-gain-4 Inv-loop μ-loop
 shared-slice-read-gain-4 c = omega (arith, room (c .before .before .before .before))
 
-gain-requires : tie.Need-gain-requires Inv-loop μ-loop
-gain-requires c κs = search needs
-
-enum-told : tie.Need-enum-told Inv-loop μ-loop
-enum-told c = search needs
-
-enum-told-2 : tie.Need-enum-told-2 Inv-loop μ-loop
-enum-told-2 c = search needs
-
-refused-requires : tie.Need-refused-requires Inv-loop μ-loop
-refused-requires c κs = search needs
-
 returns : tie.Need-returns Inv-loop μ-loop
 returns c =
     let g = c .before .before .before in
@@ -86,12 +71,6 @@ returns c =
 
 add-at : tie.Need-add-at Inv-loop μ-loop
 add-at c = omega (arith, room (c .before .before .before .before .before .before .before))
-
-sub-left : tie.Need-sub-left Inv-loop μ-loop
-sub-left c = search needs
-
-loop-less : tie.Need-loop-less Inv-loop μ-loop
-loop-less c = search needs
 
 loop-again : tie.Need-loop-again Inv-loop μ-loop
 loop-again c =
@@ -115,7 +94,7 @@ check-gains-spec =
     (tie.spec
     Inv-loop
     μ-loop
-    loop-holds
+    (λ c. search needs)
     shared-slice-read-gain
     add-gain
     shared-slice-read-gain-2
@@ -123,13 +102,13 @@ check-gains-spec =
     shared-slice-read-gain-3
     add-gain-3
     shared-slice-read-gain-4
-    gain-requires
-    enum-told
-    enum-told-2
-    refused-requires
+    (λ c κs. search needs)
+    (λ c. search needs)
+    (λ c. search needs)
+    (λ c κs. search needs)
     returns
     add-at
-    sub-left
-    loop-less
+    (λ c. search needs)
+    (λ c. search needs)
     loop-again
     returns-2)

@@ -29,32 +29,8 @@ row3 c =
     let i = c .before .before .before .before .before .before .before .before .before .before .args .i in
     c .check-limits3 .ensures ∙ ap (λ (x : ℕ). refuseIf (not (within 1 32767 i)) 4 x) (ap placeNo (c .before .field-at3 .ensures))
 
-field-at-requires : tie.Need-field-at-requires
-field-at-requires c κs = search needs
-
-check-limits-requires : tie.Need-check-limits-requires
-check-limits-requires c κs = search needs
-
-enum-told : tie.Need-enum-told
-enum-told c = search needs
-
-enum-told-2 : tie.Need-enum-told-2
-enum-told-2 c = search needs
-
 returns : tie.Need-returns
 returns c = let e = row1 (c .before .before) in e ∙ then-stop _ _ (sym e ∙ c .enum-told2 .given .1)
-
-field-at-requires-2 : tie.Need-field-at-requires-2
-field-at-requires-2 c κs = search needs
-
-check-limits-requires-2 : tie.Need-check-limits-requires-2
-check-limits-requires-2 c κs = search needs
-
-enum-told-3 : tie.Need-enum-told-3
-enum-told-3 c = search needs
-
-enum-told-4 : tie.Need-enum-told-4
-enum-told-4 c = search needs
 
 returns-2 : tie.Need-returns-2
 returns-2 c =
@@ -62,12 +38,6 @@ returns-2 c =
     let a = b .before .before in
     let e = row2 b in
     e ∙ then-stop _ _ (sym e ∙ c .enum-told4 .given .1) ∙ then-next _ _ (sym (row1 (a .before .before)) ∙ a .enum-told .given .1)
-
-field-at-requires-3 : tie.Need-field-at-requires-3
-field-at-requires-3 c κs = search needs
-
-check-limits-requires-3 : tie.Need-check-limits-requires-3
-check-limits-requires-3 c κs = search needs
 
 returns-3 : tie.Need-returns-3
 returns-3 c =
@@ -79,16 +49,16 @@ pub check-header-spec : {M : Type 1} → statement M
 check-header-spec =
     tie.close
     (tie.spec
-    field-at-requires
-    check-limits-requires
-    enum-told
-    enum-told-2
+    (λ c κs. search needs)
+    (λ c κs. search needs)
+    (λ c. search needs)
+    (λ c. search needs)
     returns
-    field-at-requires-2
-    check-limits-requires-2
-    enum-told-3
-    enum-told-4
+    (λ c κs. search needs)
+    (λ c κs. search needs)
+    (λ c. search needs)
+    (λ c. search needs)
     returns-2
-    field-at-requires-3
-    check-limits-requires-3
+    (λ c κs. search needs)
+    (λ c κs. search needs)
     returns-3)

@@ -18,20 +18,8 @@ small c =
     let f = header-fine (a .code) (a .n) (a .i) (sym (c .before .before .before .check-header .ensures) ∙ c .before .enum-told .given .1) in
     mul-le-mul (f .n-high) (c .width-of .ensures .2)
 
-check-header-requires : tie.Need-check-header-requires
-check-header-requires c κs = search needs
-
-enum-told : tie.Need-enum-told
-enum-told c = search needs
-
-enum-told-2 : tie.Need-enum-told-2
-enum-told-2 c = search needs
-
 returns : tie.Need-returns
 returns c = let e = c .before .before .check-header .ensures in e ∙ then-stop _ _ (sym e ∙ c .enum-told2 .given .1)
-
-width-of-requires : tie.Need-width-of-requires
-width-of-requires c κs = search needs
 
 mul-check-behind : tie.Need-mul-check-behind
 mul-check-behind c = omega (arith, small c)
@@ -53,11 +41,11 @@ pub check-numbers-spec : {M : Type 1} → statement M
 check-numbers-spec =
     tie.close
     (tie.spec
-    check-header-requires
-    enum-told
-    enum-told-2
+    (λ c κs. search needs)
+    (λ c. search needs)
+    (λ c. search needs)
     returns
-    width-of-requires
+    (λ c κs. search needs)
     mul-check-behind
     add-check-behind
     check-behind-requires

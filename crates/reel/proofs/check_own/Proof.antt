@@ -15,12 +15,6 @@ use Rattle.reel.proofs.check_own.Tie as tie
 abbrev cause : (c : tie.After-number16-at) → ℕ → Check
 cause c x = let a = c .before .before .args in refuseIf (neither x (a .own)) (a .number) (placeNo (a .place))
 
-number16-at-requires : tie.Need-number16-at-requires
-number16-at-requires c κs = search needs
-
-cast-n : tie.Need-cast-n
-cast-n c = search needs
-
 returns : tie.Need-returns
 returns c =
     let w = c .before in
@@ -44,4 +38,4 @@ returns-3 c =
     k ∙ ap (cause w) (w .number16-at .ensures)
 
 pub check-own-spec : {M : Type 1} → statement M
-check-own-spec = tie.close (tie.spec number16-at-requires cast-n returns returns-2 returns-3)
+check-own-spec = tie.close (tie.spec (λ c κs. search needs) (λ c. search needs) returns returns-2 returns-3)

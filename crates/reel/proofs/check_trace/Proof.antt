@@ -53,33 +53,9 @@ fine8 : (c : tie.After-enum-told3)
     refuseIf (neither (number16 (a .reel .now) (a .at + 116)) (a .i)) 8 (a .at + 116) ≡ Fine
 fine8 c = sym (row8 (c .before .before)) ∙ c .enum-told3 .given .1
 
-field-at-requires : tie.Need-field-at-requires
-field-at-requires c κs = search needs
-
-check-own-requires : tie.Need-check-own-requires
-check-own-requires c κs = tt
-
-enum-told : tie.Need-enum-told
-enum-told c = search needs
-
-enum-told-2 : tie.Need-enum-told-2
-enum-told-2 c = search needs
-
 returns : tie.Need-returns
 unfolding traceCauses
 returns c = let e = row7 (c .before .before) in e ∙ then-stop _ _ (sym e ∙ c .enum-told2 .given .1)
-
-field-at-requires-2 : tie.Need-field-at-requires-2
-field-at-requires-2 c κs = search needs
-
-check-own-requires-2 : tie.Need-check-own-requires-2
-check-own-requires-2 c κs = tt
-
-enum-told-3 : tie.Need-enum-told-3
-enum-told-3 c = search needs
-
-enum-told-4 : tie.Need-enum-told-4
-enum-told-4 c = search needs
 
 returns-2 : tie.Need-returns-2
 unfolding traceCauses
@@ -87,9 +63,6 @@ returns-2 c =
     let b = c .before .before in
     let e = row8 b in
     e ∙ then-stop _ _ (sym e ∙ c .enum-told4 .given .1) ∙ then-next _ _ (fine7 (b .before .before))
-
-add-check-gains : tie.Need-add-check-gains
-add-check-gains c = search needs
 
 check-gains-requires : tie.Need-check-gains-requires
 check-gains-requires c κs =
@@ -121,17 +94,17 @@ pub check-trace-spec : {M : Type 1} → statement M
 check-trace-spec =
     tie.close
     (tie.spec
-    field-at-requires
-    check-own-requires
-    enum-told
-    enum-told-2
+    (λ c κs. search needs)
+    (λ c κs. tt)
+    (λ c. search needs)
+    (λ c. search needs)
     returns
-    field-at-requires-2
-    check-own-requires-2
-    enum-told-3
-    enum-told-4
+    (λ c κs. search needs)
+    (λ c κs. tt)
+    (λ c. search needs)
+    (λ c. search needs)
     returns-2
-    add-check-gains
+    (λ c. search needs)
     check-gains-requires
     returns-3
     returns-4)

@@ -20,19 +20,10 @@ Inv-loop reel code n i v w t at₀ left₀ at left =
 abbrev μ-loop : tie.MeasureT-loop
 μ-loop reel code n i v w t at₀ left₀ at left = left
 
-loop-holds : tie.Need-loop-holds Inv-loop μ-loop
-loop-holds c = search needs
-
 check-trace-requires : tie.Need-check-trace-requires Inv-loop μ-loop
 check-trace-requires c κs =
     let a = c .before .before .before in
     (a .pre .0, omega (arith, times-more (c .before .loop .left) (a .args .w) (c .loop-test .taken), a .pre .1, c .before .loop .inv .1))
-
-enum-told : tie.Need-enum-told Inv-loop μ-loop
-enum-told c = search needs
-
-enum-told-2 : tie.Need-enum-told-2 Inv-loop μ-loop
-enum-told-2 c = search needs
 
 returns : tie.Need-returns Inv-loop μ-loop
 returns c =
@@ -42,12 +33,6 @@ returns c =
 
 add-at : tie.Need-add-at Inv-loop μ-loop
 add-at c = omega (arith, times-more (c .before .before .before .before .loop .left) (c .before .before .before .before .before .before .args .w) (c .before .before .before .loop-test .taken))
-
-sub-left : tie.Need-sub-left Inv-loop μ-loop
-sub-left c = search needs
-
-loop-less : tie.Need-loop-less Inv-loop μ-loop
-loop-less c = search needs
 
 loop-again : tie.Need-loop-again Inv-loop μ-loop
 loop-again c =
@@ -68,13 +53,13 @@ check-traces-spec =
     (tie.spec
     Inv-loop
     μ-loop
-    loop-holds
+    (λ c. search needs)
     check-trace-requires
-    enum-told
-    enum-told-2
+    (λ c. search needs)
+    (λ c. search needs)
     returns
     add-at
-    sub-left
-    loop-less
+    (λ c. search needs)
+    (λ c. search needs)
     loop-again
     returns-2)

@@ -5,15 +5,6 @@ use borrow.Author.Needs.{needs}
 use Rattle.reel.proofs.judge_reel.Statement.{statement}
 use Rattle.reel.proofs.judge_reel.Tie as tie
 
-check-causes-requires : tie.Need-check-causes-requires
-check-causes-requires c κs = search needs
-
-enum-known-c : tie.Need-enum-known-c
-enum-known-c c = search needs
-
-enum-told : tie.Need-enum-told
-enum-told c = search needs
-
 own-numbers-requires : tie.Need-own-numbers-requires
 own-numbers-requires c κs = sym (c .before .before .check-causes .ensures) ∙ c .enum-told .given .1
 
@@ -22,10 +13,7 @@ returns c =
     let s = c .before .before .before .before .before .args .reel .now in
     ap (reelFound s) (sym (c .before .c .given .1) ∙ c .before .before .before .check-causes .ensures)
 
-returns-2 : tie.Need-returns-2
-returns-2 c = search needs
-
 pub judge-reel-spec : {M : Type 1} → statement M
 judge-reel-spec =
     tie.close
-    (tie.spec check-causes-requires enum-known-c enum-told own-numbers-requires returns returns-2)
+    (tie.spec (λ c κs. search needs) (λ c. search needs) (λ c. search needs) own-numbers-requires returns (λ c. search needs))

@@ -13,18 +13,6 @@ fine c = reel-fine (c .args .reel .now) (c .pre)
 small : (c : tie.After-width-of) → c .before .before .binary-number2 .result * c .width-of .result ≤ 65536 * 4
 small c = mul-le-mul (le-of-lt (c .before .before .binary-number2 .ensures .1)) (c .width-of .ensures .2)
 
-binary-number-requires : tie.Need-binary-number-requires
-binary-number-requires c κs = omega arith
-
-binary-number-requires-2 : tie.Need-binary-number-requires-2
-binary-number-requires-2 c κs = omega arith
-
-binary-number-requires-3 : tie.Need-binary-number-requires-3
-binary-number-requires-3 c κs = omega arith
-
-width-of-requires : tie.Need-width-of-requires
-width-of-requires c κs = search needs
-
 mul-stride : tie.Need-mul-stride
 mul-stride c = omega (arith, small c)
 
@@ -33,9 +21,6 @@ add-stride c = omega (arith, small c)
 
 sub-t9 : tie.Need-sub-t9
 sub-t9 c = fine (c .before .before .before .before .before) .long
-
-div-t10 : tie.Need-div-t10
-div-t10 c = search needs
 
 returns : tie.Need-returns
 returns c =
@@ -46,12 +31,12 @@ pub own-numbers-spec : {M : Type 1} → statement M
 own-numbers-spec =
     tie.close
     (tie.spec
-    binary-number-requires
-    binary-number-requires-2
-    binary-number-requires-3
-    width-of-requires
+    (λ c κs. omega arith)
+    (λ c κs. omega arith)
+    (λ c κs. omega arith)
+    (λ c κs. search needs)
     mul-stride
     add-stride
     sub-t9
-    div-t10
+    (λ c. search needs)
     returns)

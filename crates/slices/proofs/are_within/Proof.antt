@@ -39,11 +39,8 @@ returns-2 c =
     let n : a .n * a .w ≡ 0 = ap (λ (w : ℕ). a .n * w) z ∙ mul-zero (a .n) in
     sym (le-leb (a .start + a .n * a .w) (a .bytes) (omega (arith, c .before .if1 .left, n)))
 
-div-result : tie.Need-div-result
-div-result c = search needs
-
 returns-3 : tie.Need-returns-3
 returns-3 c = let a = c .before .before .args in quotient (a .bytes) (a .n) (a .w) (a .start) (c .before .if1 .left) (omega (arith, c .if2 .left))
 
 pub are-within-spec : {M : Type 1} → statement M
-are-within-spec = tie.close (tie.spec returns returns-2 div-result returns-3)
+are-within-spec = tie.close (tie.spec returns returns-2 (λ c. search needs) returns-3)

@@ -12,23 +12,11 @@ returns c =
     let a = c .before .args in
     sym (List·getD-eq-default (a .s .now) 0 {n = a .at + a .k} (omega (arith, c .if1 .taken)))
 
-sub-if2 : tie.Need-sub-if2
-sub-if2 c = search needs
-
 returns-2 : tie.Need-returns-2
 returns-2 c =
     let a = c .before .before .args in
     sym (List·getD-eq-default (a .s .now) 0 {n = a .at + a .k} (omega (arith, c .before .if1 .left, c .if2 .taken)))
 
-add-result : tie.Need-add-result
-add-result c = search needs
-
-shared-slice-read-result : tie.Need-shared-slice-read-result
-shared-slice-read-result c = search needs
-
-returns-3 : tie.Need-returns-3
-returns-3 c = search needs
-
 pub byte-after-spec : {M : Type 1} → statement M
 byte-after-spec =
-    tie.close (tie.spec returns sub-if2 returns-2 add-result shared-slice-read-result returns-3)
+    tie.close (tie.spec returns (λ c. search needs) returns-2 (λ c. search needs) (λ c. search needs) (λ c. search needs))

@@ -6,9 +6,6 @@ use native.Mathlib.Omega.{arith}
 use Rattle.slices.proofs.make_up.Statement.{statement}
 use Rattle.slices.proofs.make_up.Tie as tie
 
-are-within-requires : tie.Need-are-within-requires
-are-within-requires c κs = tt
-
 returns : tie.Need-returns
 returns c =
     let a = c .before .before .args in
@@ -22,8 +19,5 @@ mul-result c =
     let l : 0 + s .args .n * s .args .w ≤ s .args .bytes = leb-true (0 + s .args .n * s .args .w) (s .args .bytes) (sym (c .before .are-within .ensures) ∙ not-false (c .before .are-within .result) (c .if1 .left)) in
     omega (arith, l, s .fits .bytes .fits)
 
-returns-2 : tie.Need-returns-2
-returns-2 c = refl
-
 pub make-up-spec : {M : Type 1} → statement M
-make-up-spec = tie.close (tie.spec are-within-requires returns mul-result returns-2)
+make-up-spec = tie.close (tie.spec (λ c κs. tt) returns mul-result (λ c. refl))

@@ -10,15 +10,6 @@ use borrow.Author.Needs.{needs}
 use Rattle.slices.proofs.number16_at.Statement.{statement}
 use Rattle.slices.proofs.number16_at.Tie as tie
 
-byte-after-requires : tie.Need-byte-after-requires
-byte-after-requires c κs = search needs
-
-byte-after-requires-2 : tie.Need-byte-after-requires-2
-byte-after-requires-2 c κs = search needs
-
-be16-requires : tie.Need-be16-requires
-be16-requires c κs = search needs
-
 returns : tie.Need-returns
 unfolding bytesAt
 returns c =
@@ -27,4 +18,4 @@ returns c =
     c .be16 .ensures ∙ ap₂ (λ (x y : ℕ). number (x ∷ y ∷ [])) high (c .before .byte-after2 .ensures)
 
 pub number16-at-spec : {M : Type 1} → statement M
-number16-at-spec = tie.close (tie.spec byte-after-requires byte-after-requires-2 be16-requires returns)
+number16-at-spec = tie.close (tie.spec (λ c κs. search needs) (λ c κs. search needs) (λ c κs. search needs) returns)

@@ -9,21 +9,6 @@ use borrow.Author.Needs.{needs}
 use Rattle.slices.proofs.number32_at.Statement.{statement}
 use Rattle.slices.proofs.number32_at.Tie as tie
 
-byte-after-requires : tie.Need-byte-after-requires
-byte-after-requires c κs = search needs
-
-byte-after-requires-2 : tie.Need-byte-after-requires-2
-byte-after-requires-2 c κs = search needs
-
-byte-after-requires-3 : tie.Need-byte-after-requires-3
-byte-after-requires-3 c κs = search needs
-
-byte-after-requires-4 : tie.Need-byte-after-requires-4
-byte-after-requires-4 c κs = search needs
-
-be32-requires : tie.Need-be32-requires
-be32-requires c κs = search needs
-
 returns : tie.Need-returns
 returns c =
     let d = c .before .before in
@@ -37,9 +22,9 @@ pub number32-at-spec : {M : Type 1} → statement M
 number32-at-spec =
     tie.close
     (tie.spec
-    byte-after-requires
-    byte-after-requires-2
-    byte-after-requires-3
-    byte-after-requires-4
-    be32-requires
+    (λ c κs. search needs)
+    (λ c κs. search needs)
+    (λ c κs. search needs)
+    (λ c κs. search needs)
+    (λ c κs. search needs)
     returns)

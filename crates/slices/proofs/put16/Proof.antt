@@ -16,9 +16,6 @@ returns : tie.Need-returns
 unfolding copyOf
 returns c = let a = c .before .before .args in rw (ne-eqb (length (a .out .now)) 2 (c .if1 .taken))
 
-bytes16-requires : tie.Need-bytes16-requires
-bytes16-requires c κs = tt
-
 array-read-out : tie.Need-array-read-out
 array-read-out c = lit< tt
 
@@ -48,7 +45,7 @@ put16-spec =
     tie.close
     (tie.spec
     returns
-    bytes16-requires
+    (λ c κs. tt)
     array-read-out
     slice-write-out
     array-read-out-2

@@ -16,9 +16,6 @@ returns : tie.Need-returns
 unfolding copyOf
 returns c = let a = c .before .before .args in rw (ne-eqb (length (a .out .now)) 4 (c .if1 .taken))
 
-bytes32-requires : tie.Need-bytes32-requires
-bytes32-requires c κs = tt
-
 array-read-out : tie.Need-array-read-out
 array-read-out c = lit< tt
 
@@ -64,7 +61,7 @@ put32-spec =
     tie.close
     (tie.spec
     returns
-    bytes32-requires
+    (λ c κs. tt)
     array-read-out
     slice-write-out
     array-read-out-2
