@@ -49,10 +49,6 @@ code-limits code h = go (leb 1 code) (leb code 4) refl refl h
     go true false p q e = absurd (subst T (sym e) tt)
     go false y p q e = absurd (subst T (sym e) tt)
 
--- the code that is left
-pub last-code : (code : ℕ) → isCode code ≡ true → (code ≡ 1 → ⊥) → (code ≡ 2 → ⊥) → (code ≡ 3 → ⊥) → code ≡ 4
-last-code code h a b c = omega (arith, code-limits code h)
-
 -- ## Where nothing is found
 
 pub both-true : (a b : Bool) → not (a && b) ≡ false → (a ≡ true) × (b ≡ true)
