@@ -98,7 +98,7 @@ pub signed-flip : (w : Width) (n k : ℕ) → 2 ^ hbits w ≤ n → k < 2 ^ hbit
 signed-flip w n k h l e = rw (toZ-pos w l, minus-one (pos k), toZ-above w n h, e)
 
 -- a power of two is two halves
-double : (w : ℕ) → 0 < w → 2 ^ w ≡ 2 ^ (w - 1) + 2 ^ (w - 1)
+pub double : (w : ℕ) → 0 < w → 2 ^ w ≡ 2 ^ (w - 1) + 2 ^ (w - 1)
 double w h = let e : w ≡ suc (w - 1) = omega arith in ap (λ (x : ℕ). 2 ^ x) e ∙ omega (arith, pow-suc 2 (w - 1))
 
 -- bits and signed numbers of w bits determine each other

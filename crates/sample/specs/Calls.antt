@@ -22,25 +22,27 @@ abbrev pub saidBy : Answer → Said
 saidBy answer.Taken = taken []
 saidBy (answer.Refused number place) = refused number (placeNo place)
 
--- What a call hands out, in document 01's terms.
+-- What reading a word hands out, in document 01's terms; and what writing a pair does.
 abbrev pub wordRead : WordRead → Outcome
 wordRead r = record { said = saidBy (r .answer); bytes = r .pair }
 
 abbrev pub pairWritten : PairWritten → Outcome
 pairWritten r = record { said = saidBy (r .answer); bytes = r .word }
 
--- The outcome of reading a single word. Beside a refusal the place is 0 and the bytes handed out are all 00.
+-- The outcome of reading a word, by what was found: beside a refusal the place is 0 and the bytes handed out are all 00.
 abbrev pub readSaid : Sample → Outcome
 readSaid (sample.Taken e m) = record { said = taken []; bytes = pairBytes e m }
 readSaid (sample.Refused number) = record { said = refused number 0; bytes = replicate pairLength 0 }
 
+-- The outcome of reading a single word under a code.
 abbrev pub wordOutcome : ℕ → List ℕ → Outcome
 wordOutcome code w = readSaid (readWord code w)
 
--- The outcome of writing a single pair.
+-- The outcome of writing a pair, by what was found.
 abbrev pub writeSaid : Written → Outcome
 writeSaid (written.Word n) = record { said = taken []; bytes = bytesOf 4 n }
 writeSaid (written.Refused number) = record { said = refused number 0; bytes = replicate 4 0 }
 
+-- The outcome of writing a single pair under a code.
 abbrev pub pairOutcome : ℕ → List ℕ → Outcome
 pairOutcome code b = writeSaid (writePair code (pairIn b))

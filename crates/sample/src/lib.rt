@@ -153,9 +153,10 @@ pub fn gain(first: u8, g: u8, high: u8, low: u8) -> Sample
 pub fn read(code: u32, word: [u8; 4]) -> Sample
     ensures { λ r. ⌜ r ≡ readWord code word ⌝ }
 {
+    let n = numbers::be32(word[0], word[1], word[2], word[3]);
     match code {
-        1 => ibm(numbers::be32(word[0], word[1], word[2], word[3])),
-        2 => whole32(numbers::be32(word[0], word[1], word[2], word[3])),
+        1 => ibm(n),
+        2 => whole32(n),
         3 => whole16(numbers::be16(word[0], word[1])),
         4 => gain(word[0], word[1], word[2], word[3]),
         _ => Sample::Refused { number: BAD_CODE },

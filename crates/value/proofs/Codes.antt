@@ -23,3 +23,11 @@ code-is code h =
     let hi = leb-true code 4 (t .1) in
     ⊎-elim (λ (a : code < 2). inl (omega arith))
     (λ (a : 2 ≤ code). inr (⊎-elim (λ (b : code < 3). inl (omega arith)) (λ (b : 3 ≤ code). inr (⊎-elim (λ (c : code < 4). inl (omega arith)) (λ (c : 4 ≤ code). inr (omega arith)) (below-or code 4))) (below-or code 3))) (below-or code 2)
+
+-- the code that is none of the first three
+pub fourth : (code : ℕ) → isCode code ≡ true → (code ≡ 1 → ⊥) → (code ≡ 2 → ⊥) → (code ≡ 3 → ⊥) → code ≡ 4
+fourth code h a b c =
+    let t = and-true (leb 1 code) (leb code 4) h in
+    let lo = leb-true 1 code (t .0) in
+    let hi = leb-true code 4 (t .1) in
+    omega arith

@@ -8,7 +8,7 @@ pub mod WholeLaws
 pub mod Held
 pub mod WrittenLaws
 pub mod WordBytes
+pub mod Codes
 pub mod Apart
 pub mod PartsLaws
 pub mod PairBytes
-pub mod Codes

@@ -1,6 +1,7 @@
 -- What writing a pair gives, by the pair's parts. Assumes nothing.
 use Prim.Native.Nat.{ℕ, _*_, _^_}
-use mathlib.Core.Path.{_≡_, refl}
+use mathlib.Core.Path.{_≡_}
+use mathlib.Core.Logic.{_⊎_, inl, inr}
 use mathlib.Core.Bool.{Bool, true}
 use lib.IntN.{pos}
 use Rattle.numbers.specs.First.{first}
@@ -10,28 +11,25 @@ use Rattle.value.specs.Parts.{PartsOf}
 use Rattle.value.specs.declared.Pair.{Pair}
 use Rattle.value.specs.declared.Parts.the-variants.{NotCanonical, Zero, Odd}
 use Rattle.value.specs.declared.Written.the-variants.{Word, Refused}
+use Rattle.value.proofs.Codes.{code-is}
+
+-- zero is written as 00000000 under every code
+zero-word : (code : ℕ) → isCode code ≡ true → wordOf code (pos 0) ≡ Word 0
+unfolding first isNormal
+zero-word code i = go code (code-is code i)
+  where
+    go : (code : ℕ) → (code ≡ 1) ⊎ ((code ≡ 2) ⊎ ((code ≡ 3) ⊎ (code ≡ 4))) → wordOf code (pos 0) ≡ Word 0
+    go code (inl e) = rw e
+    go code (inr (inl e)) = rw e
+    go code (inr (inr (inl e))) = rw e
+    go code (inr (inr (inr e))) = rw e
 
 module _ (code : ℕ) (p : Pair) (i : isCode code ≡ true) where
   pub not-canonical : PartsOf p NotCanonical → writePair code p ≡ Refused 13
   not-canonical h = rw (i, h)
 
-  pub zero-pair : wordOf code (pos 0) ≡ Word 0 → PartsOf p Zero → writePair code p ≡ Word 0
-  zero-pair w h = rw (i, h .0, h .1) w
+  pub zero-pair : PartsOf p Zero → writePair code p ≡ Word 0
+  zero-pair h = rw (i, h .0, h .1) (zero-word code i)
 
   pub odd-pair : (s : Bool) (o k : ℕ) → PartsOf p (Odd s o k) → writePair code p ≡ wordOf code (signMagnitude s (o * 2 ^ k))
   odd-pair s o k h = rw (i, h .0, h .1 .value)
-
--- zero is written as 00000000 under every code
-pub zero-ibm : wordOf 1 (pos 0) ≡ Word 0
-unfolding first isNormal
-zero-ibm = refl
-
-pub zero-whole32 : wordOf 2 (pos 0) ≡ Word 0
-zero-whole32 = refl
-
-pub zero-whole16 : wordOf 3 (pos 0) ≡ Word 0
-zero-whole16 = refl
-
-pub zero-gain : wordOf 4 (pos 0) ≡ Word 0
-unfolding first
-zero-gain = refl

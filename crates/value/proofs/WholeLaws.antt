@@ -1,19 +1,20 @@
 -- The words of ± o × 2 ^ k under codes 2, 3 and 4, for an odd o. Assumes nothing.
-use mathlib.Core.Path.{_≡_, sym, ap, _∙_, subst}
+use mathlib.Core.Path.{_≡_, refl, sym, ap, _∙_, subst}
 use mathlib.Core.Logic.{_⊎_, inl, inr, ⊎-elim}
-use mathlib.Core.Bool.{Bool, false}
+use mathlib.Core.Bool.{Bool, true, false}
 use Prim.Native.Nat.{ℕ, _+_, _-_, _*_, _%_, _^_, _≤_, _<_, min}
-use native.Mathlib.Nat.{le-trans, mul-le-mul-left, mul-le-mul-right, one-mul}
+use native.Mathlib.Nat.{le-trans, mul-le-mul-left, mul-le-mul-right, one-mul, suc-mul}
 use native.Mathlib.Omega.{arith}
 use borrow.Author.Tests.{lt-ltb}
 use lib.Pow.{pow-mono}
 use Rattle.numbers.specs.Walk.{pick}
 use Rattle.numbers.specs.TwosComplement.{bitsOf}
-use Rattle.numbers.proofs.SignLaws.{below-or}
+use Rattle.numbers.proofs.SignLaws.{below-or, double}
 use Rattle.value.specs.Value.{denominatorPower, signMagnitude}
 use Rattle.value.specs.Writing.{wholeWord, gainFits, gainAt, gainWord}
 use Rattle.value.specs.declared.Written.the-variants.{Word, Refused}
 use Rattle.numbers.proofs.FirstLaws.{first-at, none-passes}
+use Rattle.value.proofs.Magnitudes.{bits-signed-neg}
 use Rattle.value.proofs.Exact.{holds-yes, holds-big, holds-odd, number-at}
 
 -- an odd number that is shifted up by 32 or more is beyond every limit of at most 2 ^ 32
@@ -22,6 +23,23 @@ far-up o t n e h b = le-trans b (le-trans (pow-mono h) (rw one-mul at (mul-le-mu
   where
     one : 1 ≤ o
     one = omega arith
+
+-- numbers of at most 32 bits in two's complement, by sign and magnitude
+module _ (w : ℕ) (some : 0 < w) (most : w ≤ 32) where
+  pub half-le : 2 ^ (w - 1) ≤ 2 ^ 31
+  half-le = pow-mono {j = 31} (omega arith)
+
+  pub magnitude-le : (s : Bool) (q : ℕ) → q < 2 ^ (w - 1) + pick s 1 0 → q ≤ 2 ^ (w - 1)
+  magnitude-le false q l = omega arith
+  magnitude-le true q l = omega arith
+
+  pub bits-of : (s : Bool) (q : ℕ) → 0 < q → q < 2 ^ (w - 1) + pick s 1 0 → (pick s (2 ^ w - q) q ≡ bitsOf w (signMagnitude s q)) × (pick s (2 ^ w - q) q < 2 ^ w)
+  bits-of false q h l = (refl, omega (arith, double w some))
+  bits-of true q h l = (sym (bits-signed-neg w q h), omega (arith, double w some))
+
+-- bits times a factor that leaves room for them
+pub times-fits : (w up n : ℕ) → 0 < up → 2 ^ w * up ≤ 2 ^ 32 → n < 2 ^ w → n * up < 2 ^ 32
+times-fits w up n p h l = omega (arith, mul-le-mul-right up l, suc-mul n up)
 
 module _ (s : Bool) (o k : ℕ) (e : o % 2 ≡ 1) where
   module _ (w up : ℕ) where

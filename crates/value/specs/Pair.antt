@@ -19,13 +19,14 @@ highestExponent = 251
 abbrev pub mantissaBits : ℕ
 mantissaBits = 32
 
--- How often 2 divides a number other than 0. The first argument is a count of steps that is enough, then come the lowest binary digit
--- and the digits above it.
+-- How often 2 divides a number other than 0, by its binary digits: the first argument is a count of steps that is enough, then come the
+-- lowest digit and the digits above it.
 unfoldable pub twosIn : ℕ → ℕ → ℕ → ℕ
 twosIn zero d h = zero
 twosIn (suc k) zero h = suc (twosIn k (h % 2) (h / 2))
 twosIn (suc k) (suc d) h = zero
 
+-- How often 2 divides a number other than 0.
 unfoldable pub twos : ℕ → ℕ
 twos n = twosIn n (n % 2) (n / 2)
 

@@ -19,13 +19,15 @@ abbrev pub signMagnitude : Bool → ℕ → ℤ
 signMagnitude false a = pos a
 signMagnitude true a = negℤ (pos a)
 
--- An IBM word as a number of 32 bits: sign bit S, 7-bit characteristic C, 24-bit fraction F.
+-- An IBM word as a number of 32 bits: the sign bit S,
 abbrev pub signBit : ℕ → Bool
 signBit n = leb (2 ^ 31) n
 
+-- the 7-bit characteristic C
 abbrev pub characteristic : ℕ → ℕ
 characteristic n = n / 2 ^ 24 % 128
 
+-- and the 24-bit fraction F.
 abbrev pub fraction : ℕ → ℕ
 fraction n = n % 2 ^ 24
 

@@ -1,14 +1,14 @@
 // What a sample is worth: the canonical pair, and the word of a pair under codes 1 to 4.
 ghost use mathlib.Core.Path.{_≡_};
-ghost use Prim.Native.Nat.{_+_, _*_, _%_, _^_, _<_, _≤_, min};
+ghost use Prim.Native.Nat.{_+_, _-_, _*_, _%_, _^_, _<_, _≤_, min};
 ghost use mathlib.Core.Bool.{true, _&&_};
 ghost use lib.Dec.{leb, ltb};
 ghost use lib.IntN.{pos, natAbs, _+ℤ_};
 ghost use Rattle.numbers.specs.Walk.{pick};
 ghost use Rattle.numbers.specs.TwosComplement.{signedOf, bitsOf};
-ghost use Rattle.value.specs.Value.{denominatorPower, signMagnitude};
+ghost use Rattle.value.specs.Value.{denominatorPower, signMagnitude, isCode};
 ghost use Rattle.value.specs.Pair.{highestExponent, isExponent, isCanonical, pairOfBits, pairIn};
-ghost use Rattle.value.specs.Writing.{ibmWord, wholeWord, gainWord, writePair, wordBits};
+ghost use Rattle.value.specs.Writing.{ibmWord, wholeWord, gainWord, wordOf, writePair, wordBits};
 ghost use Rattle.value.specs.Parts.{PartsOf, WholeBelow};
 
 // A sample as exponent and mantissa: the value m × 2^e.
@@ -52,12 +52,14 @@ pub fn magnitude32(n: u32) -> u32
     }
 }
 
+// The lesser of two numbers.
 fn lesser(a: u32, b: u32) -> u32
     ensures { λ r. ⌜ r ≡ min a b ⌝ }
 {
     if a < b { a } else { b }
 }
 
+// The sign bit of a word, in its place.
 fn sign_bit(neg: bool) -> u32
     ensures { λ r. ⌜ (r ≡ pick neg (2 ^ 31) 0) × (r ≤ 2 ^ 31) ⌝ }
 {
@@ -72,7 +74,7 @@ fn digits(f: u32) -> u32
     (u32::leading_zeros(f) - 8) / 4
 }
 
-// Shifts up that lose nothing.
+// A shift up into 64 bits, and one in 32 bits, that lose nothing.
 fn shifted_wide(a: u32, s: u32) -> u64
     requires { ⌜ s ≤ 32 ⌝ }
     ensures { λ r. ⌜ r ≡ a * 2 ^ s ⌝ }
@@ -104,33 +106,25 @@ fn ibm_of(neg: bool, o: u32, k: u32) -> Written
     Written::Word { bits }
 }
 
-// One more than the largest magnitude of a number of that sign, of 32 and of 16 bits in two's
-// complement.
-fn limit32(neg: bool) -> u64
-    ensures { λ r. ⌜ (r ≡ 2 ^ 31 + pick neg 1 0) × (r ≤ 2 ^ 32) ⌝ }
+// One more than the largest magnitude of a number of that sign, of w bits in two's complement.
+fn limit(w: u32, neg: bool) -> u64
+    requires { ⌜ (0 < w) × (w ≤ 32) ⌝ }
+    ensures { λ r. ⌜ (r ≡ 2 ^ (w - 1) + pick neg 1 0) × (r ≤ 2 ^ 32) ⌝ }
 {
-    if neg { 0x8000_0001 } else { 0x8000_0000 }
+    let half = shifted_wide(1, w - 1);
+    if neg { half + 1 } else { half }
 }
 
-fn limit16(neg: bool) -> u64
-    ensures { λ r. ⌜ (r ≡ 2 ^ 15 + pick neg 1 0) × (r ≤ 2 ^ 16) ⌝ }
+// The bits of a number of w bits, given by sign and magnitude.
+fn complement(w: u32, neg: bool, q: u32) -> u32
+    requires { ⌜ (0 < w) × (w ≤ 32) × (0 < q) × (q < 2 ^ (w - 1) + pick neg 1 0) ⌝ }
+    ensures { λ r. ⌜ (r ≡ bitsOf w (signMagnitude neg q)) × (r < 2 ^ w) ⌝ }
 {
-    if neg { 0x8001 } else { 0x8000 }
-}
-
-// The bits of a number of 32 and of 16 bits, given by sign and magnitude.
-fn complement32(neg: bool, q: u32) -> u32
-    requires { ⌜ (0 < q) × (q < 2 ^ 31 + pick neg 1 0) ⌝ }
-    ensures { λ r. ⌜ r ≡ bitsOf 32 (signMagnitude neg q) ⌝ }
-{
-    if neg { 0xffff_ffff - q + 1 } else { q }
-}
-
-fn complement16(neg: bool, q: u32) -> u32
-    requires { ⌜ (0 < q) × (q < 2 ^ 15 + pick neg 1 0) ⌝ }
-    ensures { λ r. ⌜ (r ≡ bitsOf 16 (signMagnitude neg q)) × (r < 2 ^ 16) ⌝ }
-{
-    if neg { 0x1_0000 - q } else { q }
+    if neg {
+        (shifted_wide(1, w) - q as u64) as u32
+    } else {
+        q
+    }
 }
 
 // A whole number below a limit, or none.
@@ -164,33 +158,20 @@ fn whole_below(o: u32, k: u32, limit: u64) -> Whole
     Whole::Beyond
 }
 
-// The word of V = ± o × 2^k under code 2, for an odd o.
-fn whole32_of(neg: bool, o: u32, k: u32) -> Written
-    requires { ⌜ o % 2 ≡ 1 ⌝ }
-    ensures { λ r. ⌜ r ≡ wholeWord 32 1 (signMagnitude neg (o * 2 ^ k)) ⌝ }
+// The word of V = ± o × 2^k as a number of w bits, for an odd o. The bits are multiplied by `up`, which leaves room for them.
+fn whole_of(w: u32, up: u32, neg: bool, o: u32, k: u32) -> Written
+    requires { ⌜ (0 < w) × (w ≤ 32) × (0 < up) × (2 ^ w * up ≤ 2 ^ 32) × (o % 2 ≡ 1) ⌝ }
+    ensures { λ r. ⌜ r ≡ wholeWord w up (signMagnitude neg (o * 2 ^ k)) ⌝ }
 {
-    match whole_below(o, k, limit32(neg)) {
+    match whole_below(o, k, limit(w, neg)) {
         Whole::Below { q } => Written::Word {
-            bits: complement32(neg, q),
+            bits: complement(w, neg, q) * up,
         },
         Whole::Beyond => Written::Refused { number: UNFIT },
     }
 }
 
-// The same under code 3, in the word's first two bytes.
-fn whole16_of(neg: bool, o: u32, k: u32) -> Written
-    requires { ⌜ o % 2 ≡ 1 ⌝ }
-    ensures { λ r. ⌜ r ≡ wholeWord 16 (2 ^ 16) (signMagnitude neg (o * 2 ^ k)) ⌝ }
-{
-    match whole_below(o, k, limit16(neg)) {
-        Whole::Below { q } => Written::Word {
-            bits: complement16(neg, q) * 0x1_0000,
-        },
-        Whole::Beyond => Written::Refused { number: UNFIT },
-    }
-}
-
-// The same under code 4, with the smallest gain: the least g at which o × 2^(k + g - 280) is whole.
+// The word of V = ± o × 2^k under code 4, for an odd o, with the smallest gain: the least g at which o × 2^(k + g - 280) is whole.
 fn gain_of(neg: bool, o: u32, k: u32) -> Written
     requires { ⌜ (o % 2 ≡ 1) × (k ≤ denominatorPower + highestExponent) ⌝ }
     ensures { λ r. ⌜ r ≡ gainWord (signMagnitude neg (o * 2 ^ k)) ⌝ }
@@ -199,9 +180,9 @@ fn gain_of(neg: bool, o: u32, k: u32) -> Written
     if 256 <= g {
         return Written::Refused { number: UNFIT };
     }
-    match whole_below(o, k + g, limit16(neg)) {
+    match whole_below(o, k + g, limit(16, neg)) {
         Whole::Below { q } => Written::Word {
-            bits: g * 0x1_0000 + complement16(neg, q),
+            bits: g * 0x1_0000 + complement(16, neg, q),
         },
         Whole::Beyond => Written::Refused { number: UNFIT },
     }
@@ -243,6 +224,7 @@ enum Parts {
 }
 
 impl Pair {
+    // The pair taken apart.
     fn parts(self) -> Parts
         ensures { λ r. ⌜ PartsOf self r ⌝ }
     {
@@ -278,111 +260,128 @@ impl Pair {
         }
     }
 
-    // The normal word under code 1.
+    // The word under each code: the normal word, the number itself of 32 and of 16 bits, the latter in the word's first two bytes, and the
+    // word of the smallest gain.
     pub fn ibm_word(self) -> Written
         ensures { λ r. ⌜ r ≡ writePair 1 self ⌝ }
     {
-        match self.parts() {
-            Parts::NotCanonical => Written::Refused {
-                number: NOT_CANONICAL,
-            },
-            Parts::Zero => Written::Word { bits: ZERO_WORD },
-            Parts::Odd { neg, o, k } => ibm_of(neg, o, k),
-        }
+        word(1, self)
     }
 
-    // The number itself under code 2.
     pub fn whole32_word(self) -> Written
         ensures { λ r. ⌜ r ≡ writePair 2 self ⌝ }
     {
-        match self.parts() {
-            Parts::NotCanonical => Written::Refused {
-                number: NOT_CANONICAL,
-            },
-            Parts::Zero => Written::Word { bits: ZERO_WORD },
-            Parts::Odd { neg, o, k } => whole32_of(neg, o, k),
-        }
+        word(2, self)
     }
 
-    // The number itself under code 3, in the word's first two bytes.
     pub fn whole16_word(self) -> Written
         ensures { λ r. ⌜ r ≡ writePair 3 self ⌝ }
     {
-        match self.parts() {
-            Parts::NotCanonical => Written::Refused {
-                number: NOT_CANONICAL,
-            },
-            Parts::Zero => Written::Word { bits: ZERO_WORD },
-            Parts::Odd { neg, o, k } => whole16_of(neg, o, k),
-        }
+        word(3, self)
     }
 
-    // The word of the smallest gain under code 4.
     pub fn gain_word(self) -> Written
         ensures { λ r. ⌜ r ≡ writePair 4 self ⌝ }
     {
-        match self.parts() {
-            Parts::NotCanonical => Written::Refused {
-                number: NOT_CANONICAL,
-            },
-            Parts::Zero => Written::Word { bits: ZERO_WORD },
-            Parts::Odd { neg, o, k } => gain_of(neg, o, k),
-        }
+        word(4, self)
     }
 
-    // The bits of the pair's word under each code, 0 where it has none: for a caller who knows that it has one.
+    // The bits of that word, 0 where there is none: for a caller who knows that there is one.
     pub fn ibm_bits(self) -> u32
         ensures { λ r. ⌜ r ≡ wordBits (writePair 1 self) ⌝ }
     {
-        match self.parts() {
-            Parts::NotCanonical => ZERO_WORD,
-            Parts::Zero => ZERO_WORD,
-            Parts::Odd { neg, o, k } => bits_of(ibm_of(neg, o, k)),
-        }
+        bits(1, self)
     }
 
     pub fn whole32_bits(self) -> u32
         ensures { λ r. ⌜ r ≡ wordBits (writePair 2 self) ⌝ }
     {
-        match self.parts() {
-            Parts::NotCanonical => ZERO_WORD,
-            Parts::Zero => ZERO_WORD,
-            Parts::Odd { neg, o, k } => bits_of(whole32_of(neg, o, k)),
-        }
+        bits(2, self)
     }
 
     pub fn whole16_bits(self) -> u32
         ensures { λ r. ⌜ r ≡ wordBits (writePair 3 self) ⌝ }
     {
-        match self.parts() {
-            Parts::NotCanonical => ZERO_WORD,
-            Parts::Zero => ZERO_WORD,
-            Parts::Odd { neg, o, k } => bits_of(whole16_of(neg, o, k)),
-        }
+        bits(3, self)
     }
 
     pub fn gain_bits(self) -> u32
         ensures { λ r. ⌜ r ≡ wordBits (writePair 4 self) ⌝ }
     {
-        match self.parts() {
-            Parts::NotCanonical => ZERO_WORD,
-            Parts::Zero => ZERO_WORD,
-            Parts::Odd { neg, o, k } => bits_of(gain_of(neg, o, k)),
-        }
+        bits(4, self)
     }
+}
+
+// The word of V = ± o × 2^k under a code, which is 1 to 4, for an odd o.
+fn word_at(code: u32, neg: bool, o: u32, k: u32) -> Written
+    requires { ⌜ (isCode code ≡ true) × (o % 2 ≡ 1) × (k ≤ denominatorPower + highestExponent) ⌝ }
+    ensures { λ r. ⌜ r ≡ wordOf code (signMagnitude neg (o * 2 ^ k)) ⌝ }
+{
+    match code {
+        1 => ibm_of(neg, o, k),
+        2 => whole_of(32, 1, neg, o, k),
+        3 => whole_of(16, 0x1_0000, neg, o, k),
+        _ => gain_of(neg, o, k),
+    }
+}
+
+// The bits of that word, 0 where there is none. Each arm gives a number, so that no answer is packed and unpacked.
+fn bits_at(code: u32, neg: bool, o: u32, k: u32) -> u32
+    requires { ⌜ (isCode code ≡ true) × (o % 2 ≡ 1) × (k ≤ denominatorPower + highestExponent) ⌝ }
+    ensures { λ r. ⌜ r ≡ wordBits (wordOf code (signMagnitude neg (o * 2 ^ k))) ⌝ }
+{
+    match code {
+        1 => bits_of(ibm_of(neg, o, k)),
+        2 => bits_of(whole_of(32, 1, neg, o, k)),
+        3 => bits_of(whole_of(16, 0x1_0000, neg, o, k)),
+        _ => bits_of(gain_of(neg, o, k)),
+    }
+}
+
+// The word of a pair under a code, which is 1 to 4.
+fn word(code: u32, p: Pair) -> Written
+    requires { ⌜ isCode code ≡ true ⌝ }
+    ensures { λ r. ⌜ r ≡ writePair code p ⌝ }
+{
+    match p.parts() {
+        Parts::NotCanonical => Written::Refused {
+            number: NOT_CANONICAL,
+        },
+        Parts::Zero => Written::Word { bits: ZERO_WORD },
+        Parts::Odd { neg, o, k } => word_at(code, neg, o, k),
+    }
+}
+
+// The bits of that word, 0 where there is none.
+fn bits(code: u32, p: Pair) -> u32
+    requires { ⌜ isCode code ≡ true ⌝ }
+    ensures { λ r. ⌜ r ≡ wordBits (writePair code p) ⌝ }
+{
+    match p.parts() {
+        Parts::NotCanonical => ZERO_WORD,
+        Parts::Zero => ZERO_WORD,
+        Parts::Odd { neg, o, k } => bits_at(code, neg, o, k),
+    }
+}
+
+// Whether a code is one of the four.
+fn is_code(code: u32) -> bool
+    ensures { λ r. ⌜ r ≡ isCode code ⌝ }
+{
+    if code < 1 {
+        return false;
+    }
+    code <= 4
 }
 
 // The word of a pair under a code.
 pub fn write(code: u32, p: Pair) -> Written
     ensures { λ r. ⌜ r ≡ writePair code p ⌝ }
 {
-    match code {
-        1 => p.ibm_word(),
-        2 => p.whole32_word(),
-        3 => p.whole16_word(),
-        4 => p.gain_word(),
-        _ => Written::Refused { number: BAD_TARGET },
+    if is_code(code) {
+        return word(code, p);
     }
+    Written::Refused { number: BAD_TARGET }
 }
 
 // The pair of the 16 bits of e and the 32 of m.

@@ -1,8 +1,6 @@
 -- `sample::read` meets its contract. Assumes nothing.
 use Rattle.value.proofs.Codes.{no-code}
-use Rattle.numbers.specs.Walk.{pick, bytesAt}
-use mathlib.Core.Bool.{Bool, true, false, not}
-use mathlib.Core.Path.{_≡_, refl}
+use Rattle.numbers.specs.Walk.{bytesAt}
 use borrow.Author.Needs.{needs}
 use Rattle.sample.proofs.read.Statement.{statement}
 use Rattle.sample.proofs.read.Tie as tie
@@ -24,21 +22,6 @@ be32-requires c κs = search needs
 
 ibm-requires : tie.Need-ibm-requires
 ibm-requires c κs = search needs
-
-array-read-be32-5 : tie.Need-array-read-be32-5
-array-read-be32-5 c = search needs
-
-array-read-be32-6 : tie.Need-array-read-be32-6
-array-read-be32-6 c = search needs
-
-array-read-be32-7 : tie.Need-array-read-be32-7
-array-read-be32-7 c = search needs
-
-array-read-be32-8 : tie.Need-array-read-be32-8
-array-read-be32-8 c = search needs
-
-be32-requires-2 : tie.Need-be32-requires-2
-be32-requires-2 c κs = search needs
 
 whole32-requires : tie.Need-whole32-requires
 whole32-requires c κs = search needs
@@ -72,11 +55,11 @@ gain-requires c κs = search needs
 
 returns : tie.Need-returns
 unfolding bytesAt
-returns c = rw (c .before .before .match .keys1, ← (c .before .be32 .ensures)) (c .ibm .ensures)
+returns c = rw (c .before .match .keys1, ← (c .before .before .be32 .ensures)) (c .ibm .ensures)
 
 returns-2 : tie.Need-returns-2
 unfolding bytesAt
-returns-2 c = rw (c .before .before .match .keys2, ← (c .before .be322 .ensures)) (c .whole32 .ensures)
+returns-2 c = rw (c .before .match .keys2, ← (c .before .before .be32 .ensures)) (c .whole32 .ensures)
 
 returns-3 : tie.Need-returns-3
 unfolding bytesAt
@@ -89,7 +72,7 @@ returns-4 c = rw (c .before .match .keys4) (c .gain .ensures)
 returns-5 : tie.Need-returns-5
 returns-5 c =
     let r = c .match .rest in
-    rw (no-code (c .before .args .code) (r .0 .0 .0 .1) (r .0 .0 .1) (r .0 .1) (r .1))
+    rw (no-code (c .before .before .args .code) (r .0 .0 .0 .1) (r .0 .0 .1) (r .0 .1) (r .1))
 
 pub read-spec : {M : Type 1} → statement M
 read-spec =
@@ -101,11 +84,6 @@ read-spec =
     array-read-be32-4
     be32-requires
     ibm-requires
-    array-read-be32-5
-    array-read-be32-6
-    array-read-be32-7
-    array-read-be32-8
-    be32-requires-2
     whole32-requires
     array-read-be16
     array-read-be16-2

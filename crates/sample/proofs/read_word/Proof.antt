@@ -1,6 +1,6 @@
 -- `sample::read_word` meets its contract. Assumes nothing.
 use Rattle.sample.specs.Calls.{readSaid}
-use mathlib.Core.Path.{_≡_, sym, ap, _∙_}
+use mathlib.Core.Path.{sym, ap, _∙_}
 use mir.Facts.{toZ-ofZ}
 use mir.Val.{SFits}
 use mir.Syntax.{w16, w32}

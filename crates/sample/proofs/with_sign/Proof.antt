@@ -2,7 +2,7 @@
 use Rattle.value.proofs.Magnitudes.{sfits-signed}
 use mir.Facts.{toZ-pos, toZ-ofZ}
 use lib.IntN.{pos, negℤ, +ℤ-idl}
-use mathlib.Core.Bool.{true, false}
+use mathlib.Core.Bool.{true}
 use mir.Syntax.{w32}
 use borrow.Author.Needs.{needs}
 use Rattle.sample.proofs.with_sign.Statement.{statement}

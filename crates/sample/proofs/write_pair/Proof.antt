@@ -1,7 +1,7 @@
 -- `sample::write_pair` meets its contract. Assumes nothing.
 use Rattle.value.specs.Writing.{writePair}
 use Rattle.sample.specs.Calls.{writeSaid}
-use mathlib.Core.Path.{_≡_, sym, ap, _∙_}
+use mathlib.Core.Path.{sym, ap, _∙_}
 use borrow.Author.Needs.{needs}
 use Rattle.sample.proofs.write_pair.Statement.{statement}
 use Rattle.sample.proofs.write_pair.Tie as tie

@@ -2,7 +2,6 @@
 use Rattle.value.proofs.IbmLaws.{normal}
 use lib.Count.{leadingZeros, leading-top}
 use Prim.Native.Nat.{_*_, _/_, _-_, _^_, _≤_, _<_}
-use mathlib.Core.Path.{_≡_}
 use native.Mathlib.Omega.{arith}
 use Rattle.value.proofs.digits.Statement.{statement}
 use Rattle.value.proofs.digits.Tie as tie

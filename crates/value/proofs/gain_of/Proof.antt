@@ -6,7 +6,7 @@ use Rattle.value.specs.Parts.{WholeBelow}
 use Rattle.value.specs.Value.{denominatorPower}
 use Rattle.numbers.specs.Walk.{pick}
 use Prim.Native.Nat.{ℕ, _+_, _-_, _^_, min}
-use mathlib.Core.Path.{_≡_, sym, ap, _∙_, subst}
+use mathlib.Core.Path.{_≡_, sym, ap, subst}
 use native.Mathlib.Omega.{arith}
 use borrow.Author.Needs.{needs}
 use Rattle.value.proofs.gain_of.Statement.{statement}
@@ -23,7 +23,7 @@ below : (c : tie.After-q)
 below c =
     let s = c .before .before .before .before in
     let a = s .before .before .args in
-    let l = c .before .before .before .limit16 in
+    let l = c .before .before .before .limit in
     let b = subst (WholeBelow (a .o) (a .k + (denominatorPower - s .before .lesser .result)) (l .result)) (c .q .given .1) (c .before .before .whole-below .ensures) in
     rw (l .ensures .0) at b
 
@@ -41,8 +41,8 @@ returns c =
 add-whole-below : tie.Need-add-whole-below
 add-whole-below c = search needs
 
-limit16-requires : tie.Need-limit16-requires
-limit16-requires c κs = search needs
+limit-requires : tie.Need-limit-requires
+limit-requires c κs = search needs
 
 whole-below-requires : tie.Need-whole-below-requires
 whole-below-requires c κs = search needs
@@ -53,12 +53,12 @@ enum-known-q c = search needs
 mul-t11 : tie.Need-mul-t11
 mul-t11 c = search needs
 
-complement16-requires : tie.Need-complement16-requires
-complement16-requires c κs =
+complement-requires : tie.Need-complement-requires
+complement-requires c κs =
     let b = below (c .before) in
     let s = c .before .before .before .before .before .before .before in
     let g = denominatorPower - c .before .before .before .before .before .before .lesser .result in
-    (omega (arith, b .1, odd-shl (s .args .o) (s .args .k + g - denominatorPower) (s .pre .0)), b .2)
+    (omega arith, omega arith, omega (arith, b .1, odd-shl (s .args .o) (s .args .k + g - denominatorPower) (s .pre .0)), b .2)
 
 add-t13 : tie.Need-add-t13
 add-t13 c = search needs
@@ -72,14 +72,14 @@ returns-2 c =
     let s = c .before .before .before .before .before .before .before .before in
     let a = s .args in
     let e = c .before .before .before .before .before .before in
-    rw (c .complement16 .ensures .0) (sym (gain-word (a .neg) (a .o) (a .k) (s .pre .0) _ _ (least e) (e .if1 .left) (b .1) (b .2)))
+    rw (c .complement .ensures .0) (sym (gain-word (a .neg) (a .o) (a .k) (s .pre .0) _ _ (least e) (e .if1 .left) (b .1) (b .2)))
 
 returns-3 : tie.Need-returns-3
 returns-3 c =
     let s = c .before .before .before .before .before .before in
     let a = s .args in
     let e = c .before .before .before .before in
-    let l = c .before .before .before .limit16 in
+    let l = c .before .before .before .limit in
     let b = subst (WholeBelow (a .o) (a .k + (denominatorPower - e .before .lesser .result)) (l .result)) (c .enum-told .given .1) (c .before .before .whole-below .ensures) in
     sym (gain-beyond (a .neg) (a .o) (a .k) (s .pre .0) _ 0 (least e) (e .if1 .left) (rw (l .ensures .0) at b))
 
@@ -91,11 +91,11 @@ gain-of-spec =
     sub-g
     returns
     add-whole-below
-    limit16-requires
+    limit-requires
     whole-below-requires
     enum-known-q
     mul-t11
-    complement16-requires
+    complement-requires
     add-t13
     enum-told
     returns-2

@@ -2,7 +2,7 @@
 use Rattle.value.proofs.IbmLaws.{ibm-unfit, ibm-moved, moved-fits}
 use Rattle.value.proofs.Twos.{odd-shl}
 use Prim.Native.Nat.{_-_, _*_, _^_, _≤_, _<_}
-use mathlib.Core.Path.{_≡_, sym}
+use mathlib.Core.Path.{sym}
 use native.Mathlib.Omega.{arith}
 use borrow.Author.Needs.{needs}
 use Rattle.value.proofs.ibm_of.Statement.{statement}

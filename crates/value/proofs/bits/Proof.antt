@@ -1,0 +1,56 @@
+-- `value::bits` meets its contract. Assumes nothing.
+use Rattle.value.proofs.PartsLaws.{not-canonical, zero-pair, odd-pair}
+use Rattle.value.specs.declared.Parts.the-variants.{Odd}
+use Rattle.value.specs.Parts.{PartsOf}
+use Rattle.value.specs.Writing.{wordBits}
+use mathlib.Core.Path.{sym, ap, subst, _∙_}
+use borrow.Author.Needs.{needs}
+use Rattle.value.proofs.bits.Statement.{statement}
+use Rattle.value.proofs.bits.Tie as tie
+
+-- the pair taken apart
+apart : (c : tie.After-neg) → PartsOf (c .before .before .before .args .p) (Odd (c .neg .given .0 .0) (c .neg .given .0 .1 .0) (c .neg .given .0 .1 .1 .0))
+apart c = subst (PartsOf (c .before .before .before .args .p)) (c .neg .given .1) (c .before .before .parts .ensures)
+
+parts-requires : tie.Need-parts-requires
+parts-requires c κs = search needs
+
+enum-told : tie.Need-enum-told
+enum-told c = search needs
+
+enum-told-2 : tie.Need-enum-told-2
+enum-told-2 c = search needs
+
+enum-known-neg : tie.Need-enum-known-neg
+enum-known-neg c = search needs
+
+bits-at-requires : tie.Need-bits-at-requires
+bits-at-requires c κs = let a = apart (c .before) .1 in (c .before .before .before .before .pre, a .odd, a .low)
+
+returns : tie.Need-returns
+returns c =
+    let s = c .before .before .before in
+    sym (ap wordBits (not-canonical (s .args .code) (s .args .p) (s .pre) (subst (PartsOf (s .args .p)) (c .enum-told .given .1) (c .before .before .parts .ensures))))
+
+returns-2 : tie.Need-returns-2
+returns-2 c =
+    let s = c .before .before .before in
+    sym (ap wordBits (zero-pair (s .args .code) (s .args .p) (s .pre) (subst (PartsOf (s .args .p)) (c .enum-told2 .given .1) (c .before .before .parts .ensures))))
+
+returns-3 : tie.Need-returns-3
+returns-3 c =
+    let s = c .before .before .before .before .before in
+    c .bits-at .ensures ∙ ap wordBits (sym (odd-pair (s .args .code) (s .args .p) (s .pre) _ _ _ (apart (c .before .before))))
+
+pub bits-spec : {M : Type 1} → statement M
+bits-spec =
+    tie.close
+    (tie.spec
+    parts-requires
+    enum-told
+    enum-told-2
+    enum-known-neg
+    bits-at-requires
+    returns
+    returns-2
+    returns-3)

@@ -1,0 +1,34 @@
+-- `value::limit` meets its contract. Assumes nothing.
+use Rattle.value.proofs.WholeLaws.{half-le}
+use Prim.Native.Nat.{_-_, _^_, _≤_}
+use native.Mathlib.Nat.{one-mul}
+use mathlib.Core.Path.{_≡_, _∙_}
+use native.Mathlib.Omega.{arith}
+use borrow.Author.Needs.{needs}
+use Rattle.value.proofs.limit.Statement.{statement}
+use Rattle.value.proofs.limit.Tie as tie
+
+-- the half of the numbers of w bits
+half : (c : tie.After-shifted-wide) → (c .shifted-wide .result ≡ 2 ^ (c .before .args .w - 1)) × (c .shifted-wide .result ≤ 2 ^ 31)
+half c =
+    let e = c .shifted-wide .ensures ∙ one-mul (2 ^ (c .before .args .w - 1)) in
+    (e, omega (arith, half-le (c .before .args .w) (c .before .pre .0) (c .before .pre .1)))
+
+sub-shifted-wide : tie.Need-sub-shifted-wide
+sub-shifted-wide c = search needs
+
+shifted-wide-requires : tie.Need-shifted-wide-requires
+shifted-wide-requires c κs = search needs
+
+add-result : tie.Need-add-result
+add-result c = omega (arith, half (c .before) .1)
+
+returns : tie.Need-returns
+returns c = rw (c .if1 .taken, half (c .before) .0) (omega (arith, half (c .before) .0, half (c .before) .1))
+
+returns-2 : tie.Need-returns-2
+returns-2 c = rw (c .if1 .left, half (c .before) .0) (omega (arith, half (c .before) .0, half (c .before) .1))
+
+pub limit-spec : {M : Type 1} → statement M
+limit-spec =
+    tie.close (tie.spec sub-shifted-wide shifted-wide-requires add-result returns returns-2)
