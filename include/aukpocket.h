@@ -27,7 +27,8 @@
  *   13      the record holds a number that no record has              place of its first byte
  *   14      a sample doesn't fit the target code                      place of its pair
  *   15      no such trace                                             0
- *   16      no assigned field begins at that byte number              0
+ *   16      no assigned field of that header begins at that byte     0
+ *           number
  *
  * For a single word or pair the place beside 2, 9, 11, 13 and 14 is 0.
  *

@@ -24,7 +24,7 @@ use Rattle.reel.specs.Causes.{mostSamples, mostTraces, mostInterval, within}
 abbrev pub fieldHead : ℕ
 fieldHead = 3
 
--- A field of this tag and length stands whole at the place `at`: its tag, its length, the content.
+-- A field of this tag and length stands whole at the place `at`: its tag, its length, a number without sign, and the content.
 abbrev pub isField : List ℕ → ℕ → ℕ → ℕ → Bool
 isField s tag size at =
     leb (at + (fieldHead + size)) (length s) && (eqb (getD s at 0) tag && eqb (number16 s (at + 1)) size)

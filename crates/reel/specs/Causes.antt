@@ -34,13 +34,13 @@ within a b n = leb a n && leb n b
 abbrev pub neither : ℕ → ℕ → Bool
 neither n m = not (eqb n 0) && not (eqb n m)
 
--- 2, 3, 4: format code not 1 to 4; N not 1 to 8,000; interval not 1 to 32,767.
+-- 2, 3, 4: format code not 1 to 4, place 3224; N not 1 to 8,000, place 3220; interval not 1 to 32,767, place 3216.
 abbrev pub limitCauses : ℕ → ℕ → ℕ → Check
 limitCauses code n i =
     firstOf
-    (refuseIf (not (isCode code)) 2 3224
-    ∷ refuseIf (not (within 1 mostSamples n)) 3 3220
-    ∷ refuseIf (not (within 1 mostInterval i)) 4 3216
+    (refuseIf (not (isCode code)) 2 (bytePlace 0 3225)
+    ∷ refuseIf (not (within 1 mostSamples n)) 3 (bytePlace 0 3221)
+    ∷ refuseIf (not (within 1 mostInterval i)) 4 (bytePlace 0 3217)
     ∷ [])
 
 -- 5, 6, of a reel of `size` bytes with t whole traces of w bytes and `over` bytes behind them: bytes after the last whole trace, at the

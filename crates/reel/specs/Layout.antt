@@ -54,7 +54,8 @@ traceFields = fieldsFrom 1 traceWidths
 abbrev pub fieldNumber : List ℕ → ℕ → Field → ℤ
 fieldNumber s start f = signedOf (8 * f .width) (number (bytesAt s (bytePlace start (f .begins)) (f .width)))
 
--- The number in two bytes, where its sign plays no part: the numbers of a reel below are from 1 to 32,767 or refused.
+-- The number in two bytes, without sign. Of a reel's own numbers below, from 1 to 32,767 or refused, the sign plays no part; the length of
+-- a record's field, up to 48,000, has none.
 abbrev pub number16 : List ℕ → ℕ → ℕ
 number16 s at = number (bytesAt s at 2)
 
