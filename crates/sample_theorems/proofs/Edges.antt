@@ -9,9 +9,8 @@ use Rattle.numbers.specs.Walk.{bytesAt}
 use Rattle.numbers.specs.First.{first}
 use Rattle.value.specs.Pair.{twosIn, twos, oddPart, isCanonical}
 use Rattle.value.specs.Writing.{isNormal, writePair}
-use Rattle.value.specs.declared.Pair.{Pair}
 use Rattle.value.specs.declared.Written.the-variants.{Word, Refused}
-use Rattle.sample_theorems.specs.Starred.{Starred}
+use Rattle.sample_theorems.specs.Starred.{Starred, beyond}
 
 -- THEOREM 5. The starred lines, as a group.
 pub starred : Starred
@@ -34,10 +33,7 @@ pub least-gain : (writePair 4 (record { e = negsuc 254; m = pos 1 }) ≡ Word 0x
 unfolding first
 least-gain = (refl, refl)
 
--- e 251, m 3: a canonical pair, though no word of any code has its value (no line of document 01)
-abbrev pub beyond : Pair
-beyond = record { e = pos 251; m = pos 3 }
-
+-- A canonical pair, though no word of any code has its value (no line of document 01).
 pub beyond-14 : (isCanonical beyond ≡ true) × (writePair 1 beyond ≡ Refused 14) × (writePair 2 beyond ≡ Refused 14) × (writePair 3 beyond ≡ Refused 14) × (writePair 4 beyond ≡ Refused 14)
 unfolding first isNormal
 beyond-14 = (refl, refl, refl, refl, refl)

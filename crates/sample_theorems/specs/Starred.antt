@@ -7,6 +7,7 @@ use Rattle.numbers.specs.Outcome.{taken}
 use Rattle.value.specs.Value.{wholeValue}
 use Rattle.value.specs.Pair.{pairOf}
 use Rattle.value.specs.Writing.{writePair}
+use Rattle.value.specs.declared.Pair.{Pair}
 use Rattle.value.specs.declared.Written.{Written}
 use Rattle.value.specs.declared.Written.the-variants.{Word, Refused}
 use Rattle.sample.specs.Reading.{readWord}
@@ -48,3 +49,7 @@ pub record Starred : Type 0 where
       × (pairOf (wholeValue (pos 33_554_430)) .m ≡ pos 16_777_215) × (2 ^ 23 ≤ 16_777_215) × (16_777_215 < 2 ^ 24)
   -- -32,768 to code 4: 00008000; 32,768: number 14
   pub bits-16 : (wholeTo 4 (negℤ (pos 32_768)) ≡ Word 0x0000_8000) × (wholeTo 4 (pos 32_768) ≡ Refused 14)
+
+-- The pair e 251, m 3, each number within its limits.
+abbrev pub beyond : Pair
+beyond = record { e = pos 251; m = pos 3 }

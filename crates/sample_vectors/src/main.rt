@@ -189,12 +189,12 @@ fn read_word(line: [u8; 24]) -> bool {
     let read = sample::read_word(code.value, word.bytes);
     let pair = read.pair;
     let mut reply = reply_to(read.answer);
-    put_byte(&mut reply, 21, pair[0]);
-    put_byte(&mut reply, 23, pair[1]);
-    put_byte(&mut reply, 25, pair[2]);
-    put_byte(&mut reply, 27, pair[3]);
-    put_byte(&mut reply, 29, pair[4]);
-    put_byte(&mut reply, 31, pair[5]);
+    put_u16(&mut reply, 21, numbers::be16(pair[0], pair[1]));
+    put_u32(
+        &mut reply,
+        25,
+        numbers::be32(pair[2], pair[3], pair[4], pair[5]),
+    );
     send(&reply)
 }
 
@@ -208,10 +208,11 @@ fn write_pair(line: [u8; 24]) -> bool {
     let written = sample::write_pair(code.value, pair.bytes);
     let word = written.word;
     let mut reply = reply_to(written.answer);
-    put_byte(&mut reply, 21, word[0]);
-    put_byte(&mut reply, 23, word[1]);
-    put_byte(&mut reply, 25, word[2]);
-    put_byte(&mut reply, 27, word[3]);
+    put_u32(
+        &mut reply,
+        21,
+        numbers::be32(word[0], word[1], word[2], word[3]),
+    );
     send(&reply)
 }
 

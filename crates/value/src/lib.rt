@@ -34,6 +34,9 @@ const HIGHEST_EXPONENT: i16 = 251;
 // Zero under every code.
 const ZERO_WORD: u32 = 0;
 
+// The bits that are given where there is no word.
+const NO_WORD: u32 = 0;
+
 // The numbers of the causes.
 const BAD_TARGET: u8 = 11;
 
@@ -194,7 +197,7 @@ fn bits_of(word: Written) -> u32
 {
     match word {
         Written::Word { bits } => bits,
-        Written::Refused { number: _ } => ZERO_WORD,
+        Written::Refused { number: _ } => NO_WORD,
     }
 }
 
@@ -358,7 +361,7 @@ fn bits(code: u32, p: Pair) -> u32
     ensures { λ r. ⌜ r ≡ wordBits (writePair code p) ⌝ }
 {
     match p.parts() {
-        Parts::NotCanonical => ZERO_WORD,
+        Parts::NotCanonical => NO_WORD,
         Parts::Zero => ZERO_WORD,
         Parts::Odd { neg, o, k } => bits_at(code, neg, o, k),
     }
