@@ -53,6 +53,10 @@ code-limits code h = go (leb 1 code) (leb code 4) refl refl h
 pub last-code : (code : ℕ) → isCode code ≡ true → (code ≡ 1 → ⊥) → (code ≡ 2 → ⊥) → (code ≡ 3 → ⊥) → code ≡ 4
 last-code code h a b c = omega (arith, code-limits code h)
 
+-- a code of four bytes isn't 3
+pub not-three : (code : ℕ) → sampleBytes code ≡ 4 → code ≡ 3 → ⊥
+not-three code h e = let z : _≡_ {A = ℕ} 2 4 = ap sampleBytes (sym e) ∙ h in omega arith
+
 -- ## Where nothing is found
 
 pub both-true : (a b : Bool) → not (a && b) ≡ false → (a ≡ true) × (b ≡ true)

@@ -1,6 +1,6 @@
 -- `write_samples::put_word` meets its contract. Assumes nothing.
-use Rattle.reel.proofs.CheckLaws.{code-limits}
-use Rattle.write_samples.proofs.WordLaws.{not-three, four-bytes-of}
+use Rattle.reel.proofs.CheckLaws.{code-limits, not-three}
+use Rattle.write_samples.proofs.WordLaws.{four-bytes-of}
 use Rattle.numbers.proofs.WalkLaws.{copied}
 use Rattle.value.specs.Writing.{writePair, wordBits}
 use Prim.Native.Nat.{ℕ}
