@@ -6,6 +6,7 @@ use Prim.Native.Nat.{ℕ, _+_, _-_, _*_, _^_, _≤_, _<_}
 use native.Mathlib.Nat.{zero-mul}
 use native.Mathlib.Omega.{arith}
 use borrow.Author.Tests.{leb-true, eqb-true, le-leb, eq-eqb}
+use borrow.Rule.Slice.PartMut.{putMid}
 use lib.Dec.{leb, eqb}
 use lib.IntN.{ℤ, pos}
 use lib.ListN.{length, getD}
@@ -13,6 +14,7 @@ use Rattle.numbers.specs.Walk.{pick, bytesAt}
 use Rattle.numbers.specs.BigEndian.{number}
 use Rattle.numbers.specs.TwosComplement.{signedOf}
 use Rattle.numbers.proofs.WalkLaws.{flat-length, flat-none, four-bytes, both}
+use Rattle.numbers.proofs.Filling.{in-turn}
 use Rattle.value.specs.Value.{denominatorPower, ibmValue, wholeValue, gainValue, isCode}
 use Rattle.sample.specs.Reading.{pairTaken, readWord}
 use Rattle.sample.specs.declared.Sample.{Sample}
@@ -25,14 +27,18 @@ pub size-content : (q : Sample) → length (sampleContent q) ≡ 6
 size-content (Taken e m) = refl
 size-content (Refused number) = refl
 
-pub size-exponent : (q : Sample) → length (exponentContent q) ≡ 2
+size-exponent : (q : Sample) → length (exponentContent q) ≡ 2
 size-exponent (Taken e m) = refl
 size-exponent (Refused number) = refl
 
 -- a sample's bytes are those of its exponent and those of its mantissa
-pub content-parts : (q : Sample) → exponentContent q ++ mantissaContent q ≡ sampleContent q
+content-parts : (q : Sample) → exponentContent q ++ mantissaContent q ≡ sampleContent q
 content-parts (Taken e m) = refl
 content-parts (Refused number) = refl
+
+-- the two put one behind the other in six bytes
+pub parts-put : (out : List ℕ) (q : Sample) {ys zs : List ℕ} → length out ≡ 6 → ys ≡ exponentContent q → zs ≡ mantissaContent q → putMid 2 4 (putMid 0 2 out ys) zs ≡ sampleContent q
+parts-put out q size is was = in-turn 2 4 out size (size-exponent q) is was ∙ content-parts q
 
 pub size-copied : (s : List ℕ) (code p : ℕ) → length (sampleCopied s code p) ≡ 6
 size-copied s code p = size-content (readWord code (bytesAt s p 4))

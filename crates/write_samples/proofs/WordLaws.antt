@@ -7,12 +7,12 @@ use native.Mathlib.Omega.{arith}
 use borrow.Author.Tests.{leb-true, le-leb, eq-eqb}
 use lib.Dec.{leb, eqb}
 use lib.ListN.{length, take}
-use Rattle.numbers.specs.Walk.{pick, walk, bytesAt}
+use Rattle.numbers.specs.Walk.{pick, walk, bytesAt, copyOf}
 use Rattle.numbers.specs.BigEndian.{number, bytesOf}
 use Rattle.numbers.specs.Cause.{firstOf}
 use Rattle.numbers.specs.declared.Check.{Check}
 use Rattle.numbers.specs.declared.Check.the-variants.{Fine}
-use Rattle.numbers.proofs.WalkLaws.{flat-length, flat-none, both}
+use Rattle.numbers.proofs.WalkLaws.{flat-length, flat-none, copied, both}
 use Rattle.value.specs.Value.{isCode}
 use Rattle.value.specs.Writing.{writePair, wordBits}
 use Rattle.value.specs.Pair.{pairLength, pairOfBits}
@@ -39,9 +39,14 @@ pub size-samples : (s : List ℕ) (code n at : ℕ) → length (sampleWords s co
 unfolding sampleWords
 size-samples s code n at = flat-length (wordBytes code) (writtenAt s code) (sampleBytes code) (size-written s code) pairLength n at
 
--- a code of four bytes has the four bytes of its word's bits
-pub four-bytes-of : (code bits : ℕ) (w : Written) → sampleBytes code ≡ 4 → bits ≡ wordBits w → bytesOf 4 bits ≡ wordBytes code w
-four-bytes-of code bits w v e = ap (bytesOf 4) e ∙ ap (λ (k : ℕ). take k (wordContent w)) (sym v)
+-- under a code of four bytes, the bits of a word stored in four
+pub bits-stored : (code bits : ℕ) (w : Written) (out : List ℕ) {ys : List ℕ} → sampleBytes code ≡ 4 → bits ≡ wordBits w → length out ≡ 4 → ys ≡ copyOf (bytesOf 4 bits) out → ys ≡ wordBytes code w
+bits-stored code bits w out v e n is = copied (bytesOf 4 bits) out is n ∙ ap (bytesOf 4) e ∙ ap (λ (k : ℕ). take k (wordContent w)) (sym v)
+
+-- the same for the word of a pair, by the code's number
+pub pair-stored : (code k bits : ℕ) (p : Pair) (out : List ℕ) {ys : List ℕ} → sampleBytes code ≡ 4 → k ≡ code → bits ≡ wordBits (writePair k p) → length out ≡ 4 → ys ≡ copyOf (bytesOf 4 bits) out
+    → ys ≡ wordBytes code (writePair code p)
+pair-stored code k bits p out v q e n is = bits-stored code bits (writePair code p) out v (e ∙ ap (λ (j : ℕ). wordBits (writePair j p)) q) n is
 
 -- ## Samples
 

@@ -1,8 +1,8 @@
 -- `write_samples::put_words` meets its contract. Assumes nothing.
-use Rattle.write_samples.proofs.WordLaws.{size-written, size-samples, samples-none, fetched-bytes, four-bytes-of}
+use Rattle.write_samples.proofs.WordLaws.{size-written, size-samples, samples-none, fetched-bytes, bits-stored}
 use Rattle.write_samples.specs.Samples.{wordBytes, writtenAt, sampleWords}
 use Rattle.numbers.proofs.Filling.{Filling, start as begin, finish, again, next-put, last-put}
-use Rattle.numbers.proofs.WalkLaws.{times-more, copied}
+use Rattle.numbers.proofs.WalkLaws.{times-more}
 use Rattle.numbers.specs.Walk.{bytesAt}
 use Rattle.numbers.specs.BigEndian.{number}
 use Rattle.reel.specs.Layout.{sampleBytes}
@@ -143,7 +143,7 @@ returns-2 c =
     let p = c .before .before .before .before .before .before .pair-of-bits2 in
     let w = c .before .before .before .before .before .write in
     let bits = c .before .before .before .before .bits-of in
-    let new = copied _ _ (c .before .before .put32 .ensures) (c .before .before .before .put32-arg .given .2 ∙ omega arith) ∙ four-bytes-of (b .args .code) (bits .result) (w .result) (b .pre .1) (bits .ensures)
+    let new = bits-stored (b .args .code) (bits .result) (w .result) _ (b .pre .1) (bits .ensures) (c .before .before .before .put32-arg .given .2 ∙ omega arith) (c .before .before .put32 .ensures)
     ∙ ap (wordBytes (b .args .code)) (w .ensures) ∙ fetched-bytes s (b .args .code) (l .at) (l .e) (l .m) (p .result) (p .ensures) (l .inv .3) (l .inv .4) in
     let k = b .args .code in
     last-put (wordBytes k) (writtenAt s k) 6 (sampleBytes k) (size-written s k) (l .left) (l .at) (l .o) (l .o + 4) (c .before .before .before .before .before .before .before .loop-test .left) (ap (λ (v : ℕ). l .o + v) (sym (b .pre .1))) (l .inv .5) new
