@@ -21,9 +21,10 @@ use Rattle.numbers.specs.declared.Place.{Place}
 use Rattle.numbers.proofs.CauseLaws.{then-fine, passed, at-most}
 use Rattle.numbers.proofs.WalkLaws.{times-more}
 use Rattle.reel.specs.Layout.{firstTrace, traceHeader, binaryFields, traceFields, strideOf, tracesOf}
-use Rattle.reel.specs.Causes.{causesOf, reelFound, reelJudged}
+use Rattle.reel.specs.Causes.{causesOf, reelJudged}
 use Rattle.reel.specs.declared.Judged.the-variants as reel
 use Rattle.reel.proofs.CheckLaws.{Sound, inside}
+use Rattle.reel.proofs.JudgedLaws.{own}
 use Rattle.look_up.specs.LookUp.{found, fieldIn, fieldAt, isNone, headerNumber, foundNumber, fieldCauses, lookUpCauses, numberSaid, lookUpOutcome, lookedUp}
 use Rattle.look_up.specs.Parts.{widthOf, theField, OnReel, Own, InHeader}
 use Rattle.look_up.specs.declared.Answer.the-variants as answer
@@ -133,19 +134,6 @@ taken-is s k b w e h =
 -- ## The reel's own numbers
 
 pub own-numbers : (s : List ℕ) {code n i v w t : ℕ} → reelJudged s ≡ reel.Fine code n i v w t → Own s n i w × (t ≡ tracesOf s)
-own-numbers s {code} {n} {i} {v} {w} {t} = go (causesOf s) refl
-  where
-    go : (c : Check) → causesOf s ≡ c → reelFound s c ≡ reel.Fine code n i v w t → Own s n i w × (t ≡ tracesOf s)
-    go Fine f e = (record { fine = f; samples = cc; interval = cc; stride = cc }, (cc))
-    go (Refused number place) f e =
-        let z : _≡_ {A = ℕ} 0 1 = cc in
-        absurd (omega arith)
-
-pub own-refusal : (s : List ℕ) {number : ℕ} {place : Place} → reelJudged s ≡ reel.Refused number place → causesOf s ≡ Refused number place
-own-refusal s {number} {place} = go (causesOf s)
-  where
-    go : (c : Check) → reelFound s c ≡ reel.Refused number place → c ≡ Refused number place
-    go Fine e =
-        let z : _≡_ {A = ℕ} 0 1 = cc in
-        absurd (omega arith)
-    go (Refused m p) e = cc
+own-numbers s e =
+    let o = own s e in
+    (record { fine = o .fine; samples = sym (o .n-is); interval = sym (o .i-is); stride = sym (o .w-is) }, sym (o .t-is))

@@ -2,7 +2,7 @@
 use Prim.Native.Nat.{ℕ, zero, suc, _+_}
 use mathlib.Core.Bool.{Bool, true, false}
 use mathlib.Core.List.{List, [], _∷_, _++_}
-use lib.ListN.{length, getD}
+use lib.ListN.{length, getD, take, drop}
 use lib.Dec.{eqb}
 
 -- what f gives at the offsets `at`, `at + w`, `at + w + w` and so on, k of them
@@ -27,3 +27,7 @@ bytesAt s at k = walk (λ a. getD s a 0) 1 k at
 -- what a slice holds after another was copied into it: the other's content where both have the same length, its own where they do not
 unfoldable pub copyOf : List ℕ → List ℕ → List ℕ
 copyOf src out = pick (eqb (length out) (length src)) src out
+
+-- a list after a store: `new` over what stood there, from the offset `at` on
+unfoldable pub overwritten : List ℕ → ℕ → List ℕ → List ℕ
+overwritten l at new = take at l ++ (new ++ drop (at + length new) l)

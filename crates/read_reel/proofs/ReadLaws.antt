@@ -3,7 +3,7 @@ use mathlib.Core.Path.{_≡_, refl, sym, ap, ap₂, _∙_, subst}
 use mathlib.Core.List.{List, [], _∷_, _++_}
 use mathlib.Core.Bool.{Bool, true, false}
 use Prim.Native.Nat.{ℕ, zero, suc, _+_, _-_, _*_, _^_, _≤_, _<_}
-use native.Mathlib.Nat.{mul-comm, mul-le-mul}
+use native.Mathlib.Nat.{mul-le-mul}
 use native.Mathlib.Omega.{arith}
 use borrow.Author.Tests.{lt-ltb, le-ltb}
 use lib.ListN.{length, getD, drop}
@@ -15,11 +15,11 @@ use Rattle.numbers.specs.declared.Place.{Place}
 use Rattle.numbers.specs.declared.Check.{Check}
 use Rattle.numbers.specs.declared.Check.the-variants as check
 use Rattle.reel.specs.Layout.{firstTrace, samplesOf, intervalOf, codeOf, sampleBytes, stride, strideOf, tracesOf}
-use Rattle.reel.specs.Causes.{mostSamples, mostTraces, causesOf, reelFound, reelJudged}
-use Rattle.reel.specs.declared.Judged.{Judged}
-use Rattle.reel.specs.declared.Judged.the-variants as judged
+use Rattle.reel.specs.Causes.{mostSamples, mostTraces, causesOf}
 use Rattle.reel.proofs.CheckLaws.{Numbers, Sound, reel-fine, inside}
+use Rattle.reel.proofs.JudgedLaws.{Own}
 use Rattle.value.specs.Value.{isCode}
+use Rattle.record.specs.Form.{heldStride}
 use Rattle.record.specs.Record.{reelRecord, recordLength}
 use Rattle.record.specs.Answer.{outcome}
 use Rattle.read_reel.specs.Reading.{recordLengthOf, readCauses, readEnd, readOutcome}
@@ -27,30 +27,6 @@ use Rattle.read_reel.specs.Copied.{recordCopied}
 use Rattle.record.specs.declared.Answer.{Answer}
 use Rattle.record.specs.declared.Answer.the-variants.{Taken, Refused}
 use Rattle.read_reel.proofs.RecordLaws.{record-is, code-sound}
-
--- a reel with no cause against it, by its own numbers
-pub record Own (s : List ℕ) (code n i v w t : ℕ) : Type 0 where
-  pub fine : causesOf s ≡ check.Fine
-  pub code-is : codeOf s ≡ code
-  pub n-is : samplesOf s ≡ n
-  pub i-is : intervalOf s ≡ i
-  pub v-is : sampleBytes (codeOf s) ≡ v
-  pub w-is : strideOf s ≡ w
-  pub t-is : tracesOf s ≡ t
-
-pub own : (s : List ℕ) (code n i v w t : ℕ) → reelJudged s ≡ judged.Fine code n i v w t → Own s code n i v w t
-own s code n i v w t e = go (causesOf s) refl e
-  where
-    go : (c : Check) → causesOf s ≡ c → reelFound s c ≡ judged.Fine code n i v w t → Own s code n i v w t
-    go check.Fine q k = record { fine = q; code-is = cc; n-is = cc; i-is = cc; v-is = cc; w-is = cc; t-is = cc }
-    go (check.Refused number place) q k = absurd (let z : _≡_ {A = ℕ} 0 1 = cc in omega arith)
-
-pub refused-is : (s : List ℕ) (number : ℕ) (place : Place) → reelJudged s ≡ judged.Refused number place → causesOf s ≡ check.Refused number place
-refused-is s number place e = go (causesOf s) refl e
-  where
-    go : (c : Check) → causesOf s ≡ c → reelFound s c ≡ judged.Refused number place → causesOf s ≡ check.Refused number place
-    go check.Fine q k = absurd (let z : _≡_ {A = ℕ} 0 1 = cc in omega arith)
-    go (check.Refused m p) q k = let a : m ≡ number = cc in let b : p ≡ place = cc in q ∙ ap₂ check.Refused a b
 
 -- what the code asks of its numbers
 pub record Fit (s : List ℕ) (code n i v w t : ℕ) : Type 0 where
@@ -61,7 +37,7 @@ pub record Fit (s : List ℕ) (code n i v w t : ℕ) : Type 0 where
   pub strides : w ≡ stride n v
   pub few : t ≤ mostTraces
   pub room : firstTrace + t * w ≤ length s
-  pub size : t * (186 + n * 6) ≤ 100000 * 48186
+  pub size : t * heldStride n ≤ 100000 * 48186
 
 pub fit : (s : List ℕ) (code n i v w t : ℕ) → Own s code n i v w t → Fit s code n i v w t
 fit s code n i v w t o =
@@ -69,7 +45,7 @@ fit s code n i v w t o =
     let k : Numbers code n i = subst (λ (x : ℕ). Numbers code n x) (o .i-is) (subst (λ (x : ℕ). Numbers code x (intervalOf s)) (o .n-is) (subst (λ (x : ℕ). Numbers x (samplesOf s) (intervalOf s)) (o .code-is) (h .numbers))) in
     let r = inside s h in
     let few : t ≤ mostTraces = subst (λ (x : ℕ). x ≤ mostTraces) (o .t-is) (h .few) in
-    let most : 186 + n * 6 ≤ 48186 = omega (arith, k .n-high) in
+    let most : heldStride n ≤ 48186 = omega (arith, k .n-high) in
     record {
       a-code = code-sound code n i k;
       width = sym (o .v-is) ∙ ap sampleBytes (o .code-is);
@@ -88,16 +64,16 @@ module _ (s out : List ℕ) where
   refused-end number place e = rw e
 
   module _ (code n i v w t : ℕ) (o : Own s code n i v w t) where
-    length-is : recordLengthOf s ≡ 3273 + t * (186 + n * 6)
-    length-is = ap₂ recordLength (o .t-is) (o .n-is) ∙ ap (λ (x : ℕ). 3273 + t * (186 + x)) (mul-comm 6 n)
+    length-is : recordLengthOf s ≡ recordLength t n
+    length-is = ap₂ recordLength (o .t-is) (o .n-is)
 
-    pub short-end : length out < 3273 + t * (186 + n * 6) → outcome (Refused 10 (record { 0 = 3273 + t * (186 + n * 6) })) out ≡ readOutcome s out
-    short-end l = rw (o .fine, length-is, lt-ltb (length out) (3273 + t * (186 + n * 6)) l)
+    pub short-end : length out < recordLength t n → outcome (Refused 10 (record { 0 = recordLength t n })) out ≡ readOutcome s out
+    short-end l = rw (o .fine, length-is, lt-ltb (length out) (recordLength t n) l)
 
-    pub taken-end : Bytes s → (ys : List ℕ) → ys ≡ recordCopied s code n i w t → 3273 + t * (186 + n * 6) ≤ length out
-        → outcome (Taken t n (3273 + t * (186 + n * 6))) (ys ++ drop (3273 + t * (186 + n * 6)) out) ≡ readOutcome s out
+    pub taken-end : Bytes s → (ys : List ℕ) → ys ≡ recordCopied s code n i w t → recordLength t n ≤ length out
+        → outcome (Taken t n (recordLength t n)) (ys ++ drop (recordLength t n) out) ≡ readOutcome s out
     taken-end b ys e l =
-        let k = 3273 + t * (186 + n * 6) in
+        let k = recordLength t n in
         let r : reelRecord s ≡ ys = record-is s b (o .fine) ∙ copied-is ∙ sym e in
         let fine : readCauses s (length out) ≡ check.Fine = rw (o .fine, length-is, le-ltb (length out) k l) in
         sym (ap (readEnd s out) fine ∙ ap (λ (x : ℕ). made x (samplesOf s) (recordLengthOf s) (reelRecord s)) (o .t-is) ∙ ap (λ (x : ℕ). made t x (recordLengthOf s) (reelRecord s)) (o .n-is)

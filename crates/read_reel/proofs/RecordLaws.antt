@@ -1,38 +1,42 @@
 -- The record that the code writes is the record of what the reel means. Assumes nothing.
 use mathlib.Core.Path.{_≡_, refl, sym, ap, ap₂, _∙_, subst}
-use mathlib.Core.List.{List, [], _∷_, _++_, map, append-assoc}
+use mathlib.Core.List.{List, [], _∷_, _++_, map, append-assoc, append-nil}
 use mathlib.Core.Bool.{Bool, true, false, _&&_}
 use Prim.Native.Nat.{ℕ, zero, suc, _+_, _-_, _*_, _^_, _≤_, _<_}
 use native.Mathlib.Nat.{add-zero, mul-comm}
 use native.Mathlib.Omega.{arith}
 use borrow.Author.Tests.{eqb-true, le-leb, ne-eqb}
 use lib.Dec.{T, leb, eqb}
-use lib.ListN.{length, getD, replicate}
+use lib.ListN.{length, length-append}
 use lib.IntN.{ℤ, pos, negsuc, natAbs}
 use Rattle.numbers.specs.Terms.{Bytes}
-use Rattle.numbers.specs.Walk.{pick, walk, flat, bytesAt}
+use Rattle.numbers.specs.Walk.{pick, walk, flat, bytesAt, overwritten}
+use Rattle.numbers.specs.Places.{bytePlace}
 use Rattle.numbers.specs.Cause.{refuseIf, then, firstOf}
 use Rattle.numbers.specs.BigEndian.{number, bytesOf}
 use Rattle.numbers.specs.TwosComplement.{signedOf, bitsOf}
 use Rattle.numbers.specs.declared.Check.{Check}
 use Rattle.numbers.specs.declared.Check.the-variants.{Fine, Refused}
-use Rattle.numbers.proofs.WalkLaws.{size-walk}
+use Rattle.numbers.proofs.WalkLaws.{size-walk, size-bytes}
+use Rattle.numbers.proofs.Filling.{over-part, over-bytes}
 use Rattle.numbers.proofs.CauseLaws.{passed, then-fine}
-use Rattle.numbers.proofs.ByteLaws.{number-at}
+use Rattle.numbers.proofs.ByteLaws.{number-at, bytes-append}
 use Rattle.numbers.proofs.SignLaws.{bits-signed}
 use Rattle.value.specs.Value.{isCode, exactValue}
 use Rattle.sample.specs.Reading.{badGain, readWord}
-use Rattle.reel.specs.Layout.{Field, fieldsFrom, binaryWidths, binaryFields, traceWidths, traceFields, fieldNumber, firstTrace, traceHeader, number16, samplesOf, intervalOf, codeOf, sampleBytes, strideOf, tracesOf}
+use Rattle.reel.specs.Layout.{Field, cardBytes, fieldsFrom, binaryWidths, binaryFields, traceWidths, traceFields, fieldNumber, firstTrace, traceHeader, number16, samplesOf, intervalOf, codeOf, sampleBytes, strideOf, tracesOf}
 use Rattle.reel.specs.Causes.{mostSamples, neither, wordCause, traceCauses, causesOf}
 use Rattle.reel.specs.Meaning.{cardText, otherThan, binaryNumbers, filled, traceNumber, Trace, traceMeaning, meaningOf}
 use Rattle.reel.proofs.CheckLaws.{Numbers, Sound, reel-fine}
 use Rattle.record.specs.Record.{field, numberBytes, withCode, binaryBytes, valueBytes, samplesField, traceBytes, recordOf, reelRecord}
 use Rattle.record.proofs.NumberLaws.{fields-again, numbers-append}
-use Rattle.record.proofs.HeaderLaws.{binary-front, binary-back, trace-front, trace-back, countField, intervalField, size-cards}
+use Rattle.record.specs.Form.{binarySize, codePlace}
+use Rattle.record.proofs.HeaderLaws.{trace-front, trace-back, countField, intervalField, size-cards}
+use Rattle.record.proofs.StoredLaws.{size-binary, code-stored}
 use Rattle.read_samples.specs.Samples.{sampleContent, sampleCopied, places, samplePairs}
-use Rattle.read_reel.specs.Copied.{tagBytes, recordBinaryCopied, headCopied, ownOr, headerCopied, recordTraceCopied, recordCopied}
+use Rattle.read_reel.specs.Copied.{tagBytes, fieldsCopied, headCopied, ownOr, headerCopied, recordTraceCopied, recordCopied}
 use Rattle.read_samples.proofs.SampleLaws.{size-samples}
-use Rattle.read_reel.proofs.CopiedLaws.{size-binary, size-header}
+use Rattle.read_reel.proofs.CopiedLaws.{size-header}
 
 -- ## Fields
 
@@ -41,14 +45,22 @@ field-is : (tag k : ℕ) (l : List ℕ) → length l ≡ k → field tag l ≡ t
 unfolding field
 field-is tag k l e = ap (λ (x : ℕ). tag ∷ (bytesOf 2 x ++ l)) e
 
--- ## The binary header
+-- ## The first two fields
 
-binary-is : (s : List ℕ) → Bytes s → binaryBytes 0 (binaryNumbers s) ≡ recordBinaryCopied s
-unfolding binaryBytes binaryNumbers binaryWidths binaryFields recordBinaryCopied binary-front binary-back
-binary-is s h =
-    let f = fieldNumber s 0 in
-    numbers-append binary-front (2 ∷ binary-back) (map f (fieldsFrom 3201 binary-front)) (pos 0 ∷ map f (fieldsFrom 3227 binary-back)) refl
-    ∙ ap₂ (λ (x y : List ℕ). x ++ (bytesOf 2 0 ++ y)) (fields-again s h 0 3201 binary-front (omega arith)) (fields-again s h 0 3227 binary-back (omega arith))
+head-is : (s : List ℕ) → Bytes s → headCopied s ≡ field 1 (cardText s) ++ field 2 (binaryBytes 0 (binaryNumbers s))
+unfolding headCopied fieldsCopied binaryNumbers
+head-is s h =
+    let cards = tagBytes 1 cardBytes ++ cardText s in
+    let front = cards ++ tagBytes 2 binarySize in
+    let copy = bytesAt s (bytePlace 0 3201) binarySize in
+    let binary = binaryBytes 0 (binaryNumbers s) in
+    let joined : tagBytes 1 cardBytes ++ (cardText s ++ (tagBytes 2 binarySize ++ copy)) ≡ front ++ (copy ++ []) = sym (append-assoc cards (tagBytes 2 binarySize) copy) ∙ ap (λ (l : List ℕ). front ++ l) (sym (append-nil copy)) in
+    let size : codePlace ≡ length front + (3225 - 3201) = simp (length-append, size-cards) in
+    ap (λ (l : List ℕ). overwritten l codePlace (bytesOf 2 0)) joined
+    ∙ code-stored s h 0 0 front [] codePlace size
+    ∙ ap (λ (l : List ℕ). front ++ l) (append-nil binary)
+    ∙ append-assoc cards (tagBytes 2 binarySize) binary
+    ∙ sym (ap₂ (λ (x y : List ℕ). x ++ y) (field-is 1 cardBytes (cardText s) (size-cards s)) (field-is 2 binarySize binary (size-binary s h 0 0)))
 
 -- ## A trace header
 
@@ -74,8 +86,27 @@ fill-bits own (suc k) h = go (eqb (natAbs (signedOf 16 (suc k))) 0) refl
     go true q = absurd (some (sym back ∙ ap (bitsOf 16) (abs-zero (signedOf 16 (suc k)) (eqb-true _ 0 q))))
     go false q = back ∙ rw (ne-eqb (suc k) 0 some)
 
+-- the bytes around the two fields, and what is stored over them
+filled-is : (s : List ℕ) (n i at : ℕ)
+    → headerCopied s n i at ≡ bytesAt s at 114 ++ (bytesOf 2 (ownOr n (number16 s (at + 114))) ++ (bytesOf 2 (ownOr i (number16 s (at + 116))) ++ bytesAt s (at + 118) 62))
+unfolding headerCopied
+filled-is s n i at =
+    let x = bytesAt s at 114 in
+    let y = bytesOf 2 (ownOr n (number16 s (at + 114))) in
+    let u = bytesOf 2 (ownOr i (number16 s (at + 116))) in
+    let a = at + 114 + 2 in
+    let z = bytesAt s (a + 2) 62 in
+    let first : overwritten (bytesAt s at 180) 114 y ≡ (x ++ y) ++ (bytesAt s a 2 ++ z) =
+    over-bytes s at 114 64 y ∙ ap (λ (l : List ℕ). x ++ (y ++ l)) (bytes-append s a 2 62) ∙ sym (append-assoc x y (bytesAt s a 2 ++ z)) in
+    let size : length (x ++ y) ≡ 116 = simp (length-append, size-bytes) in
+    let next : a + 2 ≡ at + 118 = omega arith in
+    ap (λ (l : List ℕ). overwritten l 116 u) first
+    ∙ over-part (x ++ y) (bytesAt s a 2) z u 116 size (size-bytes s a 2)
+    ∙ append-assoc x y (u ++ z)
+    ∙ ap (λ (p : ℕ). x ++ (y ++ (u ++ bytesAt s p 62))) next
+
 header-is : (s : List ℕ) → Bytes s → (n i at : ℕ) → numberBytes traceWidths (map (traceNumber s n i at) traceFields) ≡ headerCopied s n i at
-unfolding traceWidths traceFields headerCopied trace-front trace-back
+unfolding traceWidths traceFields trace-front trace-back
 header-is s h n i at =
     let f = fieldNumber s at in
     let zero-at : at + (1 - 1) ≡ at = add-zero at in
@@ -85,12 +116,9 @@ header-is s h n i at =
     let d = fields-again s h at 119 trace-back (omega arith) in
     numbers-append trace-front (2 ∷ 2 ∷ trace-back) (map f (fieldsFrom 1 trace-front)) (filled n (f countField) ∷ filled i (f intervalField) ∷ map f (fieldsFrom 119 trace-back)) refl
     ∙ ap₂ (λ (x y : List ℕ). x ++ y) a (ap₂ (λ (x y : List ℕ). x ++ y) b (ap₂ (λ (x y : List ℕ). x ++ y) c d))
+    ∙ sym (filled-is s n i at)
 
 -- ## Samples
-
-and-true : (b c : Bool) → (b && c) ≡ true → (b ≡ true) × (c ≡ true)
-and-true true c e = (refl, e)
-and-true false c e = absurd (subst T (sym e) tt)
 
 -- a word that is not refused
 sample-is : (s : List ℕ) (code p : ℕ) → isCode code ≡ true → wordCause s code p ≡ Fine → valueBytes (exactValue code (bytesAt s p 4)) ≡ sampleCopied s code p
@@ -138,7 +166,7 @@ pub code-sound : (code n i : ℕ) → Numbers code n i → isCode code ≡ true
 code-sound code n i h = rw (le-leb 1 code (h .code-low)) (le-leb code 4 (h .code-high))
 
 pub record-is : (s : List ℕ) → Bytes s → causesOf s ≡ Fine → reelRecord s ≡ recordCopied s (codeOf s) (samplesOf s) (intervalOf s) (strideOf s) (tracesOf s)
-unfolding recordOf meaningOf recordCopied headCopied
+unfolding recordOf meaningOf recordCopied
 record-is s b e =
     let h = reel-fine s e in
     let code = codeOf s in
@@ -146,12 +174,8 @@ record-is s b e =
     let i = intervalOf s in
     let w = strideOf s in
     let t = tracesOf s in
-    let bi = binary-is s b in
-    let x : field 1 (cardText s) ≡ tagBytes 1 3200 ++ cardText s = field-is 1 3200 (cardText s) (size-cards s) in
-    let y : field 2 (binaryBytes 0 (binaryNumbers s)) ≡ tagBytes 2 60 ++ recordBinaryCopied s =
-    field-is 2 60 (binaryBytes 0 (binaryNumbers s)) (ap length bi ∙ size-binary s) ∙ ap (λ (l : List ℕ). tagBytes 2 60 ++ l) bi in
     let z = traces-walk s b code n i (code-sound code n i (h .numbers)) w t firstTrace (h .traces) in
     let v : field 5 (bytesOf 4 (length (walk (traceMeaning s code n i) w t firstTrace))) ≡ tagBytes 5 4 ++ bytesOf 4 t =
     ap (λ (k : ℕ). field 5 (bytesOf 4 k)) (size-walk (traceMeaning s code n i) w t firstTrace) ∙ field-is 5 4 (bytesOf 4 t) refl in
-    ap₂ (λ (k l : List ℕ). k ++ l) x (ap₂ (λ (k l : List ℕ). k ++ l) y (ap₂ (λ (k l : List ℕ). k ++ l) z v))
-    ∙ simp append-assoc
+    sym (append-assoc (field 1 (cardText s)) (field 2 (binaryBytes 0 (binaryNumbers s))) _)
+    ∙ ap₂ (λ (k l : List ℕ). k ++ l) (sym (head-is s b)) (ap₂ (λ (k l : List ℕ). k ++ l) z v)

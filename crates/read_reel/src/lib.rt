@@ -5,16 +5,20 @@ ghost use mathlib.Core.Bool.{true};
 ghost use mathlib.Core.List.{_++_, map};
 ghost use Prim.Native.Nat.{_+_, _*_, _<_, _≤_};
 ghost use lib.ListN.{length};
-ghost use Rattle.numbers.specs.Walk.{flat};
+ghost use Rattle.numbers.specs.Walk.{flat, overwritten};
+ghost use Rattle.numbers.specs.Places.{placeNo, byteNo, bytePlace};
 ghost use Rattle.numbers.specs.BigEndian.{bytesOf};
 ghost use Rattle.value.specs.Value.{isCode};
 ghost use Rattle.reel.specs.Layout.{firstTrace, number16, sampleBytes, stride};
 ghost use Rattle.reel.specs.Causes.{mostSamples, mostTraces, reelJudged};
 ghost use Rattle.reel.specs.Meaning.{blank};
 ghost use Rattle.read_samples.specs.Samples.{places};
+ghost use Rattle.record.specs.Form.{tracesPlace, headerSize, heldStride};
+ghost use Rattle.record.specs.Record.{recordLength};
 ghost use Rattle.record.specs.Answer.{outcome};
 ghost use Rattle.read_reel.specs.Reading.{readOutcome};
-ghost use Rattle.read_reel.specs.Copied.{tagBytes, recordBinaryCopied, headCopied, ownOr, headerCopied, recordTraceCopied, recordCopied};
+ghost use Rattle.read_reel.specs.Copied.{tagBytes, fieldsCopied, headCopied, ownOr, fieldFilled, headerCopied, recordTraceCopied, recordCopied};
+use numbers::ByteNo;
 use numbers::Place;
 use record::Answer;
 use reel::Judged;
@@ -49,42 +53,48 @@ fn put_cards(src: &[u8], out: &mut [u8])
     }
 }
 
-// The number in two bytes, or the reel's own where it is 0.
-fn own_at(reel: &[u8], own: u16, at: usize) -> u16
-    requires { ⌜ at + 1 < length (now reel) ⌝ }
-    ensures { λ r. ⌜ r ≡ ownOr own (number16 (now (reel .entry)) at) ⌝ }
+// The number in a field of the trace at a place, or the reel's own where it is 0.
+fn own_at(reel: &[u8], own: u16, at: usize, b: ByteNo) -> u16
+    requires { ⌜ (1 ≤ byteNo b) × (at + byteNo b ≤ length (now reel)) ⌝ }
+    ensures { λ r. ⌜ r ≡ ownOr own (number16 (now (reel .entry)) (bytePlace at (byteNo b))) ⌝ }
 {
-    let v = numbers::be16(reel[at], reel[at + 1]);
+    let v = slices::number16_at(reel, places::field_at(Place(at), b));
     if v == 0 {
         return own;
     }
     v
 }
 
-// A trace's 71 fields, with N and the interval filled in.
-fn put_header(reel: &[u8], n: u16, i: u16, at: usize, out: &mut [u8])
-    requires { ⌜ (at + 180 ≤ length (now reel)) × (length (now out) ≡ 180) ⌝ }
-    ensures { λ _. ⌜ now (out .exit) ≡ headerCopied (now (reel .entry)) n i at ⌝ }
+// Stores a number over the two bytes at a place.
+fn put_over(n: u16, at: Place, out: &mut [u8])
+    requires { ⌜ placeNo at + 2 ≤ length (now out) ⌝ }
+    ensures { λ _. ⌜ now (out .exit) ≡ overwritten (now (out .entry)) (placeNo at) (bytesOf 2 n) ⌝ }
 {
-    slices::copy(&reel[at..at + 114], &mut out[0..114]);
-    slices::put16(own_at(reel, n, at + 114), &mut out[114..116]);
-    slices::put16(own_at(reel, i, at + 116), &mut out[116..118]);
-    slices::copy(&reel[at + 118..at + 180], &mut out[118..180]);
+    let p = at.0;
+    slices::put16(n, &mut out[p..p + 2]);
 }
 
-// The binary header's 27 fields, the format code replaced by 0.
-fn put_binary(reel: &[u8], out: &mut [u8])
-    requires { ⌜ (3600 ≤ length (now reel)) × (length (now out) ≡ 60) ⌝ }
-    ensures { λ _. ⌜ now (out .exit) ≡ recordBinaryCopied (now (reel .entry)) ⌝ }
+// Fills in a field of the trace at a place, in a copy of its header.
+fn fill_field(reel: &[u8], own: u16, at: usize, b: ByteNo, out: &mut [u8])
+    requires { ⌜ (1 ≤ byteNo b) × (byteNo b < length (now out)) × (at + length (now out) ≤ length (now reel)) ⌝ }
+    ensures { λ _. ⌜ now (out .exit) ≡ fieldFilled (now (reel .entry)) own at (byteNo b) (now (out .entry)) ⌝ }
 {
-    slices::copy(&reel[3200..3224], &mut out[0..24]);
-    slices::put16(0, &mut out[24..26]);
-    slices::copy(&reel[3226..3260], &mut out[26..60]);
+    put_over(own_at(reel, own, at, b), places::field_at(Place(0), b), out);
+}
+
+// A trace's 71 fields, with N and the interval filled in.
+fn put_header(reel: &[u8], n: u16, i: u16, at: usize, out: &mut [u8])
+    requires { ⌜ (at + headerSize ≤ length (now reel)) × (length (now out) ≡ headerSize) ⌝ }
+    ensures { λ _. ⌜ now (out .exit) ≡ headerCopied (now (reel .entry)) n i at ⌝ }
+{
+    slices::copy(&reel[at..at + 180], out);
+    fill_field(reel, n, at, ByteNo(115), out);
+    fill_field(reel, i, at, ByteNo(117), out);
 }
 
 // A trace: its header and its samples, each behind its tag.
 fn put_trace(reel: &[u8], code: usize, n: u16, i: u16, at: usize, out: &mut [u8])
-    requires { ⌜ (isCode code ≡ true) × (n ≤ mostSamples) × (at + stride n (sampleBytes code) ≤ length (now reel)) × (length (now out) ≡ 186 + n * 6) ⌝ }
+    requires { ⌜ (isCode code ≡ true) × (n ≤ mostSamples) × (at + stride n (sampleBytes code) ≤ length (now reel)) × (length (now out) ≡ heldStride n) ⌝ }
     ensures { λ _. ⌜ now (out .exit) ≡ recordTraceCopied (now (reel .entry)) code n i at ⌝ }
 {
     let size = 6 * n;
@@ -106,7 +116,7 @@ fn put_traces(
     t: usize,
     out: &mut [u8],
 )
-    requires { ⌜ (isCode code ≡ true) × (n ≤ mostSamples) × (w ≡ stride n (sampleBytes code)) × (m ≡ 186 + n * 6) × (3600 + t * w ≤ length (now reel)) × (length (now out) ≡ t * m) ⌝ }
+    requires { ⌜ (isCode code ≡ true) × (n ≤ mostSamples) × (w ≡ stride n (sampleBytes code)) × (m ≡ heldStride n) × (firstTrace + t * w ≤ length (now reel)) × (length (now out) ≡ t * m) ⌝ }
     ensures { λ _. ⌜ now (out .exit) ≡ flat (map (recordTraceCopied (now (reel .entry)) code n i) (places w t firstTrace)) ⌝ }
 {
     let mut at = 3600;
@@ -130,23 +140,32 @@ fn put_count(t: u32, out: &mut [u8])
     slices::put32(t, &mut out[3..7]);
 }
 
-// The card bytes and the binary header, each behind its tag.
-fn put_head(reel: &[u8], out: &mut [u8])
-    requires { ⌜ (3600 ≤ length (now reel)) × (length (now out) ≡ 3266) ⌝ }
-    ensures { λ _. ⌜ now (out .exit) ≡ headCopied (now (reel .entry)) ⌝ }
+// The card bytes and the binary header's 27 fields, each behind its tag.
+fn put_fields(reel: &[u8], out: &mut [u8])
+    requires { ⌜ (firstTrace ≤ length (now reel)) × (length (now out) ≡ tracesPlace) ⌝ }
+    ensures { λ _. ⌜ now (out .exit) ≡ fieldsCopied (now (reel .entry)) ⌝ }
 {
     put_tag(1, 3200, &mut out[0..3]);
     put_cards(&reel[0..3200], &mut out[3..3203]);
     put_tag(2, 60, &mut out[3203..3206]);
-    put_binary(reel, &mut out[3206..3266]);
+    slices::copy(&reel[3200..3260], &mut out[3206..3266]);
+}
+
+// The same, the format code replaced by 0. Byte number 1 would stand at the place 6 of the record.
+fn put_head(reel: &[u8], out: &mut [u8])
+    requires { ⌜ (firstTrace ≤ length (now reel)) × (length (now out) ≡ tracesPlace) ⌝ }
+    ensures { λ _. ⌜ now (out .exit) ≡ headCopied (now (reel .entry)) ⌝ }
+{
+    put_fields(reel, out);
+    put_over(0, places::field_at(Place(6), ByteNo(3225)), out);
 }
 
 // The record of t traces of n samples, which fills out.
 fn put_record(reel: &[u8], code: usize, n: u16, i: u16, w: usize, t: usize, out: &mut [u8])
-    requires { ⌜ (isCode code ≡ true) × (n ≤ mostSamples) × (w ≡ stride n (sampleBytes code)) × (t ≤ mostTraces) × (3600 + t * w ≤ length (now reel)) × (length (now out) ≡ 3273 + t * (186 + n * 6)) ⌝ }
+    requires { ⌜ (isCode code ≡ true) × (n ≤ mostSamples) × (w ≡ stride n (sampleBytes code)) × (t ≤ mostTraces) × (firstTrace + t * w ≤ length (now reel)) × (length (now out) ≡ recordLength t n) ⌝ }
     ensures { λ _. ⌜ now (out .exit) ≡ recordCopied (now (reel .entry)) code n i w t ⌝ }
 {
-    let m = 186 + n as usize * 6;
+    let m = 186 + 6 * n as usize;
     let e = 3266 + t * m;
     put_head(reel, &mut out[0..3266]);
     put_traces(reel, code, n, i, w, m, t, &mut out[3266..e]);
@@ -167,7 +186,7 @@ fn read_checked(
     requires { ⌜ reelJudged (now reel) ≡ Judged.Fine code n i v w t ⌝ }
     ensures { λ r. ⌜ outcome r (now (out .exit)) ≡ readOutcome (now (reel .entry)) (now (out .entry)) ⌝ }
 {
-    let length = 3273 + t * (186 + n * 6);
+    let length = 3273 + t * (186 + 6 * n);
     if out.len() < length {
         return Answer::Refused {
             number: 10,

@@ -1,4 +1,4 @@
--- The samples of a trace as the code writes them: how long they are, what a word gives under each code, and the loops' steps. Assumes nothing.
+-- The samples of a trace as the code writes them: how long they are, and what a word gives under each code. Assumes nothing.
 use mathlib.Core.Path.{_≡_, refl, sym, ap, _∙_}
 use mathlib.Core.Bool.{Bool, true, false, not, _&&_}
 use mathlib.Core.List.{List, [], _∷_, _++_}
@@ -13,9 +13,9 @@ use lib.ListN.{length, getD}
 use Rattle.numbers.specs.Walk.{pick, bytesAt}
 use Rattle.numbers.specs.BigEndian.{number}
 use Rattle.numbers.specs.TwosComplement.{signedOf}
-use Rattle.numbers.proofs.WalkLaws.{flat-length, flat-more, flat-none, four-bytes}
+use Rattle.numbers.proofs.WalkLaws.{flat-length, flat-none, four-bytes}
 use Rattle.numbers.proofs.BoolLaws.{and-true}
-use Rattle.numbers.proofs.Filling.{Filling, finish, again, lend}
+use Rattle.numbers.proofs.Filling.{in-turn}
 use Rattle.value.specs.Value.{denominatorPower, ibmValue, wholeValue, gainValue, isCode}
 use Rattle.sample.specs.Reading.{pairTaken, readWord}
 use Rattle.sample.specs.declared.Sample.{Sample}
@@ -28,18 +28,25 @@ pub size-content : (q : Sample) → length (sampleContent q) ≡ 6
 size-content (Taken e m) = refl
 size-content (Refused number) = refl
 
-pub size-exponent : (q : Sample) → length (exponentContent q) ≡ 2
+size-exponent : (q : Sample) → length (exponentContent q) ≡ 2
 size-exponent (Taken e m) = refl
 size-exponent (Refused number) = refl
 
 -- a sample's bytes are those of its exponent and those of its mantissa
-pub content-parts : (q : Sample) → exponentContent q ++ mantissaContent q ≡ sampleContent q
+content-parts : (q : Sample) → exponentContent q ++ mantissaContent q ≡ sampleContent q
 content-parts (Taken e m) = refl
 content-parts (Refused number) = refl
 
+-- the two put one behind the other in six bytes
+pub parts-put : (out : List ℕ) (q : Sample) {ys zs : List ℕ} → length out ≡ 6 → ys ≡ exponentContent q → zs ≡ mantissaContent q → putMid 2 4 (putMid 0 2 out ys) zs ≡ sampleContent q
+parts-put out q size is was = in-turn 2 4 out size (size-exponent q) is was ∙ content-parts q
+
+pub size-copied : (s : List ℕ) (code p : ℕ) → length (sampleCopied s code p) ≡ 6
+size-copied s code p = size-content (readWord code (bytesAt s p 4))
+
 pub size-samples : (s : List ℕ) (code n at : ℕ) → length (samplePairs s code n at) ≡ n * 6
 unfolding samplePairs
-size-samples s code n at = flat-length (sampleCopied s code) (λ p. p) 6 (λ p. size-content (readWord code (bytesAt s p 4))) (sampleBytes code) n at
+size-samples s code n at = flat-length (sampleCopied s code) (λ p. p) 6 (size-copied s code) (sampleBytes code) n at
 
 -- ## Samples
 
@@ -82,10 +89,6 @@ module _ (s : List ℕ) (at : ℕ) where
       go true = refl
       go false = refl
 
--- a code of four bytes isn't 3
-pub not-three : (code : ℕ) → sampleBytes code ≡ 4 → code ≡ 3 → ⊥
-not-three code h e = let z : _≡_ {A = ℕ} 2 4 = ap sampleBytes (sym e) ∙ h in omega arith
-
 two-bytes : (s : List ℕ) (at : ℕ) → number (bytesAt s (at + 2) 2) ≡ getD s (at + 2) 0 * 256 + getD s (at + 3) 0
 unfolding bytesAt
 two-bytes s at = let b : at + 2 + 1 ≡ at + 3 = omega arith in rw b (omega arith)
@@ -102,33 +105,10 @@ module _ (s : List ℕ) (at w : ℕ) (h : WordAt s at w) where
   pub whole32-content : sampleContent (pairTaken (wholeValue (signedOf 32 w))) ≡ sampleCopied s 2 at
   whole32-content = ap (λ (w : ℕ). sampleContent (pairTaken (wholeValue (signedOf 32 w)))) (h .whole) ∙ ap sampleContent (whole32-copied s at)
 
--- samples, one more and none
-pub samples-more : (s : List ℕ) (code k at : ℕ) → 0 < k → samplePairs s code k at ≡ sampleCopied s code at ++ samplePairs s code (k - 1) (at + sampleBytes code)
-unfolding samplePairs
-samples-more s code k at h = flat-more (sampleCopied s code) (λ p. p) (sampleBytes code) k at h
-
+-- no sample
 pub samples-none : (s : List ℕ) (code k at : ℕ) → k ≤ 0 → samplePairs s code k at ≡ []
 unfolding samplePairs
 samples-none s code k at h = flat-none (sampleCopied s code) (λ p. p) (sampleBytes code) k at h
-
--- the next of k samples put behind those that stand: what is left is one fewer
-pub sample-put : (s : List ℕ) (code k at o : ℕ) {all out ys : List ℕ} → 0 < k → Filling all out o (samplePairs s code k at) → ys ≡ sampleCopied s code at
-    → Filling all (putMid o (o + 6 - o) out ys) (o + 6) (samplePairs s code (k - 1) (at + sampleBytes code))
-sample-put s code k at o h w is =
-    lend (sampleCopied s code at) (samplePairs s code (k - 1) (at + sampleBytes code)) (o + 6) (again w (samples-more s code k at h)) (omega arith) (size-content (readWord code (bytesAt s at 4)) ∙ omega arith) is
-
--- the same where the first of the samples that are left has been fetched, and k stand behind it
-pub next-put : (s : List ℕ) (code k at o : ℕ) {all out ys : List ℕ} → 0 < k → Filling all out o (samplePairs s code (k + 1) at) → ys ≡ sampleCopied s code at
-    → Filling all (putMid o (o + 6 - o) out ys) (o + 6) (samplePairs s code (k - 1 + 1) (at + sampleBytes code))
-next-put s code k at o some w is =
-    let j : k + 1 - 1 ≡ k - 1 + 1 = omega arith in
-    again (sample-put s code (k + 1) at o (omega arith) w is) (ap (λ (x : ℕ). samplePairs s code x (at + sampleBytes code)) j)
-
-pub last-put : (s : List ℕ) (code k at o p : ℕ) {all out ys : List ℕ} → k ≤ 0 → p ≡ o → Filling all out o (samplePairs s code (k + 1) at) → ys ≡ sampleCopied s code at
-    → putMid p (p + 6 - p) out ys ≡ all
-last-put s code k at o p {all} {out} {ys} none there w is =
-    ap (λ (x : ℕ). putMid x (x + 6 - x) out ys) there
-    ∙ finish (sample-put s code (k + 1) at o (omega arith) w is) (samples-none s code (k + 1 - 1) (at + sampleBytes code) (omega arith))
 
 -- ## The call
 

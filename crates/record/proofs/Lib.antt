@@ -2,3 +2,5 @@
 pub mod NumberLaws
 pub mod HeaderLaws
 pub mod FormLaws
+pub mod JudgedLaws
+pub mod StoredLaws

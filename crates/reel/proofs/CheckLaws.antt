@@ -49,6 +49,10 @@ code-limits code h = go (leb 1 code) (leb code 4) refl refl h
     go true false p q e = absurd (subst T (sym e) tt)
     go false y p q e = absurd (subst T (sym e) tt)
 
+-- a code of four bytes isn't 3
+pub not-three : (code : ℕ) → sampleBytes code ≡ 4 → code ≡ 3 → ⊥
+not-three code h e = let z : _≡_ {A = ℕ} 2 4 = ap sampleBytes (sym e) ∙ h in omega arith
+
 -- ## Where nothing is found
 
 pub both-true : (a b : Bool) → not (a && b) ≡ false → (a ≡ true) × (b ≡ true)

@@ -1,44 +1,49 @@
--- The pieces of a reel as the code writes them: how long each is, and one more and none of its traces. Assumes nothing.
+-- The pieces of a reel as the code writes them: how long each is. Assumes nothing.
 use mathlib.Core.Path.{_≡_, ap, _∙_}
-use mathlib.Core.List.{List, [], _++_, map}
-use Prim.Native.Nat.{ℕ, _+_, _-_, _*_, _≤_, _<_}
+use mathlib.Core.List.{List, _++_, map}
+use Prim.Native.Nat.{ℕ, _+_, _-_, _*_, _≤_}
 use native.Mathlib.Omega.{arith}
 use lib.ListN.{length, replicate, length-append, length-replicate}
-use Rattle.numbers.specs.Walk.{walk, flat}
-use Rattle.numbers.proofs.WalkLaws.{flat-length, flat-more, flat-none, size-bytes}
-use Rattle.reel.specs.Layout.{sampleBytes, stride}
+use Rattle.numbers.specs.Walk.{walk, flat, bytesAt}
+use Rattle.numbers.specs.Places.{bytePlace}
+use Rattle.numbers.specs.BigEndian.{bytesOf}
+use Rattle.numbers.proofs.WalkLaws.{flat-length, size-bytes}
+use Rattle.numbers.proofs.Filling.{size-over}
+use Rattle.reel.specs.Layout.{firstTrace, sampleBytes, stride}
 use Rattle.write_samples.proofs.WordLaws.{size-samples}
 use Rattle.record.specs.Form.{heldStride}
-use Rattle.write_reel.specs.Copied.{zerosFor, reelTraceCopied, reelBinaryCopied, reelCopied}
+use Rattle.write_reel.specs.Copied.{zerosFor, headerCopied, reelTraceCopied, partsCopied, reelCopied}
 
 -- unassigned bytes in a slice of k bytes
 pub zeroed : (out : List ℕ) (k : ℕ) {ys : List ℕ} → ys ≡ zerosFor out → length out ≡ k → ys ≡ replicate k 0
 unfolding zerosFor
 zeroed out k p e = p ∙ ap (λ (n : ℕ). replicate n 0) e
 
--- ## Lengths
+-- a header whose assigned bytes are k bytes of a record
+pub header-bytes : (size : ℕ) (s : List ℕ) (at k : ℕ) → headerCopied size (bytesAt s at k) ≡ bytesAt s at k ++ replicate (size - k) 0
+unfolding headerCopied
+header-bytes size s at k = ap (λ (n : ℕ). bytesAt s at k ++ replicate (size - n) 0) (size-bytes s at k)
 
-pub size-binary : (s : List ℕ) (code : ℕ) → length (reelBinaryCopied s code) ≡ 400
-unfolding reelBinaryCopied
-size-binary s code = simp (length-append, size-bytes, length-replicate)
+pub size-header : (size : ℕ) (l : List ℕ) → length l ≤ size → length (headerCopied size l) ≡ size
+unfolding headerCopied
+size-header size l h = simp (length-append, length-replicate) (omega arith)
+
+-- a header is as long as it is to be, where k bytes of a record are assigned
+pub size-bytes-header : (size : ℕ) (s : List ℕ) (at k : ℕ) → k ≤ size → length (headerCopied size (bytesAt s at k)) ≡ size
+size-bytes-header size s at k h = size-header size (bytesAt s at k) (omega (arith, size-bytes s at k))
 
 module _ (s : List ℕ) (code n : ℕ) where
   pub size-trace : (at : ℕ) → length (reelTraceCopied s code n at) ≡ stride n (sampleBytes code)
   unfolding reelTraceCopied
-  size-trace at = simp (length-append, size-bytes, length-replicate, size-samples) (omega arith)
+  size-trace at = simp (length-append, size-samples) (omega (arith, size-bytes-header 240 s (at + 3) 180 (omega arith)))
 
   pub size-traces : (t at : ℕ) → length (flat (map (reelTraceCopied s code n) (walk (λ p. p) (heldStride n) t at))) ≡ t * stride n (sampleBytes code)
   size-traces t at = flat-length (reelTraceCopied s code n) (λ p. p) (stride n (sampleBytes code)) size-trace (heldStride n) t at
 
-  pub size-reel : (t : ℕ) → length (reelCopied s code n t) ≡ 3600 + t * stride n (sampleBytes code)
+  pub size-parts : (t : ℕ) → length (partsCopied s code n t) ≡ firstTrace + t * stride n (sampleBytes code)
+  unfolding partsCopied
+  size-parts t = simp (length-append, size-bytes, size-traces) (omega (arith, size-bytes-header 400 s 3206 60 (omega arith)))
+
+  pub size-reel : (t : ℕ) → length (reelCopied s code n t) ≡ firstTrace + t * stride n (sampleBytes code)
   unfolding reelCopied
-  size-reel t = simp (length-append, size-bytes, size-binary, size-traces) (omega arith)
-
-  -- traces, one more and none
-  pub traces-more : (k at : ℕ) → 0 < k
-      → flat (map (reelTraceCopied s code n) (walk (λ p. p) (heldStride n) k at))
-      ≡ reelTraceCopied s code n at ++ flat (map (reelTraceCopied s code n) (walk (λ p. p) (heldStride n) (k - 1) (at + heldStride n)))
-  traces-more k at h = flat-more (reelTraceCopied s code n) (λ p. p) (heldStride n) k at h
-
-  pub traces-none : (k at : ℕ) → k ≤ 0 → flat (map (reelTraceCopied s code n) (walk (λ p. p) (heldStride n) k at)) ≡ []
-  traces-none k at h = flat-none (reelTraceCopied s code n) (λ p. p) (heldStride n) k at h
+  size-reel t = size-over (partsCopied s code n t) (bytesOf 2 code) (bytePlace 0 3225) (omega (arith, size-parts t)) ∙ size-parts t

@@ -6,39 +6,32 @@ use Prim.Native.Nat.{ℕ, zero, suc, _+_, _-_, _*_}
 use native.Mathlib.Nat.{add-zero}
 use native.Mathlib.Omega.{arith}
 use borrow.Author.Tests.{not-false}
-use lib.ListN.{replicate, take}
-use lib.IntN.{ℤ, pos}
+use lib.ListN.{length, replicate}
 use Rattle.numbers.specs.Terms.{Bytes}
-use Rattle.numbers.specs.Walk.{walk, flat, bytesAt}
+use Rattle.numbers.specs.Walk.{walk, flat, bytesAt, overwritten}
+use Rattle.numbers.specs.Places.{bytePlace}
 use Rattle.numbers.specs.BigEndian.{bytesOf}
 use Rattle.numbers.specs.Cause.{refuseIf, then, firstOf}
 use Rattle.numbers.specs.declared.Check.the-variants.{Fine}
 use Rattle.numbers.proofs.CauseLaws.{passed, then-fine}
+use Rattle.numbers.proofs.WalkLaws.{size-bytes}
 use Rattle.value.specs.Value.{isCode}
 use Rattle.value.specs.Pair.{isCanonical, pairLength, pairIn}
-use Rattle.reel.specs.Layout.{cardBytes, fieldsFrom, binaryWidths, binaryFields, traceWidths, traceFields, fieldNumber}
-use Rattle.reel.specs.Meaning.{otherThan, Trace, Meaning}
-use Rattle.record.specs.Record.{numberBytes, withCode, binaryBytes}
-use Rattle.record.specs.Form.{heldSamples, heldInterval, heldStride, heldCount, tracesPlace, pairCause, traceForm, cardsCauses, binaryCauses, bodyCauses, formCauses}
+use Rattle.reel.specs.Layout.{cardBytes, traceHeader, traceWidths, traceFields, fieldNumber}
+use Rattle.reel.specs.Meaning.{Trace, Meaning}
+use Rattle.record.specs.Record.{numberBytes, binaryBytes}
+use Rattle.record.specs.Form.{fieldHead, binarySize, binaryStart, headerSize, toPairs, heldSamples, heldInterval, heldStride, heldCount, tracesPlace, pairCause, traceForm, cardsCauses, binaryCauses, bodyCauses, formCauses}
 use Rattle.record.specs.Held.{heldValue, heldTrace, heldBy}
 use Rattle.fit.specs.Target.{targetCauses}
 use Rattle.record.specs.Parts.{headForm}
-use Rattle.record.proofs.NumberLaws.{total, fields-again, numbers-append}
-use Rattle.record.proofs.HeaderLaws.{binary-front, binary-back}
+use Rattle.record.proofs.NumberLaws.{fields-again}
+use Rattle.record.proofs.StoredLaws.{code-stored}
 use Rattle.record.proofs.FormLaws.{trace-form}
 use Rattle.fit.proofs.FitLaws.{target-form}
-use Rattle.write_reel.specs.Reel.{sampleWritten, traceWritten, reelOf}
+use Rattle.write_reel.specs.Reel.{sampleWritten, binaryHeader, traceWritten, reelOf}
 use Rattle.write_samples.specs.Samples.{wordBytes, writtenAt, sampleWords}
-use Rattle.write_reel.specs.Copied.{reelTraceCopied, reelBinaryCopied, reelCopied}
-
--- ## The binary header
-
-binary-is : (s : List ℕ) → Bytes s → (code : ℕ) → binaryBytes code (heldBy s .binary) ≡ bytesAt s 3206 24 ++ (bytesOf 2 code ++ bytesAt s 3232 34)
-unfolding heldBy binaryBytes binaryWidths binaryFields binary-front binary-back
-binary-is s h code =
-    let f = fieldNumber s 6 in
-    numbers-append binary-front (2 ∷ binary-back) (map f (fieldsFrom 3201 binary-front)) (pos code ∷ map f (fieldsFrom 3227 binary-back)) refl
-    ∙ ap₂ (λ (x y : List ℕ). x ++ (bytesOf 2 code ++ y)) (fields-again s h 6 3201 binary-front (omega arith)) (fields-again s h 6 3227 binary-back (omega arith))
+use Rattle.write_reel.specs.Copied.{headerCopied, reelTraceCopied, partsCopied, reelCopied}
+use Rattle.write_reel.proofs.CopiedLaws.{header-bytes}
 
 -- ## Samples
 
@@ -66,7 +59,12 @@ module _ (s : List ℕ) (b : Bytes s) (code n i : ℕ) (h : isCode code ≡ true
   unfolding traceWritten heldTrace reelTraceCopied sampleWords
   trace-is at e =
       let t = then-fine (headForm s n i at) _ (sym (trace-form s n i at) ∙ e) in
-      ap₂ (λ (x y : List ℕ). x ++ (replicate 60 0 ++ y)) (header-is at) (samples-walk s code h pairLength n (at + 186) (t .1))
+      let header = bytesAt s (at + fieldHead) headerSize in
+      let zeros : List ℕ = replicate (traceHeader - headerSize) 0 in
+      let words = flat (map (wordBytes code) (walk (writtenAt s code) pairLength n (at + toPairs))) in
+      ap₂ (λ (x y : List ℕ). x ++ (zeros ++ y)) (header-is at) (samples-walk s code h pairLength n (at + toPairs) (t .1))
+      ∙ sym (append-assoc header zeros words)
+      ∙ ap (λ (l : List ℕ). l ++ words) (sym (header-bytes traceHeader s (at + fieldHead) headerSize))
 
   traces-walk : (w k at : ℕ) → firstOf (walk (traceForm s n i) w k at) ≡ Fine
       → flat (map (traceWritten code) (walk (heldTrace s n) w k at)) ≡ flat (map (reelTraceCopied s code n) (walk (λ p. p) w k at))
@@ -82,10 +80,6 @@ traces-fine : (s : List ℕ) → formCauses s ≡ Fine → let n = heldSamples s
 unfolding formCauses bodyCauses
 traces-fine s e = then-fine _ _ (then-fine (binaryCauses s) _ (then-fine (cardsCauses s) _ e .1) .1) .0
 
-cards-is : (s : List ℕ) → heldBy s .cards ≡ bytesAt s 3 3200
-unfolding heldBy
-cards-is s = refl
-
 traces-is : (s : List ℕ) → Bytes s → (code : ℕ) → isCode code ≡ true → formCauses s ≡ Fine
     → let n = heldSamples s in flat (map (traceWritten code) (heldBy s .traces)) ≡ flat (map (reelTraceCopied s code n) (walk (λ p. p) (heldStride n) (heldCount s n) tracesPlace))
 unfolding heldBy
@@ -93,10 +87,16 @@ traces-is s b code h e = traces-walk s b code (heldSamples s) (heldInterval s) h
 
 pub reel-is : (s : List ℕ) → Bytes s → (code : ℕ) → isCode code ≡ true → formCauses s ≡ Fine
     → reelOf code (heldBy s) ≡ reelCopied s code (heldSamples s) (heldCount s (heldSamples s))
-unfolding reelOf reelCopied reelBinaryCopied
+unfolding reelOf reelCopied partsCopied heldBy
 reel-is s b code h e =
     let n = heldSamples s in
+    let cards = bytesAt s fieldHead cardBytes in
+    let binary = bytesAt s (bytePlace binaryStart 3201) binarySize in
+    let zeros : List ℕ = replicate (binaryHeader - binarySize) 0 in
     let traces = flat (map (reelTraceCopied s code n) (walk (λ p. p) (heldStride n) (heldCount s n) tracesPlace)) in
-    ap₂ (λ (x y : List ℕ). heldBy s .cards ++ (x ++ (replicate 340 0 ++ y))) (binary-is s b code) (traces-is s b code h e)
-    ∙ ap (λ (c : List ℕ). c ++ ((bytesAt s 3206 24 ++ (bytesOf 2 code ++ bytesAt s 3232 34)) ++ (replicate 340 0 ++ traces))) (cards-is s)
-    ∙ simp append-assoc
+    let place : bytePlace 0 3225 ≡ length cards + (3225 - 3201) = rw (size-bytes s fieldHead cardBytes) in
+    let joined : headerCopied binaryHeader binary ++ traces ≡ binary ++ (zeros ++ traces) =
+    ap (λ (l : List ℕ). l ++ traces) (header-bytes binaryHeader s (bytePlace binaryStart 3201) binarySize) ∙ append-assoc binary zeros traces in
+    ap (λ (l : List ℕ). cards ++ (binaryBytes code (heldBy s .binary) ++ (zeros ++ l))) (traces-is s b code h e)
+    ∙ sym (ap (λ (l : List ℕ). overwritten (cards ++ l) (bytePlace 0 3225) (bytesOf 2 code)) joined
+    ∙ code-stored s b binaryStart code cards (zeros ++ traces) (bytePlace 0 3225) place)

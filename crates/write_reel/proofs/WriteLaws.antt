@@ -20,39 +20,17 @@ use Rattle.reel.specs.Causes.{mostSamples, mostTraces}
 use Rattle.reel.proofs.CheckLaws.{stride-high}
 use Rattle.record.specs.Form.{heldSamples, heldInterval, heldStride, heldCount, tracesPlace, cardsCauses, binaryCauses, bodyCauses, formCauses}
 use Rattle.record.specs.Held.{heldBy}
-use Rattle.fit.specs.Target.{targetCauses, fitJudged}
-use Rattle.record.specs.Form.{recordFound}
+use Rattle.fit.specs.Target.{targetCauses}
 use Rattle.record.specs.Answer.{outcome}
-use Rattle.record.specs.declared.Judged.{Judged}
-use Rattle.record.specs.declared.Judged.the-variants as judged
 use Rattle.record.specs.declared.Answer.{Answer}
 use Rattle.record.specs.declared.Answer.the-variants.{Taken, Refused}
 use Rattle.record.proofs.FormLaws.{tags-most, Headed, headed, held-length}
+use Rattle.record.proofs.JudgedLaws.{Own}
 use Rattle.fit.proofs.FitLaws.{target-form}
 use Rattle.write_reel.specs.Reel.{reelOf, reelLength}
 use Rattle.write_reel.specs.Writing.{reelLengthOf, writeCauses, writeEnd, writeOutcome}
 use Rattle.write_reel.specs.Copied.{reelCopied}
 use Rattle.write_reel.proofs.ReelLaws.{reel-is}
-
--- a record with no cause of 11 to 14 against it, by its N and T
-pub record Own (s : List ℕ) (code n t : ℕ) : Type 0 where
-  pub fine : targetCauses s code ≡ check.Fine
-  pub n-is : heldSamples s ≡ n
-  pub t-is : heldCount s (heldSamples s) ≡ t
-
-pub own : (s : List ℕ) (code n t : ℕ) → fitJudged s code ≡ judged.Fine n t → Own s code n t
-own s code n t e = go (targetCauses s code) refl e
-  where
-    go : (c : Check) → targetCauses s code ≡ c → recordFound s c ≡ judged.Fine n t → Own s code n t
-    go check.Fine q k = record { fine = q; n-is = cc; t-is = cc }
-    go (check.Refused number place) q k = absurd (let z : _≡_ {A = ℕ} 0 1 = cc in omega arith)
-
-pub refused-is : (s : List ℕ) (code number : ℕ) (place : Place) → fitJudged s code ≡ judged.Refused number place → targetCauses s code ≡ check.Refused number place
-refused-is s code number place e = go (targetCauses s code) refl e
-  where
-    go : (c : Check) → targetCauses s code ≡ c → recordFound s c ≡ judged.Refused number place → targetCauses s code ≡ check.Refused number place
-    go check.Fine q k = absurd (let z : _≡_ {A = ℕ} 0 1 = cc in omega arith)
-    go (check.Refused m p) q k = let a : m ≡ number = cc in let b : p ≡ place = cc in q ∙ ap₂ check.Refused a b
 
 -- what the code asks of its numbers
 pub record Fit (s : List ℕ) (code n t : ℕ) : Type 0 where
@@ -63,7 +41,7 @@ pub record Fit (s : List ℕ) (code n t : ℕ) : Type 0 where
   pub wide : stride n (sampleBytes code) ≤ 32240
   pub size : t * stride n (sampleBytes code) ≤ 100000 * 32240
 
-pub fit : (s : List ℕ) (code n t : ℕ) → Own s code n t → Fit s code n t
+pub fit : (s : List ℕ) (code n t : ℕ) → Own s (targetCauses s code) n t → Fit s code n t
 unfolding targetCauses formCauses
 fit s code n t o =
     let a = then-fine (refuseIf (not (isCode code)) 11 0) _ (o .fine) in
@@ -88,7 +66,7 @@ module _ (s : List ℕ) (code : ℕ) (out : List ℕ) where
   pub refused-end : (number : ℕ) (place : Place) → targetCauses s code ≡ check.Refused number place → outcome (Refused number place) out ≡ writeOutcome s code out
   refused-end number place e = rw e
 
-  module _ (n t k : ℕ) (o : Own s code n t) (q : k ≡ firstTrace + t * stride n (sampleBytes code)) where
+  module _ (n t k : ℕ) (o : Own s (targetCauses s code) n t) (q : k ≡ firstTrace + t * stride n (sampleBytes code)) where
     length-is : reelLengthOf s code ≡ k
     length-is = ap₂ (reelLength code) (o .t-is) (o .n-is) ∙ sym q
 

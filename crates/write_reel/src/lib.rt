@@ -5,16 +5,18 @@ ghost use mathlib.Core.Bool.{true};
 ghost use mathlib.Core.List.{map};
 ghost use Prim.Native.Nat.{_+_, _*_, _≤_};
 ghost use lib.ListN.{length};
-ghost use Rattle.numbers.specs.Walk.{walk, flat};
+ghost use Rattle.numbers.specs.Walk.{walk, flat, overwritten};
+ghost use Rattle.numbers.specs.Places.{bytePlace};
 ghost use Rattle.numbers.specs.BigEndian.{bytesOf};
 ghost use Rattle.value.specs.Value.{isCode};
-ghost use Rattle.reel.specs.Layout.{sampleBytes, stride};
+ghost use Rattle.reel.specs.Layout.{firstTrace, sampleBytes, stride};
 ghost use Rattle.reel.specs.Causes.{mostSamples};
 ghost use Rattle.record.specs.Form.{heldStride, tracesPlace};
 ghost use Rattle.fit.specs.Target.{fitJudged};
 ghost use Rattle.record.specs.Answer.{outcome};
 ghost use Rattle.write_reel.specs.Writing.{writeOutcome};
-ghost use Rattle.write_reel.specs.Copied.{zerosFor, reelTraceCopied, reelBinaryCopied, reelCopied};
+ghost use Rattle.write_reel.specs.Copied.{zerosFor, headerCopied, reelTraceCopied, reelCopied};
+use numbers::ByteNo;
 use numbers::Place;
 use record::Answer;
 use record::Judged;
@@ -30,14 +32,24 @@ fn put_zeros(out: &mut [u8])
     }
 }
 
+// A header: its assigned bytes, and behind them the unassigned.
+fn put_header(assigned: &[u8], out: &mut [u8])
+    requires { ⌜ length (now assigned) ≤ length (now out) ⌝ }
+    ensures { λ _. ⌜ now (out .exit) ≡ headerCopied (length (now (out .entry))) (now (assigned .entry)) ⌝ }
+{
+    let k = assigned.len();
+    let e = out.len();
+    slices::copy(assigned, &mut out[0..k]);
+    put_zeros(&mut out[k..e]);
+}
+
 // A trace: its 71 fields, the unassigned bytes of its header, and its samples.
 fn put_trace(record: &[u8], code: u32, n: usize, at: usize, out: &mut [u8])
-    requires { ⌜ (isCode code ≡ true) × (at + (186 + n * 6) ≤ length (now «record»)) × (length (now out) ≡ stride n (sampleBytes code)) ⌝ }
+    requires { ⌜ (isCode code ≡ true) × (at + heldStride n ≤ length (now «record»)) × (length (now out) ≡ stride n (sampleBytes code)) ⌝ }
     ensures { λ _. ⌜ now (out .exit) ≡ reelTraceCopied (now («record» .entry)) code n at ⌝ }
 {
     let e = out.len();
-    slices::copy(&record[at + 3..at + 183], &mut out[0..180]);
-    put_zeros(&mut out[180..240]);
+    put_header(&record[at + 3..at + 183], &mut out[0..240]);
     write_samples::write_samples(record, code, n, Place(at + 186), &mut out[240..e]);
 }
 
@@ -58,36 +70,25 @@ fn put_traces(record: &[u8], code: u32, n: usize, w: usize, m: usize, t: usize, 
     }
 }
 
-// A format code, which is 1 to 4, in two bytes.
+// A format code, which is 1 to 4, in its field of a reel.
 fn put_code(code: u32, out: &mut [u8])
-    requires { ⌜ (isCode code ≡ true) × (length (now out) ≡ 2) ⌝ }
-    ensures { λ _. ⌜ now (out .exit) ≡ bytesOf 2 code ⌝ }
+    requires { ⌜ (isCode code ≡ true) × (firstTrace ≤ length (now out)) ⌝ }
+    ensures { λ _. ⌜ now (out .exit) ≡ overwritten (now (out .entry)) (bytePlace 0 3225) (bytesOf 2 code) ⌝ }
 {
-    let b = numbers::bytes16(code as u16);
-    out[0] = b[0];
-    out[1] = b[1];
-}
-
-// The binary header: its 27 fields, with the target's format code, and its unassigned bytes.
-fn put_binary(record: &[u8], code: u32, out: &mut [u8])
-    requires { ⌜ (isCode code ≡ true) × (tracesPlace ≤ length (now «record»)) × (length (now out) ≡ 400) ⌝ }
-    ensures { λ _. ⌜ now (out .exit) ≡ reelBinaryCopied (now («record» .entry)) code ⌝ }
-{
-    slices::copy(&record[3206..3230], &mut out[0..24]);
-    put_code(code, &mut out[24..26]);
-    slices::copy(&record[3232..3266], &mut out[26..60]);
-    put_zeros(&mut out[60..400]);
+    let p = places::field_at(Place(0), ByteNo(3225)).0;
+    slices::put16(code as u16, &mut out[p..p + 2]);
 }
 
 // The reel of t traces of n samples, which fills out.
 fn put_reel(record: &[u8], code: u32, n: usize, w: usize, t: usize, out: &mut [u8])
-    requires { ⌜ (isCode code ≡ true) × (w ≡ stride n (sampleBytes code)) × (n ≤ mostSamples) × (tracesPlace + t * heldStride n ≤ length (now «record»)) × (length (now out) ≡ 3600 + t * w) ⌝ }
+    requires { ⌜ (isCode code ≡ true) × (w ≡ stride n (sampleBytes code)) × (n ≤ mostSamples) × (tracesPlace + t * heldStride n ≤ length (now «record»)) × (length (now out) ≡ firstTrace + t * w) ⌝ }
     ensures { λ _. ⌜ now (out .exit) ≡ reelCopied (now («record» .entry)) code n t ⌝ }
 {
     let e = out.len();
     slices::copy(&record[3..3203], &mut out[0..3200]);
-    put_binary(record, code, &mut out[3200..3600]);
+    put_header(&record[3206..3266], &mut out[3200..3600]);
     put_traces(record, code, n, w, 186 + 6 * n, t, &mut out[3600..e]);
+    put_code(code, out);
 }
 
 // A record that can be written under the code, by its N and T.

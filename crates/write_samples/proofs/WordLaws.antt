@@ -1,21 +1,19 @@
--- The words of a trace's samples as the code writes them: how long they are, and the loops' steps. Assumes nothing.
+-- The words of a trace's samples as the code writes them: how long they are, and what is written of a pair. Assumes nothing.
 use mathlib.Core.Path.{_≡_, refl, sym, ap, _∙_}
 use mathlib.Core.Bool.{Bool, true, false, _&&_}
 use mathlib.Core.List.{List, [], _++_}
 use Prim.Native.Nat.{ℕ, _+_, _-_, _*_, _≤_, _<_}
 use native.Mathlib.Omega.{arith}
 use borrow.Author.Tests.{leb-true, le-leb, eq-eqb}
-use borrow.Rule.Slice.PartMut.{putMid}
 use lib.Dec.{leb, eqb}
 use lib.ListN.{length, take}
-use Rattle.numbers.specs.Walk.{pick, walk, bytesAt}
+use Rattle.numbers.specs.Walk.{pick, walk, bytesAt, copyOf}
 use Rattle.numbers.specs.BigEndian.{number, bytesOf}
 use Rattle.numbers.specs.Cause.{firstOf}
 use Rattle.numbers.specs.declared.Check.{Check}
 use Rattle.numbers.specs.declared.Check.the-variants.{Fine}
-use Rattle.numbers.proofs.WalkLaws.{flat-length, flat-more, flat-none}
+use Rattle.numbers.proofs.WalkLaws.{flat-length, flat-none, copied}
 use Rattle.numbers.proofs.BoolLaws.{and-true}
-use Rattle.numbers.proofs.Filling.{Filling, finish, again, lend}
 use Rattle.value.specs.Value.{isCode}
 use Rattle.value.specs.Writing.{writePair, wordBits}
 use Rattle.value.specs.Pair.{pairLength, pairOfBits}
@@ -35,35 +33,29 @@ size-word code w = go (eqb code 3) w
     go false (Word n) = refl
     go false (Refused number) = refl
 
+pub size-written : (s : List ℕ) (code p : ℕ) → length (wordBytes code (writtenAt s code p)) ≡ sampleBytes code
+size-written s code p = size-word code (writtenAt s code p)
+
 pub size-samples : (s : List ℕ) (code n at : ℕ) → length (sampleWords s code n at) ≡ n * sampleBytes code
 unfolding sampleWords
-size-samples s code n at = flat-length (wordBytes code) (writtenAt s code) (sampleBytes code) (λ p. size-word code (writtenAt s code p)) pairLength n at
+size-samples s code n at = flat-length (wordBytes code) (writtenAt s code) (sampleBytes code) (size-written s code) pairLength n at
 
--- a code of four bytes isn't 3, and has the four bytes of its word's bits
-pub not-three : (code : ℕ) → sampleBytes code ≡ 4 → code ≡ 3 → ⊥
-not-three code h e = let z : _≡_ {A = ℕ} 2 4 = ap sampleBytes (sym e) ∙ h in omega arith
+-- under a code of four bytes, the bits of a word stored in four
+pub bits-stored : (code bits : ℕ) (w : Written) (out : List ℕ) {ys : List ℕ} → sampleBytes code ≡ 4 → bits ≡ wordBits w → length out ≡ 4 → ys ≡ copyOf (bytesOf 4 bits) out → ys ≡ wordBytes code w
+bits-stored code bits w out v e n is = copied (bytesOf 4 bits) out is n ∙ ap (bytesOf 4) e ∙ ap (λ (k : ℕ). take k (wordContent w)) (sym v)
 
-pub four-bytes-of : (code bits : ℕ) (w : Written) → sampleBytes code ≡ 4 → bits ≡ wordBits w → bytesOf 4 bits ≡ wordBytes code w
-four-bytes-of code bits w v e = ap (bytesOf 4) e ∙ ap (λ (k : ℕ). take k (wordContent w)) (sym v)
+-- the same for the word of a pair, by the code's number
+pub pair-stored : (code k bits : ℕ) (p : Pair) (out : List ℕ) {ys : List ℕ} → sampleBytes code ≡ 4 → k ≡ code → bits ≡ wordBits (writePair k p) → length out ≡ 4 → ys ≡ copyOf (bytesOf 4 bits) out
+    → ys ≡ wordBytes code (writePair code p)
+pair-stored code k bits p out v q e n is = bits-stored code bits (writePair code p) out v (e ∙ ap (λ (j : ℕ). wordBits (writePair j p)) q) n is
 
 -- ## Samples
-
-samples-more : (s : List ℕ) (code k at : ℕ) → 0 < k → sampleWords s code k at ≡ wordBytes code (writtenAt s code at) ++ sampleWords s code (k - 1) (at + pairLength)
-unfolding sampleWords
-samples-more s code k at h = flat-more (wordBytes code) (writtenAt s code) pairLength k at h
 
 pub samples-none : (s : List ℕ) (code k at : ℕ) → k ≤ 0 → sampleWords s code k at ≡ []
 unfolding sampleWords
 samples-none s code k at h = flat-none (wordBytes code) (writtenAt s code) pairLength k at h
 
--- the next of k samples put behind those that stand: what is left is one fewer
-pub sample-put : (s : List ℕ) (code k at o e : ℕ) {all out ys : List ℕ} → 0 < k → e ≡ o + sampleBytes code → Filling all out o (sampleWords s code k at)
-    → ys ≡ wordBytes code (writtenAt s code at)
-    → Filling all (putMid o (e - o) out ys) e (sampleWords s code (k - 1) (at + pairLength))
-sample-put s code k at o e h q w is =
-    lend (wordBytes code (writtenAt s code at)) (sampleWords s code (k - 1) (at + pairLength)) e (again w (samples-more s code k at h)) (omega arith) (size-word code (writtenAt s code at) ∙ omega arith) is
-
--- the same where the first of the samples that are left has been fetched, and k stand behind it
+-- what is written of a pair that has been fetched
 module _ (s : List ℕ) (code : ℕ) where
   -- a sample's bytes, by the bits of its pair
   pub sample-bytes : (at e m : ℕ) (p : Pair) (bits : ℕ) → bits ≡ wordBits (writePair code p) → p ≡ pairOfBits e m → e ≡ number (bytesAt s at 2) → m ≡ number (bytesAt s (at + 2) 4)
@@ -75,17 +67,6 @@ module _ (s : List ℕ) (code : ℕ) where
   pub fetched-bytes : (at e m : ℕ) (p : Pair) → p ≡ pairOfBits e m → e ≡ number (bytesAt s at 2) → m ≡ number (bytesAt s (at + 2) 4)
       → wordBytes code (writePair code p) ≡ wordBytes code (writtenAt s code at)
   fetched-bytes at e m p q i j = ap (λ (x : Pair). wordBytes code (writePair code x)) (pair-fetched s at e m p q i j)
-
-  pub next-put : (k at o e : ℕ) {all out ys : List ℕ} → 0 < k → e ≡ o + sampleBytes code → Filling all out o (sampleWords s code (k + 1) at) → ys ≡ wordBytes code (writtenAt s code at)
-      → Filling all (putMid o (e - o) out ys) e (sampleWords s code (k - 1 + 1) (at + pairLength))
-  next-put k at o e some q w is =
-      let j : k + 1 - 1 ≡ k - 1 + 1 = omega arith in
-      again (sample-put s code (k + 1) at o e (omega arith) q w is) (ap (λ (x : ℕ). sampleWords s code x (at + pairLength)) j)
-
-  pub last-put : (k at o e : ℕ) {all out ys : List ℕ} → k ≤ 0 → e ≡ o + sampleBytes code → Filling all out o (sampleWords s code (k + 1) at) → ys ≡ wordBytes code (writtenAt s code at)
-      → putMid o (e - o) out ys ≡ all
-  last-put k at o e none q w is =
-      finish (sample-put s code (k + 1) at o e (omega arith) q w is) (samples-none s code (k + 1 - 1) (at + pairLength) (omega arith))
 
 -- ## The calls
 

@@ -1,38 +1,34 @@
 -- `read_reel::own_at` meets its contract. Assumes nothing.
-use Rattle.numbers.specs.Walk.{bytesAt}
+use Rattle.reel.specs.Layout.{number16}
+use Rattle.numbers.proofs.PlaceLaws.{field-place}
+use Rattle.numbers.specs.Places.{placeNo, byteNo, bytePlace}
+use borrow.Author.Needs.{needs}
 use borrow.Author.Tests.{eq-eqb, ne-eqb}
-use mathlib.Core.Path.{sym, _∙_}
+use Prim.Native.Nat.{_+_, _^_, _<_}
+use mathlib.Core.Path.{_≡_, sym, ap, _∙_}
 use native.Mathlib.Omega.{arith}
 use Rattle.read_reel.proofs.own_at.Statement.{statement}
 use Rattle.read_reel.proofs.own_at.Tie as tie
 
-shared-slice-read-be16 : tie.Need-shared-slice-read-be16
-shared-slice-read-be16 c = omega (arith, c .before .before .pre)
+-- the number that the field holds
+held : (c : tie.After-number16-at) → let a = c .before .before .before .args in c .number16-at .result ≡ number16 (a .reel .now) (bytePlace (a .at) (byteNo (a .b)))
+held c =
+    let s = c .before .before .before in
+    let a = s .args in
+    let l : a .at + byteNo (a .b) < 2 ^ 64 = omega (arith, s .pre .1, s .good .0) in
+    c .number16-at .ensures ∙ ap (number16 (a .reel .now)) (ap placeNo (c .before .field-at .ensures ∙ field-place (record { 0 = a .at }) (a .b) (s .pre .0) l))
 
-add-be16 : tie.Need-add-be16
-add-be16 c = omega (arith, c .before .before .pre, c .before .before .good .0)
+field-at-requires : tie.Need-field-at-requires
+field-at-requires c κs = search needs
 
-shared-slice-read-be16-2 : tie.Need-shared-slice-read-be16-2
-shared-slice-read-be16-2 c = omega (arith, c .before .before .before .pre)
-
-be16-requires : tie.Need-be16-requires
-be16-requires c κs = tt
+number16-at-requires : tie.Need-number16-at-requires
+number16-at-requires c κs = search needs
 
 returns : tie.Need-returns
-unfolding bytesAt
-returns c = rw (eq-eqb _ 0 (sym (c .before .be16 .ensures) ∙ c .if1 .taken))
+returns c = rw (eq-eqb _ 0 (sym (held (c .before)) ∙ c .if1 .taken))
 
 returns-2 : tie.Need-returns-2
-unfolding bytesAt
-returns-2 c = rw (← (c .before .be16 .ensures), ne-eqb (c .before .be16 .result) 0 (c .if1 .left))
+returns-2 c = rw (← (held (c .before)), ne-eqb (c .before .number16-at .result) 0 (c .if1 .left))
 
 pub own-at-spec : {M : Type 1} → statement M
-own-at-spec =
-    tie.close
-    (tie.spec
-    shared-slice-read-be16
-    add-be16
-    shared-slice-read-be16-2
-    be16-requires
-    returns
-    returns-2)
+own-at-spec = tie.close (tie.spec field-at-requires number16-at-requires returns returns-2)

@@ -1,114 +1,43 @@
 -- `read_reel::put_head` meets its contract. Assumes nothing.
-use Rattle.read_reel.proofs.CopiedLaws.{size-binary, size-head}
-use Rattle.record.proofs.HeaderLaws.{size-cards}
-use Rattle.read_reel.specs.Copied.{tagBytes, recordBinaryCopied, headCopied}
-use Rattle.reel.specs.Meaning.{blank, cardText}
-use Rattle.numbers.proofs.Filling.{start, lend, close}
-use Rattle.numbers.proofs.WalkLaws.{bytes-between}
+use Rattle.read_reel.proofs.CopiedLaws.{size-fields}
+use Rattle.read_reel.specs.Copied.{headCopied}
+use Rattle.record.specs.Form.{codePlace}
+use Rattle.numbers.proofs.PlaceLaws.{field-place}
+use Rattle.numbers.specs.BigEndian.{bytesOf}
+use Rattle.numbers.specs.Places.{placeNo}
+use Rattle.numbers.specs.Walk.{overwritten}
+use Prim.Native.Nat.{ℕ}
+use mathlib.Core.List.{List}
+use mathlib.Core.Path.{_≡_, ap, ap₂, _∙_}
 use lib.ListN.{length}
-use mathlib.Core.List.{_++_, map}
-use mathlib.Core.Path.{_≡_, refl, sym, ap, _∙_}
 use native.Mathlib.Omega.{arith}
+use borrow.Author.Needs.{needs}
 use Rattle.read_reel.proofs.put_head.Statement.{statement}
 use Rattle.read_reel.proofs.put_head.Tie as tie
 
-sub-put-tag : tie.Need-sub-put-tag
-sub-put-tag c = omega arith
+-- the code's place in the record
+place : (c : tie.After-field-at) → placeNo (c .field-at .result) ≡ codePlace
+place c = ap placeNo (c .field-at .ensures ∙ field-place (record { 0 = 6 }) (record { 0 = 3225 }) (omega arith) (omega arith))
 
-part-put-tag-start : tie.Need-part-put-tag-start
-part-put-tag-start c = omega arith
+put-fields-requires : tie.Need-put-fields-requires
+put-fields-requires c κs = search needs
 
-part-put-tag-end : tie.Need-part-put-tag-end
-part-put-tag-end c = omega (arith, c .before .before .pre .1)
+field-at-requires : tie.Need-field-at-requires
+field-at-requires c κs = search needs
 
-put-tag-requires : tie.Need-put-tag-requires
-put-tag-requires c κs = c .put-tag-arg .given .2
-
-sub-put-cards : tie.Need-sub-put-cards
-sub-put-cards c = omega arith
-
-part-put-cards-start : tie.Need-part-put-cards-start
-part-put-cards-start c = omega arith
-
-part-put-cards-end : tie.Need-part-put-cards-end
-part-put-cards-end c = omega (arith, c .before .before .before .before .before .before .pre .0)
-
-sub-put-cards-2 : tie.Need-sub-put-cards-2
-sub-put-cards-2 c = omega arith
-
-part-put-cards-start-2 : tie.Need-part-put-cards-start-2
-part-put-cards-start-2 c = omega arith
-
-part-put-cards-end-2 : tie.Need-part-put-cards-end-2
-part-put-cards-end-2 c = omega (arith, c .before .before .before .before .before .before .before .pre .1, c .before .before .out .given .1)
-
-put-cards-requires : tie.Need-put-cards-requires
-put-cards-requires c κs = c .put-cards-arg2 .given .2 ∙ sym (c .before .put-cards-arg .given .2)
-
-sub-put-tag-2 : tie.Need-sub-put-tag-2
-sub-put-tag-2 c = omega arith
-
-part-put-tag-start-2 : tie.Need-part-put-tag-start-2
-part-put-tag-start-2 c = omega arith
-
-part-put-tag-end-2 : tie.Need-part-put-tag-end-2
-part-put-tag-end-2 c = omega (arith, c .before .before .before .before .before .before .before .before .before .before .before .pre .1, c .before .before .before .before .before .before .out .given .1, c .before .out2 .given .1)
-
-put-tag-requires-2 : tie.Need-put-tag-requires-2
-put-tag-requires-2 c κs = c .put-tag-arg2 .given .2
-
-sub-put-binary : tie.Need-sub-put-binary
-sub-put-binary c = omega arith
-
-part-put-binary-start : tie.Need-part-put-binary-start
-part-put-binary-start c = omega arith
-
-part-put-binary-end : tie.Need-part-put-binary-end
-part-put-binary-end c = omega (arith, c .before .before .before .before .before .before .before .before .before .before .before .before .before .before .before .pre .1, c .before .before .before .before .before .before .before .before .before .before .out .given .1, c .before .before .before .before .before .out2 .given .1, c .before .out3 .given .1)
-
-put-binary-requires : tie.Need-put-binary-requires
-put-binary-requires c κs = (c .before .before .before .before .before .before .before .before .before .before .before .before .before .before .before .before .pre .0, c .put-binary-arg .given .2)
-
-returns : tie.Need-returns
-unfolding headCopied cardText
-returns c =
-    let b = c .before .before .before .before .before .before .before .before .before .before .before .before .before .before .before .before .before .before .before in
-    let s = b .args .reel .now in
-    let z = recordBinaryCopied s in
-    let cards = c .before .before .before .before .before .before .before .before .before .before .put-cards .ensures ∙ ap (map blank) (bytes-between s 0 3200 3200 (omega (arith, b .pre .0)) refl) in
-    let w₀ = start _ (b .args .out .now) (b .pre .1 ∙ sym (size-head s)) in
-    let w₁ = lend (tagBytes 1 3200) (cardText s ++ (tagBytes 2 60 ++ z)) 3 w₀ (omega arith) refl (c .before .before .before .before .before .before .before .before .before .before .before .before .before .before .before .put-tag .ensures) in
-    let w₂ = lend (cardText s) (tagBytes 2 60 ++ z) 3203 w₁ (omega arith) (size-cards s) cards in
-    let w₃ = lend (tagBytes 2 60) z 3206 w₂ (omega arith) refl (c .before .before .before .before .before .before .put-tag2 .ensures) in
-    close z 3266 w₃ (omega arith) (size-binary s) (c .before .before .put-binary .ensures)
+put-over-requires : tie.Need-put-over-requires
+put-over-requires c κs = let f = c .before .before .before .before in omega (arith, place (c .before), ap length (f .put-fields .ensures) ∙ size-fields (f .before .before .before .before .args .reel .now))
 
 same-length : tie.Need-same-length
-same-length c =
-    let b = c .before .before .before .before .before .before .before .before .before .before .before .before .before .before .before .before .before .before .before in
-    ap length (returns c) ∙ (size-head (b .args .reel .now) ∙ sym (b .pre .1))
+same-length c = search needs
+
+returns : tie.Need-returns
+unfolding headCopied
+returns c =
+    let f = c .before .before .before .before in
+    c .before .before .put-over .ensures ∙ ap₂ (λ (l : List ℕ) (p : ℕ). overwritten l p (bytesOf 2 0)) (f .before .before .before .put-fields .ensures) (place f)
 
 pub put-head-spec : {M : Type 1} → statement M
 put-head-spec =
     tie.close
-    (tie.spec
-    sub-put-tag
-    part-put-tag-start
-    part-put-tag-end
-    put-tag-requires
-    sub-put-cards
-    part-put-cards-start
-    part-put-cards-end
-    sub-put-cards-2
-    part-put-cards-start-2
-    part-put-cards-end-2
-    put-cards-requires
-    sub-put-tag-2
-    part-put-tag-start-2
-    part-put-tag-end-2
-    put-tag-requires-2
-    sub-put-binary
-    part-put-binary-start
-    part-put-binary-end
-    put-binary-requires
-    same-length
-    returns)
+    (tie.spec put-fields-requires field-at-requires put-over-requires same-length returns)

@@ -3,6 +3,7 @@ use Rattle.read_reel.proofs.CopiedLaws.{size-head, size-traces, size-re
 use Rattle.read_samples.specs.Samples.{places}
 use Rattle.read_reel.specs.Copied.{tagBytes, headCopied, recordTraceCopied, recordCopied}
 use Rattle.reel.specs.Layout.{firstTrace}
+use Rattle.record.specs.Form.{tracesPlace, heldStride}
 use Rattle.numbers.proofs.Filling.{start, lend, close}
 use Rattle.numbers.specs.BigEndian.{bytesOf}
 use Rattle.numbers.specs.Walk.{flat}
@@ -78,9 +79,9 @@ returns c =
     let s = a .reel .now in
     let g = flat (map (recordTraceCopied s (a .code) (a .n) (a .i)) (places (a .w) (a .t) firstTrace)) in
     let z = tagBytes 5 4 ++ bytesOf 4 (a .t) in
-    let e = 3266 + a .t * (186 + a .n * 6) in
+    let e = tracesPlace + a .t * heldStride (a .n) in
     let w₀ = start _ (a .out .now) (b .pre .5 ∙ sym (size-record s (a .code) (a .n) (a .i) (a .w) (a .t))) in
-    let w₁ = lend (headCopied s) (g ++ z) 3266 w₀ (omega arith) (size-head s) (c .before .before .before .before .before .before .before .before .before .before .put-head .ensures) in
+    let w₁ = lend (headCopied s) (g ++ z) tracesPlace w₀ (omega arith) (size-head s) (c .before .before .before .before .before .before .before .before .before .before .put-head .ensures) in
     let w₂ = lend g z e w₁ (omega arith) (size-traces s (a .code) (a .n) (a .i) (a .w) (a .t) firstTrace ∙ omega arith) (c .before .before .before .before .before .before .put-traces .ensures) in
     close z (e + 7) w₂ (omega arith) (omega arith) (c .before .before .put-count .ensures)
 

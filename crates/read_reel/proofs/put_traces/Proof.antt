@@ -1,15 +1,15 @@
 -- `read_reel::put_traces` meets its contract. Assumes nothing.
-use Rattle.read_reel.proofs.CopiedLaws.{size-trace, size-traces, traces-more, traces-none}
+use Rattle.read_reel.proofs.CopiedLaws.{size-trace, size-traces}
 use Rattle.read_samples.specs.Samples.{places}
 use Rattle.read_reel.specs.Copied.{recordTraceCopied}
 use Rattle.reel.specs.Layout.{firstTrace}
-use Rattle.numbers.proofs.Filling.{Filling, start as begin, finish, again, lend}
-use Rattle.numbers.proofs.WalkLaws.{times-more}
+use Rattle.numbers.proofs.Filling.{Filling, start as begin, finish, part-put}
+use Rattle.numbers.proofs.WalkLaws.{times-more, flat-none}
 use Rattle.numbers.specs.Walk.{flat}
 use lib.ListN.{length}
 use Prim.Native.Nat.{ℕ, _+_, _-_, _*_, _≤_}
 use mathlib.Core.List.{map}
-use mathlib.Core.Path.{_≡_, sym, ap, _∙_}
+use mathlib.Core.Path.{_≡_, refl, sym, ap, _∙_}
 use native.Mathlib.Omega.{arith}
 use Rattle.read_reel.proofs.put_traces.Statement.{statement}
 use Rattle.read_reel.proofs.put_traces.Tie as tie
@@ -67,7 +67,7 @@ loop-again c =
     let a = s .args in
     let r = a .reel .now in
     let l = h .loop in
-    let f = lend (recordTraceCopied r (a .code) (a .n) (a .i) (l .at)) (flat (map (recordTraceCopied r (a .code) (a .n) (a .i)) (places (a .w) (l .left - 1) (l .at + a .w)))) (l .o + a .m) (again (l .inv .3) (traces-more r (a .code) (a .n) (a .i) (a .w) (l .left) (l .at) (t .loop-test .taken))) (omega arith) (size-trace r (a .code) (a .n) (a .i) (l .at) ∙ omega (arith, s .pre .3)) (c .before .before .put-trace .ensures) in
+    let f = part-put (recordTraceCopied r (a .code) (a .n) (a .i)) (λ p. p) (a .w) (a .m) (λ p. size-trace r (a .code) (a .n) (a .i) p ∙ sym (s .pre .3)) (l .left) (l .at) (l .o) (l .o + a .m) (t .loop-test .taken) refl (l .inv .3) (c .before .before .put-trace .ensures) in
     (omega (arith, times-more (l .left) (a .w) (t .loop-test .taken)), f .size ∙ sym (l .inv .3 .size) ∙ l .inv .1, omega (arith, times-more (l .left) (a .m) (t .loop-test .taken)), f)
 
 same-length : tie.Need-same-length Inv-loop μ-loop
@@ -76,7 +76,7 @@ same-length c = c .before .loop .inv .1 ∙ sym (c .before .before .before .befo
 returns : tie.Need-returns Inv-loop μ-loop
 returns c =
     let a = c .before .before .before .before .args in
-    finish (c .before .loop .inv .3) (traces-none (a .reel .now) (a .code) (a .n) (a .i) (a .w) (c .before .loop .left) (c .before .loop .at) (c .loop-test .left))
+    finish (c .before .loop .inv .3) (flat-none (recordTraceCopied (a .reel .now) (a .code) (a .n) (a .i)) (λ p. p) (a .w) (c .before .loop .left) (c .before .loop .at) (c .loop-test .left))
 
 pub put-traces-spec : {M : Type 1} → statement M
 put-traces-spec =

@@ -1,9 +1,10 @@
 -- `read_reel::read_checked` meets its contract. Assumes nothing.
-use Rattle.read_reel.proofs.ReadLaws.{Own, own, Fit, fit, short-end, taken-end}
+use Rattle.reel.proofs.JudgedLaws.{Own, own}
+use Rattle.record.specs.Record.{recordLength}
+use Rattle.read_reel.proofs.ReadLaws.{Fit, fit, short-end, taken-end}
 use Rattle.numbers.proofs.ByteLaws.{all-bytes}
 use Rattle.reel.specs.Layout.{stride}
 use lib.Seq.{length-take-le}
-use Prim.Native.Nat.{_+_, _*_}
 use mathlib.Core.Path.{_≡_, sym, ap, _∙_}
 use native.Mathlib.Omega.{arith}
 use borrow.Author.Needs.{needs}
@@ -11,7 +12,7 @@ use Rattle.read_reel.proofs.read_checked.Statement.{statement}
 use Rattle.read_reel.proofs.read_checked.Tie as tie
 
 owns : (c : tie.Start) → let a = c .args in Own (a .reel .now) (a .code) (a .n) (a .i) (a .v) (a .w) (a .t)
-owns c = let a = c .args in own (a .reel .now) (a .code) (a .n) (a .i) (a .v) (a .w) (a .t) (c .pre)
+owns c = let a = c .args in own (a .reel .now) (c .pre)
 
 fits : (c : tie.Start) → let a = c .args in Fit (a .reel .now) (a .code) (a .n) (a .i) (a .v) (a .w) (a .t)
 fits c = let a = c .args in fit (a .reel .now) (a .code) (a .n) (a .i) (a .v) (a .w) (a .t) (owns c)
@@ -44,14 +45,14 @@ slice-relend-prefix-put-record : tie.Need-slice-relend-prefix-put-record
 slice-relend-prefix-put-record c = search needs
 
 slice-aggregate-put-record : tie.Need-slice-aggregate-put-record
-slice-aggregate-put-record c = sym (length-take-le (3273 + c .before .before .before .before .args .t * (186 + c .before .before .before .before .args .n * 6)) (c .before .before .before .before .args .out .now) (c .before .if1 .left))
+slice-aggregate-put-record c = sym (length-take-le (recordLength (c .before .before .before .before .args .t) (c .before .before .before .before .args .n)) (c .before .before .before .before .args .out .now) (c .before .if1 .left))
 
 put-record-requires : tie.Need-put-record-requires
 put-record-requires c κs =
     let s = c .before .before .before .before in
     let a = s .args in
     let f = fits s in
-    (f .a-code, f .n-high, f .strides ∙ ap (stride (a .n)) (f .width), f .few, f .room, length-take-le (3273 + a .t * (186 + a .n * 6)) (a .out .now) (c .before .if1 .left))
+    (f .a-code, f .n-high, f .strides ∙ ap (stride (a .n)) (f .width), f .few, f .room, length-take-le (recordLength (a .t) (a .n)) (a .out .now) (c .before .if1 .left))
 
 same-length : tie.Need-same-length
 same-length c = search needs

@@ -1,5 +1,6 @@
 -- `read_reel::read_reel` meets its contract. Assumes nothing.
-use Rattle.read_reel.proofs.ReadLaws.{refused-is, refused-end}
+use Rattle.reel.proofs.JudgedLaws.{refused-is}
+use Rattle.read_reel.proofs.ReadLaws.{refused-end}
 use mathlib.Core.Path.{_≡_, sym, _∙_}
 use borrow.Author.Needs.{needs}
 use Rattle.read_reel.proofs.read_reel.Statement.{statement}
@@ -20,7 +21,7 @@ read-checked-requires c κs = sym (c .before .before .before .before .judge-reel
 returns : tie.Need-returns
 returns c =
     let a = c .before .before .before .before .before .before .args in
-    refused-end (a .reel .now) (a .out .now) _ _ (refused-is (a .reel .now) _ _ (sym (c .before .before .before .judge-reel .ensures) ∙ c .before .c .given .1))
+    refused-end (a .reel .now) (a .out .now) _ _ (refused-is (a .reel .now) (sym (c .before .before .before .judge-reel .ensures) ∙ c .before .c .given .1))
 
 same-length : tie.Need-same-length
 same-length c = search needs

@@ -1,12 +1,9 @@
 -- `read_samples::put_gain_word` meets its contract. Assumes nothing.
-use Rattle.numbers.specs.Walk.{bytesAt}
-use Rattle.sample.specs.Reading.{readWord}
-use lib.ListN.{length}
 use native.Mathlib.Omega.{arith}
-use Rattle.read_samples.proofs.SampleLaws.{size-exponent, content-parts, gain-copied, size-content}
+use borrow.Author.Needs.{needs}
+use Rattle.read_samples.proofs.SampleLaws.{parts-put, gain-copied}
 use Rattle.read_samples.specs.Samples.{sampleContent}
-use Rattle.numbers.proofs.Filling.{in-turn}
-use mathlib.Core.Path.{ap, _∙_, sym}
+use mathlib.Core.Path.{ap, _∙_}
 use Rattle.read_samples.proofs.put_gain_word.Statement.{statement}
 use Rattle.read_samples.proofs.put_gain_word.Tie as tie
 
@@ -60,12 +57,12 @@ returns c =
     let p = (c .before .before .before .before .before .before .before .before .before) in
     let s = (c .before .before .before .before .before .before .before .before .before .before .before .before .before .before .before) in (
       c .before .before .before .before .word32-at .ensures,
-      in-turn 2 4 (s .args .out .now) (s .pre .1) (size-exponent (p .gain-or-zero .result)) (c .before .before .before .before .before .before .before .put-exponent .ensures) (c .before .before .put-mantissa .ensures) ∙ content-parts (p .gain-or-zero .result)
+      parts-put (s .args .out .now) (p .gain-or-zero .result) (s .pre .1) (c .before .before .before .before .before .before .before .put-exponent .ensures) (c .before .before .put-mantissa .ensures)
           ∙ ap sampleContent (p .gain-or-zero .ensures) ∙ gain-copied (s .args .reel .now) (s .args .at) (p .before .low-half .result) (p .before .low-half .ensures ∙ s .pre .2 .low),
     )
 
 same-length : tie.Need-same-length
-same-length c = let s = (c .before .before .before .before .before .before .before .before .before .before .before .before .before .before .before) in ap length (returns c .1) ∙ size-content (readWord 4 (bytesAt (s .args .reel .now) (s .args .at) 4)) ∙ sym (s .pre .1)
+same-length c = search needs
 
 pub put-gain-word-spec : {M : Type 1} → statement M
 put-gain-word-spec =

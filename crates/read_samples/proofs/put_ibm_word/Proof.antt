@@ -1,12 +1,9 @@
 -- `read_samples::put_ibm_word` meets its contract. Assumes nothing.
-use Rattle.value.specs.Value.{ibmValue}
-use Rattle.sample.specs.Reading.{pairTaken}
-use lib.ListN.{length}
 use native.Mathlib.Omega.{arith}
-use Rattle.read_samples.proofs.SampleLaws.{size-exponent, content-parts, size-content}
+use borrow.Author.Needs.{needs}
+use Rattle.read_samples.proofs.SampleLaws.{parts-put}
 use Rattle.read_samples.specs.Samples.{sampleContent}
-use Rattle.numbers.proofs.Filling.{in-turn}
-use mathlib.Core.Path.{ap, _∙_, sym}
+use mathlib.Core.Path.{ap, _∙_}
 use Rattle.read_samples.proofs.put_ibm_word.Statement.{statement}
 use Rattle.read_samples.proofs.put_ibm_word.Tie as tie
 
@@ -46,12 +43,12 @@ returns c =
     let p = m .before .before in
     let s = p .before .before .before in (
       c .before .before .before .before .word32-at .ensures,
-      in-turn 2 4 (s .args .out .now) (s .pre .1) (size-exponent (p .ibm .result)) (m .put-exponent .ensures) (c .before .before .put-mantissa .ensures) ∙ content-parts (p .ibm .result)
+      parts-put (s .args .out .now) (p .ibm .result) (s .pre .1) (m .put-exponent .ensures) (c .before .before .put-mantissa .ensures)
           ∙ ap sampleContent (p .ibm .ensures),
     )
 
 same-length : tie.Need-same-length
-same-length c = ap length (returns c .1) ∙ size-content (pairTaken (ibmValue (c .before .before .before .before .before .before .before .before .before .before .before .before .args .word))) ∙ sym (c .before .before .before .before .before .before .before .before .before .before .before .before .pre .1)
+same-length c = search needs
 
 pub put-ibm-word-spec : {M : Type 1} → statement M
 put-ibm-word-spec =

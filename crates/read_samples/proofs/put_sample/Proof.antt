@@ -1,9 +1,7 @@
 -- `read_samples::put_sample` meets its contract. Assumes nothing.
-use Rattle.read_samples.proofs.SampleLaws.{size-exponent, content-parts, size-content}
-use Rattle.numbers.proofs.Filling.{in-turn}
-use lib.ListN.{length}
-use mathlib.Core.Path.{ap, _∙_, sym}
+use Rattle.read_samples.proofs.SampleLaws.{parts-put}
 use native.Mathlib.Omega.{arith}
+use borrow.Author.Needs.{needs}
 use Rattle.read_samples.proofs.put_sample.Statement.{statement}
 use Rattle.read_samples.proofs.put_sample.Tie as tie
 
@@ -35,12 +33,10 @@ returns : tie.Need-returns
 returns c =
     let x = c .before .before .before .before .before .before in
     let s = x .before .before .before in
-    in-turn 2 4 (s .args .out .now) (s .pre) (size-exponent (s .args .word)) (x .put-exponent .ensures) (c .before .before .put-mantissa .ensures) ∙ content-parts (s .args .word)
+    parts-put (s .args .out .now) (s .args .word) (s .pre) (x .put-exponent .ensures) (c .before .before .put-mantissa .ensures)
 
 same-length : tie.Need-same-length
-same-length c =
-    let s = c .before .before .before .before .before .before .before .before .before in
-    ap length (returns c) ∙ size-content (s .args .word) ∙ sym (s .pre)
+same-length c = search needs
 
 pub put-sample-spec : {M : Type 1} → statement M
 put-sample-spec =

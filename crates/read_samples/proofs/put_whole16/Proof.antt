@@ -1,9 +1,9 @@
 -- `read_samples::put_whole16` meets its contract. Assumes nothing.
-use Rattle.read_samples.proofs.SampleLaws.{size-samples, samples-none, next-put, last-put, whole16-copied}
+use Rattle.read_samples.proofs.SampleLaws.{size-copied, size-samples, samples-none, whole16-copied}
 use Rattle.read_samples.specs.Samples.{sampleContent, sampleCopied, samplePairs}
 use Rattle.value.specs.Value.{wholeValue}
 use Rattle.sample.specs.Reading.{pairTaken}
-use Rattle.numbers.proofs.Filling.{Filling, start as begin, finish, again}
+use Rattle.numbers.proofs.Filling.{Filling, start as begin, finish, again, from, next-put, last-put}
 use Rattle.numbers.proofs.WalkLaws.{times-more}
 use Rattle.numbers.specs.Walk.{bytesAt}
 use Rattle.numbers.specs.BigEndian.{number}
@@ -11,7 +11,7 @@ use Rattle.numbers.specs.TwosComplement.{signedOf}
 use lib.ListN.{length}
 use mathlib.Core.List.{List}
 use Prim.Native.Nat.{ℕ, _+_, _-_, _*_, _≤_}
-use mathlib.Core.Path.{_≡_, sym, ap, _∙_}
+use mathlib.Core.Path.{_≡_, refl, sym, ap, _∙_}
 use borrow.Author.Needs.{needs}
 use native.Mathlib.Omega.{arith}
 use Rattle.read_samples.proofs.put_whole16.Statement.{statement}
@@ -79,12 +79,13 @@ loop-less : tie.Need-loop-less Inv-loop μ-loop
 loop-less c = omega (arith, c .before .before .before .before .loop-test .taken)
 
 loop-again : tie.Need-loop-again Inv-loop μ-loop
+unfolding samplePairs
 loop-again c =
     let s = c .before .before .before .before .before .before .before .before .before .before .args .reel .now in
     let l = c .before .before .before .before .before .loop in
     let some = c .before .before .before .before .loop-test .taken in
     let g = c .before .before .put-whole16-word .ensures in
-    let f = next-put s 3 (l .left) (l .at) (l .o) some (l .inv .4) (g .1 ∙ content s (l .at) (l .w) (l .inv .3)) in
+    let f = next-put (sampleCopied s 3) (λ p. p) 2 6 (size-copied s 3) (l .left) (l .at) (l .o) (l .o + 6) some refl (l .inv .4) (g .1 ∙ content s (l .at) (l .w) (l .inv .3)) in
     (omega (arith, times-more (l .left) 2 some, l .inv .0), f .size ∙ sym (l .inv .4 .size) ∙ l .inv .1, omega (arith, times-more (l .left) 6 some, l .inv .2), g .0, f)
 
 whole16-requires : tie.Need-whole16-requires Inv-loop μ-loop
@@ -106,12 +107,14 @@ put-sample-requires : tie.Need-put-sample-requires Inv-loop μ-loop
 put-sample-requires c κs = c .put-sample-arg .given .2 ∙ omega arith
 
 returns-2 : tie.Need-returns-2 Inv-loop μ-loop
+unfolding samplePairs
 returns-2 c =
     let s = c .before .before .before .before .before .before .before .before .before .before .before .args .reel .now in
     let n = c .before .before .before .before .before .before .before .before .before .before .before .args .n in
     let l = c .before .before .before .before .before .before .loop in
     let none = c .before .before .before .before .before .loop-test .left in
-    last-put s 3 (l .left) (l .at) (l .o) ((n - 1) * 6) none (omega (arith, none, l .inv .2)) (l .inv .4) (c .before .before .put-sample .ensures ∙ ap sampleContent (c .before .before .before .before .whole16 .ensures) ∙ content s (l .at) (l .w) (l .inv .3))
+    let last = (n - 1) * 6 in
+    last-put (sampleCopied s 3) (λ p. p) 2 6 (size-copied s 3) (l .left) (l .at) last (last + 6) none refl (from (l .inv .4) (omega (arith, none, l .inv .2))) (c .before .before .put-sample .ensures ∙ ap sampleContent (c .before .before .before .before .whole16 .ensures) ∙ content s (l .at) (l .w) (l .inv .3))
 
 same-length : tie.Need-same-length Inv-loop μ-loop
 same-length c = ap length (returns-2 c) ∙ size-samples (c .before .before .before .before .before .before .before .before .before .before .before .args .reel .now) 3 (c .before .before .before .before .before .before .before .before .before .before .before .args .n) (c .before .before .before .before .before .before .before .before .before .before .before .args .start) ∙ sym (c .before .before .before .before .before .before .before .before .before .before .before .pre .1)

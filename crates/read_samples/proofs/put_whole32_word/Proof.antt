@@ -1,13 +1,9 @@
 -- `read_samples::put_whole32_word` meets its contract. Assumes nothing.
-use Rattle.numbers.specs.TwosComplement.{signedOf}
-use Rattle.value.specs.Value.{wholeValue}
-use Rattle.sample.specs.Reading.{pairTaken}
-use lib.ListN.{length}
 use native.Mathlib.Omega.{arith}
-use Rattle.read_samples.proofs.SampleLaws.{size-exponent, content-parts, size-content}
+use borrow.Author.Needs.{needs}
+use Rattle.read_samples.proofs.SampleLaws.{parts-put}
 use Rattle.read_samples.specs.Samples.{sampleContent}
-use Rattle.numbers.proofs.Filling.{in-turn}
-use mathlib.Core.Path.{ap, _∙_, sym}
+use mathlib.Core.Path.{ap, _∙_}
 use Rattle.read_samples.proofs.put_whole32_word.Statement.{statement}
 use Rattle.read_samples.proofs.put_whole32_word.Tie as tie
 
@@ -46,12 +42,12 @@ returns c =
     let p = (c .before .before .before .before .before .before .before .before .before) in
     let s = (c .before .before .before .before .before .before .before .before .before .before .before .before) in (
       c .before .before .before .before .word32-at .ensures,
-      in-turn 2 4 (s .args .out .now) (s .pre .1) (size-exponent (p .whole32 .result)) (c .before .before .before .before .before .before .before .put-exponent .ensures) (c .before .before .put-mantissa .ensures) ∙ content-parts (p .whole32 .result)
+      parts-put (s .args .out .now) (p .whole32 .result) (s .pre .1) (c .before .before .before .before .before .before .before .put-exponent .ensures) (c .before .before .put-mantissa .ensures)
           ∙ ap sampleContent (p .whole32 .ensures),
     )
 
 same-length : tie.Need-same-length
-same-length c = ap length (returns c .1) ∙ size-content (pairTaken (wholeValue (signedOf 32 (c .before .before .before .before .before .before .before .before .before .before .before .before .args .word)))) ∙ sym (c .before .before .before .before .before .before .before .before .before .before .before .before .pre .1)
+same-length c = search needs
 
 pub put-whole32-word-spec : {M : Type 1} → statement M
 put-whole32-word-spec =

@@ -1,6 +1,6 @@
 -- `read_samples::put_word` meets its contract. Assumes nothing.
-use Rattle.reel.proofs.CheckLaws.{code-limits}
-use Rattle.read_samples.proofs.SampleLaws.{ibm-content, whole32-content, not-three}
+use Rattle.reel.proofs.CheckLaws.{code-limits, not-three}
+use Rattle.read_samples.proofs.SampleLaws.{ibm-content, whole32-content}
 use Rattle.read_samples.specs.Samples.{sampleCopied}
 use Prim.Native.Nat.{ℕ}
 use mathlib.Core.Path.{_≡_, ap, _∙_}

@@ -1,9 +1,10 @@
 -- `read_samples::put_words` meets its contract. Assumes nothing.
-use Rattle.read_samples.proofs.SampleLaws.{size-samples, samples-none, next-put, last-put}
+use Rattle.read_samples.proofs.SampleLaws.{size-copied, size-samples, samples-none}
 use Rattle.read_samples.specs.Samples.{sampleContent, sampleCopied, samplePairs}
 use Rattle.read_samples.specs.Parts.{WordAt}
-use Rattle.numbers.proofs.Filling.{Filling, start as begin, finish, again}
+use Rattle.numbers.proofs.Filling.{Filling, start as begin, finish, again, from, next-put, last-put}
 use Rattle.numbers.proofs.WalkLaws.{times-more}
+use Rattle.reel.specs.Layout.{sampleBytes}
 use lib.ListN.{length}
 use Prim.Native.Nat.{ℕ, _+_, _-_, _*_, _≤_}
 use mathlib.Core.Path.{_≡_, refl, sym, ap, _∙_}
@@ -80,13 +81,15 @@ loop-less : tie.Need-loop-less Inv-loop μ-loop
 loop-less c = omega (arith, c .before .before .before .before .loop-test .taken)
 
 loop-again : tie.Need-loop-again Inv-loop μ-loop
+unfolding samplePairs
 loop-again c =
     let b = c .before .before .before .before .before .before .before .before .before .before in
     let s = b .args .reel .now in
     let l = c .before .before .before .before .before .loop in
     let some = c .before .before .before .before .loop-test .taken in
     let g = c .before .before .put-word .ensures in
-    let f = again (next-put s (b .args .code) (l .left) (l .at) (l .o) some (l .inv .5) (g .1)) (ap (λ (v : ℕ). samplePairs s (b .args .code) (l .left - 1 + 1) (l .at + v)) (b .pre .1)) in (
+    let k = b .args .code in
+    let f = again (next-put (sampleCopied s k) (λ p. p) (sampleBytes k) 6 (size-copied s k) (l .left) (l .at) (l .o) (l .o + 6) some refl (l .inv .5) (g .1)) (ap (λ (v : ℕ). samplePairs s k (l .left - 1 + 1) (l .at + v)) (b .pre .1)) in (
       omega (arith, times-more (l .left) 4 some, l .inv .0),
       f .size ∙ sym (l .inv .5 .size) ∙ l .inv .1,
       omega (arith, times-more (l .left) 6 some, l .inv .2),
@@ -114,13 +117,15 @@ put-sample-requires : tie.Need-put-sample-requires Inv-loop μ-loop
 put-sample-requires c κs = c .put-sample-arg .given .2 ∙ omega arith
 
 returns-2 : tie.Need-returns-2 Inv-loop μ-loop
+unfolding samplePairs
 returns-2 c =
     let a = c .before .before .before .before .before .before .before .before .before .before .before .args in
     let s = a .reel .now in
     let l = c .before .before .before .before .before .before .loop in
     let none = c .before .before .before .before .before .loop-test .left in
     let there : a .start + (a .n - 1) * 4 ≡ l .at = omega (arith, none, l .inv .3) in
-    last-put s (a .code) (l .left) (l .at) (l .o) ((a .n - 1) * 6) none (omega (arith, none, l .inv .2)) (l .inv .5)
+    let last = (a .n - 1) * 6 in
+    last-put (sampleCopied s (a .code)) (λ p. p) (sampleBytes (a .code)) 6 (size-copied s (a .code)) (l .left) (l .at) last (last + 6) none refl (from (l .inv .5) (omega (arith, none, l .inv .2)))
     (c .before .before .put-sample .ensures ∙ ap sampleContent (c .before .before .before .before .sample-at .ensures) ∙ ap (sampleCopied s (a .code)) there)
 
 same-length : tie.Need-same-length Inv-loop μ-loop

@@ -1,49 +1,65 @@
 -- `write_reel::put_code` meets its contract. Assumes nothing.
 use Rattle.reel.proofs.CheckLaws.{code-limits}
-use Rattle.numbers.proofs.WalkLaws.{stored}
+use Rattle.numbers.proofs.Filling.{over}
+use Rattle.numbers.proofs.PlaceLaws.{field-place}
+use Rattle.numbers.proofs.WalkLaws.{copied}
 use Rattle.numbers.specs.BigEndian.{bytesOf}
-use lib.Dec.{lit<}
-use lib.ListN.{length, getD}
-use lib.Seq.{lt-length-sets}
-use mathlib.Core.List.{[], _∷_}
-use mathlib.Core.Path.{_≡_, sym, ap, _∙_}
+use Rattle.numbers.specs.Places.{placeNo, bytePlace}
+use Rattle.numbers.specs.Walk.{overwritten}
+use Prim.Native.Nat.{ℕ, _+_}
+use mathlib.Core.Path.{_≡_, refl, ap, _∙_}
 use native.Mathlib.Omega.{arith}
+use borrow.Author.Needs.{needs}
 use Rattle.write_reel.proofs.put_code.Statement.{statement}
 use Rattle.write_reel.proofs.put_code.Tie as tie
 
-cast-bytes16 : tie.Need-cast-bytes16
-cast-bytes16 c = omega (arith, code-limits (c .before .args .code) (c .before .pre .0))
+-- the field's place
+place : (c : tie.After-field-at) → placeNo (c .field-at .result) ≡ bytePlace 0 3225
+place c = ap placeNo (c .field-at .ensures ∙ field-place (record { 0 = 0 }) (record { 0 = 3225 }) (omega arith) (omega arith))
 
-bytes16-requires : tie.Need-bytes16-requires
-bytes16-requires c κs = tt
+field-at-requires : tie.Need-field-at-requires
+field-at-requires c κs = search needs
 
-array-read-out : tie.Need-array-read-out
-array-read-out c = lit< tt
+cast-put16 : tie.Need-cast-put16
+cast-put16 c = omega (arith, code-limits (c .before .before .args .code) (c .before .before .pre .0))
 
-slice-write-out : tie.Need-slice-write-out
-slice-write-out c = omega (arith, c .before .before .pre .1)
+add-put16 : tie.Need-add-put16
+add-put16 c = omega (arith, place c)
 
-array-read-out-2 : tie.Need-array-read-out-2
-array-read-out-2 c = lit< tt
+sub-put16 : tie.Need-sub-put16
+sub-put16 c = search needs
 
-slice-write-out-2 : tie.Need-slice-write-out-2
-slice-write-out-2 c = lt-length-sets (c .before .before .args .out .now) 0 (getD (c .bytes16 .result) 0 0 ∷ []) (omega (arith, c .before .before .pre .1))
+part-put16-start : tie.Need-part-put16-start
+part-put16-start c = search needs
 
-returns : tie.Need-returns
-returns c = rw (c .bytes16 .ensures) (stored (bytesOf 2 (c .before .before .args .code)) (c .before .before .args .out .now) (c .before .before .pre .1))
+part-put16-end : tie.Need-part-put16-end
+part-put16-end c = omega (arith, place c, c .before .before .pre .1)
+
+put16-requires : tie.Need-put16-requires
+put16-requires c κs = search needs
 
 same-length : tie.Need-same-length
-same-length c = ap length (returns c) ∙ sym (c .before .before .pre .1)
+same-length c = search needs
+
+returns : tie.Need-returns
+returns c =
+    let f = c .before .before .before .before in
+    let a = f .before .before .args in
+    let new = bytesOf 2 (a .code) in
+    let p = placeNo (f .field-at .result) in
+    over (a .out .now) new p (p + 2) refl (copied _ _ (c .before .before .put16 .ensures) (c .before .before .before .put16-arg .given .2 ∙ omega arith))
+    ∙ ap (λ (x : ℕ). overwritten (a .out .now) x new) (place f)
 
 pub put-code-spec : {M : Type 1} → statement M
 put-code-spec =
     tie.close
     (tie.spec
-    cast-bytes16
-    bytes16-requires
-    array-read-out
-    slice-write-out
-    array-read-out-2
-    slice-write-out-2
+    field-at-requires
+    cast-put16
+    add-put16
+    sub-put16
+    part-put16-start
+    part-put16-end
+    put16-requires
     same-length
     returns)

@@ -1,112 +1,97 @@
 -- `write_reel::put_trace` meets its contract. Assumes nothing.
 use Rattle.write_samples.specs.Samples.{sampleWords}
 use Rattle.write_samples.proofs.WordLaws.{size-samples, samples-written}
-use Rattle.write_reel.proofs.CopiedLaws.{zeroed, size-trace}
-use Rattle.write_reel.specs.Copied.{reelTraceCopied}
+use Rattle.write_reel.proofs.CopiedLaws.{size-bytes-header, size-trace}
+use Rattle.write_reel.specs.Copied.{headerCopied, reelTraceCopied}
+use Rattle.record.specs.Form.{fieldHead, headerSize, toSamples, toPairs}
+use Rattle.reel.specs.Layout.{traceHeader}
 use Rattle.numbers.proofs.Filling.{start, lend, close}
-use Rattle.numbers.proofs.WalkLaws.{bytes-between, copied, size-bytes}
+use Rattle.numbers.proofs.WalkLaws.{bytes-between}
 use Rattle.numbers.specs.Walk.{bytesAt}
-use lib.ListN.{length, replicate, length-replicate}
-use Prim.Native.Nat.{ℕ, _+_, _-_, _*_}
-use mathlib.Core.List.{List, _++_}
-use mathlib.Core.Path.{_≡_, refl, sym, ap, _∙_}
+use lib.ListN.{length}
+use Prim.Native.Nat.{_+_, _-_}
+use mathlib.Core.Path.{_≡_, sym, ap₂, _∙_}
 use native.Mathlib.Omega.{arith}
+use borrow.Author.Needs.{needs}
 use Rattle.write_reel.proofs.put_trace.Statement.{statement}
 use Rattle.write_reel.proofs.put_trace.Tie as tie
 
-add-copy : tie.Need-add-copy
-add-copy c = omega (arith, c .before .before .pre .1, c .before .before .good .0)
+add-put-header : tie.Need-add-put-header
+add-put-header c = search needs
 
-add-copy-2 : tie.Need-add-copy-2
-add-copy-2 c = omega (arith, c .before .before .pre .1, c .before .before .good .0)
+add-put-header-2 : tie.Need-add-put-header-2
+add-put-header-2 c = search needs
 
-sub-copy : tie.Need-sub-copy
-sub-copy c = omega arith
+sub-put-header : tie.Need-sub-put-header
+sub-put-header c = search needs
 
-part-copy-start : tie.Need-part-copy-start
-part-copy-start c = omega arith
+part-put-header-start : tie.Need-part-put-header-start
+part-put-header-start c = search needs
 
-part-copy-end : tie.Need-part-copy-end
-part-copy-end c = omega (arith, c .before .before .pre .1)
+part-put-header-end : tie.Need-part-put-header-end
+part-put-header-end c = search needs
 
-sub-copy-2 : tie.Need-sub-copy-2
-sub-copy-2 c = omega arith
+sub-put-header-2 : tie.Need-sub-put-header-2
+sub-put-header-2 c = search needs
 
-part-copy-start-2 : tie.Need-part-copy-start-2
-part-copy-start-2 c = omega arith
+part-put-header-start-2 : tie.Need-part-put-header-start-2
+part-put-header-start-2 c = search needs
 
-part-copy-end-2 : tie.Need-part-copy-end-2
-part-copy-end-2 c = omega (arith, c .before .before .before .pre .2)
+part-put-header-end-2 : tie.Need-part-put-header-end-2
+part-put-header-end-2 c = search needs
 
-copy-requires : tie.Need-copy-requires
-copy-requires c κs = tt
+put-header-requires : tie.Need-put-header-requires
+put-header-requires c κs = search needs
 
-sub-put-zeros : tie.Need-sub-put-zeros
-sub-put-zeros c = omega arith
-
-part-put-zeros-start : tie.Need-part-put-zeros-start
-part-put-zeros-start c = omega arith
-
-part-put-zeros-end : tie.Need-part-put-zeros-end
-part-put-zeros-end c = omega (arith, c .before .before .before .before .before .before .before .pre .2, c .before .out .given .1)
-
-put-zeros-requires : tie.Need-put-zeros-requires
-put-zeros-requires c κs = tt
-
-add-t11 : tie.Need-add-t11
-add-t11 c = omega (arith, c .before .before .before .before .before .before .before .before .before .before .before .pre .1, c .before .before .before .before .before .before .before .before .before .before .before .good .0)
+add-t15 : tie.Need-add-t15
+add-t15 c = search needs
 
 sub-write-samples : tie.Need-sub-write-samples
-sub-write-samples c = omega (arith, c .before .before .before .before .before .before .before .before .before .before .before .pre .2)
+sub-write-samples c = search needs
 
 part-write-samples-start : tie.Need-part-write-samples-start
-part-write-samples-start c = omega (arith, c .before .before .before .before .before .before .before .before .before .before .before .pre .2)
+part-write-samples-start c = search needs
 
 part-write-samples-end : tie.Need-part-write-samples-end
-part-write-samples-end c = omega (arith, c .before .before .before .before .before .out .given .1, c .before .out2 .given .1)
+part-write-samples-end c = search needs
 
 write-samples-requires : tie.Need-write-samples-requires
-write-samples-requires c κs = tt
+write-samples-requires c κs = search needs
+
+same-length : tie.Need-same-length
+same-length c = search needs
 
 returns : tie.Need-returns
 unfolding reelTraceCopied
 returns c =
-    let b = c .before .before .before .before .before .before .before .before .before .before .before .before .before .before .before in
+    let h = c .before .before .before .before .before .before in
+    let b = h .before .before .before .before .before in
     let a = b .args in
     let s = a .«record» .now in
-    let at = a .at in
-    let x = bytesAt s (at + 3) 180 in
-    let y : List ℕ = replicate 60 0 in
-    let z = sampleWords s (a .code) (a .n) (at + 186) in
-    let w₀ = start _ (a .out .now) (b .pre .2 ∙ sym (size-trace s (a .code) (a .n) at)) in
-    let w₁ = lend x (y ++ z) 180 w₀ (omega arith) (size-bytes s (at + 3) 180) (copied _ _ (c .before .before .before .before .before .before .before .before .before .before .copy .ensures) (omega (arith, c .before .before .before .before .before .before .before .before .before .before .before .before .copy-arg .given .2, c .before .before .before .before .before .before .before .before .before .before .before .copy-arg2 .given .2)) ∙ bytes-between s (at + 3) (at + 183) 180 (omega (arith, b .pre .1)) (omega arith)) in
-    let w₂ = lend y z 240 w₁ (omega arith) (length-replicate {A = ℕ} 60 0) (zeroed _ 60 (c .before .before .before .before .before .before .put-zeros .ensures) (c .before .before .before .before .before .before .before .put-zeros-arg .given .2)) in
-    let size : length z ≡ length (a .out .now) - 240 = size-samples s (a .code) (a .n) (at + 186) ∙ omega (arith, b .pre .2) in
-    close z (length (a .out .now)) w₂ (omega (arith, b .pre .2)) size (c .before .before .write-samples .ensures ∙ samples-written s (a .code) (a .n) (at + 186) _ (b .pre .0) (omega (arith, b .pre .1)) (c .before .before .before .write-samples-arg .given .2 ∙ omega (arith, b .pre .2)))
-
-same-length : tie.Need-same-length
-same-length c =
-    let b = c .before .before .before .before .before .before .before .before .before .before .before .before .before .before .before in
-    ap length (returns c) ∙ (size-trace (b .args .«record» .now) (b .args .code) (b .args .n) (b .args .at) ∙ sym (b .pre .2))
+    let from = a .at + fieldHead in
+    let pairs = a .at + toPairs in
+    let x = headerCopied traceHeader (bytesAt s from headerSize) in
+    let z = sampleWords s (a .code) (a .n) pairs in
+    let header = h .put-header .ensures ∙ ap₂ headerCopied (h .before .put-header-arg2 .given .2) (bytes-between s from (a .at + toSamples) headerSize (omega (arith, b .pre .1)) (omega arith)) in
+    let w₀ = start _ (a .out .now) (b .pre .2 ∙ sym (size-trace s (a .code) (a .n) (a .at))) in
+    let w₁ = lend x z traceHeader w₀ (omega arith) (size-bytes-header traceHeader s from headerSize (omega arith)) header in
+    let size : length z ≡ length (a .out .now) - traceHeader = size-samples s (a .code) (a .n) pairs ∙ omega (arith, b .pre .2) in
+    close z (length (a .out .now)) w₁ (omega (arith, b .pre .2)) size (c .before .before .write-samples .ensures ∙ samples-written s (a .code) (a .n) pairs _ (b .pre .0) (omega (arith, b .pre .1)) (c .before .before .before .write-samples-arg .given .2 ∙ omega (arith, b .pre .2)))
 
 pub put-trace-spec : {M : Type 1} → statement M
 put-trace-spec =
     tie.close
     (tie.spec
-    add-copy
-    add-copy-2
-    sub-copy
-    part-copy-start
-    part-copy-end
-    sub-copy-2
-    part-copy-start-2
-    part-copy-end-2
-    copy-requires
-    sub-put-zeros
-    part-put-zeros-start
-    part-put-zeros-end
-    put-zeros-requires
-    add-t11
+    add-put-header
+    add-put-header-2
+    sub-put-header
+    part-put-header-start
+    part-put-header-end
+    sub-put-header-2
+    part-put-header-start-2
+    part-put-header-end-2
+    put-header-requires
+    add-t15
     sub-write-samples
     part-write-samples-start
     part-write-samples-end

@@ -1,14 +1,14 @@
 -- `write_reel::put_traces` meets its contract. Assumes nothing.
-use Rattle.write_reel.proofs.CopiedLaws.{size-trace, size-traces, traces-more, traces-none}
+use Rattle.write_reel.proofs.CopiedLaws.{size-trace, size-traces}
 use Rattle.write_reel.specs.Copied.{reelTraceCopied}
 use Rattle.record.specs.Form.{heldStride, tracesPlace}
-use Rattle.numbers.proofs.Filling.{Filling, start as begin, finish, again, lend}
-use Rattle.numbers.proofs.WalkLaws.{times-more}
+use Rattle.numbers.proofs.Filling.{Filling, start as begin, finish, again, part-put}
+use Rattle.numbers.proofs.WalkLaws.{times-more, flat-none}
 use Rattle.numbers.specs.Walk.{walk, flat}
 use lib.ListN.{length}
 use Prim.Native.Nat.{ℕ, _+_, _-_, _*_, _≤_}
-use mathlib.Core.List.{_++_, map}
-use mathlib.Core.Path.{_≡_, sym, ap, _∙_}
+use mathlib.Core.List.{map}
+use mathlib.Core.Path.{_≡_, refl, sym, ap, _∙_}
 use native.Mathlib.Omega.{arith}
 use Rattle.write_reel.proofs.put_traces.Statement.{statement}
 use Rattle.write_reel.proofs.put_traces.Tie as tie
@@ -62,8 +62,8 @@ loop-again c =
     let l = c .before .before .before .before .before .loop in
     let some = c .before .before .before .before .loop-test .taken in
     let next : l .at + heldStride (a .n) ≡ l .at + a .m = ap (λ (x : ℕ). l .at + x) (sym (s .pre .2)) in
-    let more = traces-more r (a .code) (a .n) (l .left) (l .at) some ∙ ap (λ (x : ℕ). reelTraceCopied r (a .code) (a .n) (l .at) ++ flat (map (reelTraceCopied r (a .code) (a .n)) (walk (λ p. p) (heldStride (a .n)) (l .left - 1) x))) next in
-    let f = lend (reelTraceCopied r (a .code) (a .n) (l .at)) (flat (map (reelTraceCopied r (a .code) (a .n)) (walk (λ p. p) (heldStride (a .n)) (l .left - 1) (l .at + a .m)))) (l .o + a .w) (again (l .inv .3) more) (omega arith) (size-trace r (a .code) (a .n) (l .at) ∙ omega (arith, s .pre .1)) (c .before .before .put-trace .ensures) in
+    let put = part-put (reelTraceCopied r (a .code) (a .n)) (λ p. p) (heldStride (a .n)) (a .w) (λ p. size-trace r (a .code) (a .n) p ∙ sym (s .pre .1)) (l .left) (l .at) (l .o) (l .o + a .w) some refl (l .inv .3) (c .before .before .put-trace .ensures) in
+    let f = again put (ap (λ (x : ℕ). flat (map (reelTraceCopied r (a .code) (a .n)) (walk (λ p. p) (heldStride (a .n)) (l .left - 1) x))) next) in
     (omega (arith, times-more (l .left) (a .m) some, l .inv .0), f .size ∙ sym (l .inv .3 .size) ∙ l .inv .1, omega (arith, times-more (l .left) (a .w) some, l .inv .2), f)
 
 same-length : tie.Need-same-length Inv-loop μ-loop
@@ -72,7 +72,7 @@ same-length c = c .before .loop .inv .1 ∙ sym (c .before .before .before .befo
 returns : tie.Need-returns Inv-loop μ-loop
 returns c =
     let a = c .before .before .before .before .args in
-    finish (c .before .loop .inv .3) (traces-none (a .«record» .now) (a .code) (a .n) (c .before .loop .left) (c .before .loop .at) (c .loop-test .left))
+    finish (c .before .loop .inv .3) (flat-none (reelTraceCopied (a .«record» .now) (a .code) (a .n)) (λ p. p) (heldStride (a .n)) (c .before .loop .left) (c .before .loop .at) (c .loop-test .left))
 
 pub put-traces-spec : {M : Type 1} → statement M
 put-traces-spec =

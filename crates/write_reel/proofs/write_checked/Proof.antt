@@ -1,5 +1,7 @@
 -- `write_reel::write_checked` meets its contract. Assumes nothing.
-use Rattle.write_reel.proofs.WriteLaws.{Own, own, Fit, fit, short-end, taken-end}
+use Rattle.fit.specs.Target.{targetCauses}
+use Rattle.record.proofs.JudgedLaws.{Own, own}
+use Rattle.write_reel.proofs.WriteLaws.{Fit, fit, short-end, taken-end}
 use Rattle.numbers.proofs.ByteLaws.{all-bytes}
 use Rattle.reel.specs.Layout.{firstTrace, stride, sampleBytes}
 use lib.Seq.{length-take-le}
@@ -9,8 +11,8 @@ use native.Mathlib.Omega.{arith}
 use Rattle.write_reel.proofs.write_checked.Statement.{statement}
 use Rattle.write_reel.proofs.write_checked.Tie as tie
 
-owns : (c : tie.Start) → let a = c .args in Own (a .«record» .now) (a .code) (a .n) (a .t)
-owns c = let a = c .args in own (a .«record» .now) (a .code) (a .n) (a .t) (c .pre)
+owns : (c : tie.Start) → let a = c .args in Own (a .«record» .now) (targetCauses (a .«record» .now) (a .code)) (a .n) (a .t)
+owns c = let a = c .args in own (a .«record» .now) (targetCauses (a .«record» .now) (a .code)) (c .pre)
 
 fits : (c : tie.Start) → let a = c .args in Fit (a .«record» .now) (a .code) (a .n) (a .t)
 fits c = let a = c .args in fit (a .«record» .now) (a .code) (a .n) (a .t) (owns c)

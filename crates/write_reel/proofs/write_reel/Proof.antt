@@ -1,5 +1,7 @@
 -- `write_reel::write_reel` meets its contract. Assumes nothing.
-use Rattle.write_reel.proofs.WriteLaws.{refused-is, refused-end}
+use Rattle.fit.specs.Target.{targetCauses}
+use Rattle.record.proofs.JudgedLaws.{refused-is}
+use Rattle.write_reel.proofs.WriteLaws.{refused-end}
 use mathlib.Core.Path.{_≡_, sym, _∙_}
 use Rattle.write_reel.proofs.write_reel.Statement.{statement}
 use Rattle.write_reel.proofs.write_reel.Tie as tie
@@ -19,7 +21,7 @@ write-checked-requires c κs = sym (c .before .before .before .before .judge-fit
 returns : tie.Need-returns
 returns c =
     let a = c .before .before .before .before .before .before .args in
-    refused-end (a .«record» .now) (a .code) (a .reel .now) _ _ (refused-is (a .«record» .now) (a .code) _ _ (sym (c .before .before .before .judge-fit .ensures) ∙ c .before .c .given .1))
+    refused-end (a .«record» .now) (a .code) (a .reel .now) _ _ (refused-is (a .«record» .now) (targetCauses (a .«record» .now) (a .code)) (sym (c .before .before .before .judge-fit .ensures) ∙ c .before .c .given .1))
 
 same-length : tie.Need-same-length
 same-length c = c .before .reel .given

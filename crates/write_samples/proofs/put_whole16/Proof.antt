@@ -1,7 +1,7 @@
 -- `write_samples::put_whole16` meets its contract. Assumes nothing.
-use Rattle.write_samples.proofs.WordLaws.{size-samples, samples-none, sample-bytes, next-put, last-put}
-use Rattle.write_samples.specs.Samples.{sampleWords}
-use Rattle.numbers.proofs.Filling.{Filling, start as begin, finish, again}
+use Rattle.write_samples.proofs.WordLaws.{size-written, size-samples, samples-none, sample-bytes}
+use Rattle.write_samples.specs.Samples.{wordBytes, writtenAt, sampleWords}
+use Rattle.numbers.proofs.Filling.{Filling, start as begin, finish, again, next-put, last-put}
 use Rattle.numbers.proofs.WalkLaws.{times-more}
 use Rattle.numbers.specs.Walk.{bytesAt}
 use Rattle.numbers.specs.BigEndian.{number}
@@ -83,12 +83,13 @@ loop-less : tie.Need-loop-less Inv-loop μ-loop
 loop-less c = omega (arith, c .before .before .before .before .before .before .before .before .loop-test .taken)
 
 loop-again : tie.Need-loop-again Inv-loop μ-loop
+unfolding sampleWords
 loop-again c =
     let s = c .before .before .before .before .before .before .before .before .before .before .before .before .before .before .before .args .«record» .now in
     let l = c .before .before .before .before .before .before .before .before .before .loop in
     let some = c .before .before .before .before .before .before .before .before .loop-test .taken in
     let new = c .before .before .before .before .put-half .ensures ∙ sample-bytes s 3 (l .at) (l .e) (l .m) (c .before .before .before .before .before .before .before .pair-of-bits .result) (c .before .before .before .before .before .before .whole16-bits .result) (c .before .before .before .before .before .before .whole16-bits .ensures) (c .before .before .before .before .before .before .before .pair-of-bits .ensures) (l .inv .3) (l .inv .4) in
-    let f = next-put s 3 (l .left) (l .at) (l .o) (l .o + 2) some refl (l .inv .5) new in (
+    let f = next-put (wordBytes 3) (writtenAt s 3) 6 2 (size-written s 3) (l .left) (l .at) (l .o) (l .o + 2) some refl (l .inv .5) new in (
       omega (arith, times-more (l .left) 6 some, l .inv .0),
       f .size ∙ sym (l .inv .5 .size) ∙ l .inv .1,
       omega (arith, times-more (l .left) 2 some, l .inv .2),
@@ -119,11 +120,12 @@ put-half-requires-2 : tie.Need-put-half-requires-2 Inv-loop μ-loop
 put-half-requires-2 c κs = c .put-half-arg2 .given .2 ∙ omega arith
 
 returns-2 : tie.Need-returns-2 Inv-loop μ-loop
+unfolding sampleWords
 returns-2 c =
     let s = c .before .before .before .before .before .before .before .before .before .before .before .before .before .args .«record» .now in
     let l = c .before .before .before .before .before .before .before .loop in
     let new = c .before .before .put-half2 .ensures ∙ sample-bytes s 3 (l .at) (l .e) (l .m) (c .before .before .before .before .before .pair-of-bits2 .result) (c .before .before .before .before .whole16-bits2 .result) (c .before .before .before .before .whole16-bits2 .ensures) (c .before .before .before .before .before .pair-of-bits2 .ensures) (l .inv .3) (l .inv .4) in
-    last-put s 3 (l .left) (l .at) (l .o) (l .o + 2) (c .before .before .before .before .before .before .loop-test .left) refl (l .inv .5) new
+    last-put (wordBytes 3) (writtenAt s 3) 6 2 (size-written s 3) (l .left) (l .at) (l .o) (l .o + 2) (c .before .before .before .before .before .before .loop-test .left) refl (l .inv .5) new
 
 same-length : tie.Need-same-length Inv-loop μ-loop
 same-length c =

@@ -1,10 +1,7 @@
 -- `write_samples::put_word` meets its contract. Assumes nothing.
-use Rattle.reel.proofs.CheckLaws.{code-limits}
-use Rattle.write_samples.proofs.WordLaws.{not-three, four-bytes-of}
-use Rattle.numbers.proofs.WalkLaws.{copied}
-use Rattle.value.specs.Writing.{writePair, wordBits}
-use Prim.Native.Nat.{ℕ}
-use mathlib.Core.Path.{_≡_, ap, _∙_}
+use Rattle.reel.proofs.CheckLaws.{code-limits, not-three}
+use Rattle.write_samples.proofs.WordLaws.{pair-stored}
+use mathlib.Core.Path.{_≡_}
 use native.Mathlib.Omega.{arith}
 use borrow.Author.Needs.{needs}
 use Rattle.write_samples.proofs.put_word.Statement.{statement}
@@ -24,7 +21,7 @@ returns c =
     let t = c .before .before .before .before .before in
     let b = t .before .before in
     let is : 1 ≡ b .args .code = omega (arith, code-limits (b .args .code) (b .pre .0), t .if1 .taken) in
-    copied _ _ (c .before .before .put32 .ensures) (b .pre .2) ∙ four-bytes-of (b .args .code) (c .before .before .before .before .ibm-bits .result) (writePair (b .args .code) (b .args .p)) (b .pre .1) (c .before .before .before .before .ibm-bits .ensures ∙ ap (λ (k : ℕ). wordBits (writePair k (b .args .p))) is)
+    pair-stored (b .args .code) 1 _ (b .args .p) (b .args .out .now) (b .pre .1) is (c .before .before .before .before .ibm-bits .ensures) (b .pre .2) (c .before .before .put32 .ensures)
 
 whole32-bits-requires : tie.Need-whole32-bits-requires
 whole32-bits-requires c κs = search needs
@@ -40,7 +37,7 @@ returns-2 c =
     let t = c .before .before .before .before .before in
     let b = t .before .before .before in
     let is : 2 ≡ b .args .code = omega (arith, t .if2 .taken, t .before .if1 .left) in
-    copied _ _ (c .before .before .put322 .ensures) (b .pre .2) ∙ four-bytes-of (b .args .code) (c .before .before .before .before .whole32-bits .result) (writePair (b .args .code) (b .args .p)) (b .pre .1) (c .before .before .before .before .whole32-bits .ensures ∙ ap (λ (k : ℕ). wordBits (writePair k (b .args .p))) is)
+    pair-stored (b .args .code) 2 _ (b .args .p) (b .args .out .now) (b .pre .1) is (c .before .before .before .before .whole32-bits .ensures) (b .pre .2) (c .before .before .put322 .ensures)
 
 gain-bits-requires : tie.Need-gain-bits-requires
 gain-bits-requires c κs = search needs
@@ -56,7 +53,7 @@ returns-3 c =
     let t = c .before .before .before .before .before in
     let b = t .before .before .before in
     let is : 4 ≡ b .args .code = omega (arith, code-limits (b .args .code) (b .pre .0), t .if2 .left, not-three (b .args .code) (b .pre .1)) in
-    copied _ _ (c .before .before .put323 .ensures) (b .pre .2) ∙ four-bytes-of (b .args .code) (c .before .before .before .before .gain-bits .result) (writePair (b .args .code) (b .args .p)) (b .pre .1) (c .before .before .before .before .gain-bits .ensures ∙ ap (λ (k : ℕ). wordBits (writePair k (b .args .p))) is)
+    pair-stored (b .args .code) 4 _ (b .args .p) (b .args .out .now) (b .pre .1) is (c .before .before .before .before .gain-bits .ensures) (b .pre .2) (c .before .before .put323 .ensures)
 
 pub put-word-spec : {M : Type 1} → statement M
 put-word-spec =

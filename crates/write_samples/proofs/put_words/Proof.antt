@@ -1,10 +1,11 @@
 -- `write_samples::put_words` meets its contract. Assumes nothing.
-use Rattle.write_samples.proofs.WordLaws.{size-samples, samples-none, fetched-bytes, four-bytes-of, next-put, last-put}
-use Rattle.write_samples.specs.Samples.{wordBytes, sampleWords}
-use Rattle.numbers.proofs.Filling.{Filling, start as begin, finish, again}
-use Rattle.numbers.proofs.WalkLaws.{times-more, copied}
+use Rattle.write_samples.proofs.WordLaws.{size-written, size-samples, samples-none, fetched-bytes, bits-stored}
+use Rattle.write_samples.specs.Samples.{wordBytes, writtenAt, sampleWords}
+use Rattle.numbers.proofs.Filling.{Filling, start as begin, finish, again, next-put, last-put}
+use Rattle.numbers.proofs.WalkLaws.{times-more}
 use Rattle.numbers.specs.Walk.{bytesAt}
 use Rattle.numbers.specs.BigEndian.{number}
+use Rattle.reel.specs.Layout.{sampleBytes}
 use lib.ListN.{length}
 use Prim.Native.Nat.{ℕ, _+_, _-_, _*_, _≤_}
 use mathlib.Core.Path.{_≡_, sym, ap, _∙_}
@@ -91,6 +92,7 @@ loop-less : tie.Need-loop-less Inv-loop μ-loop
 loop-less c = omega (arith, c .before .before .before .before .before .before .before .loop-test .taken)
 
 loop-again : tie.Need-loop-again Inv-loop μ-loop
+unfolding sampleWords
 loop-again c =
     let l = c .before .before .before .before .before .before .before .before .loop in
     let b = c .before .before .before .before .before .before .before .before .before .before .before .before .before .before in
@@ -98,7 +100,8 @@ loop-again c =
     let some = c .before .before .before .before .before .before .before .loop-test .taken in
     let p = c .before .before .before .before .before .before .pair-of-bits in
     let new = c .before .before .before .before .put-word .ensures ∙ fetched-bytes s (b .args .code) (l .at) (l .e) (l .m) (p .result) (p .ensures) (l .inv .3) (l .inv .4) in
-    let f = next-put s (b .args .code) (l .left) (l .at) (l .o) (l .o + 4) some (ap (λ (v : ℕ). l .o + v) (sym (b .pre .1))) (l .inv .5) new in (
+    let k = b .args .code in
+    let f = next-put (wordBytes k) (writtenAt s k) 6 (sampleBytes k) (size-written s k) (l .left) (l .at) (l .o) (l .o + 4) some (ap (λ (v : ℕ). l .o + v) (sym (b .pre .1))) (l .inv .5) new in (
       omega (arith, times-more (l .left) 6 some, l .inv .0),
       f .size ∙ sym (l .inv .5 .size) ∙ l .inv .1,
       omega (arith, times-more (l .left) 4 some, l .inv .2),
@@ -132,6 +135,7 @@ put32-requires : tie.Need-put32-requires Inv-loop μ-loop
 put32-requires c κs = tt
 
 returns-2 : tie.Need-returns-2 Inv-loop μ-loop
+unfolding sampleWords
 returns-2 c =
     let l = c .before .before .before .before .before .before .before .before .loop in
     let b = c .before .before .before .before .before .before .before .before .before .before .before .before .before .before in
@@ -139,9 +143,10 @@ returns-2 c =
     let p = c .before .before .before .before .before .before .pair-of-bits2 in
     let w = c .before .before .before .before .before .write in
     let bits = c .before .before .before .before .bits-of in
-    let new = copied _ _ (c .before .before .put32 .ensures) (c .before .before .before .put32-arg .given .2 ∙ omega arith) ∙ four-bytes-of (b .args .code) (bits .result) (w .result) (b .pre .1) (bits .ensures)
+    let new = bits-stored (b .args .code) (bits .result) (w .result) _ (b .pre .1) (bits .ensures) (c .before .before .before .put32-arg .given .2 ∙ omega arith) (c .before .before .put32 .ensures)
     ∙ ap (wordBytes (b .args .code)) (w .ensures) ∙ fetched-bytes s (b .args .code) (l .at) (l .e) (l .m) (p .result) (p .ensures) (l .inv .3) (l .inv .4) in
-    last-put s (b .args .code) (l .left) (l .at) (l .o) (l .o + 4) (c .before .before .before .before .before .before .before .loop-test .left) (ap (λ (v : ℕ). l .o + v) (sym (b .pre .1))) (l .inv .5) new
+    let k = b .args .code in
+    last-put (wordBytes k) (writtenAt s k) 6 (sampleBytes k) (size-written s k) (l .left) (l .at) (l .o) (l .o + 4) (c .before .before .before .before .before .before .before .loop-test .left) (ap (λ (v : ℕ). l .o + v) (sym (b .pre .1))) (l .inv .5) new
 
 same-length : tie.Need-same-length Inv-loop μ-loop
 same-length c =

@@ -1,0 +1,43 @@
+-- `read_reel::fill_field` meets its contract. Assumes nothing.
+use Rattle.numbers.proofs.PlaceLaws.{field-place}
+use Rattle.numbers.specs.BigEndian.{bytesOf}
+use Rattle.numbers.specs.Places.{placeNo, byteNo, bytePlace}
+use Rattle.numbers.specs.Walk.{overwritten}
+use Prim.Native.Nat.{ℕ, _+_, _^_, _<_}
+use mathlib.Core.Path.{_≡_, ap, ap₂, _∙_}
+use native.Mathlib.Omega.{arith}
+use borrow.Author.Needs.{needs}
+use Rattle.read_reel.proofs.fill_field.Statement.{statement}
+use Rattle.read_reel.proofs.fill_field.Tie as tie
+
+-- the field's place in the copy
+place : (c : tie.After-field-at) → placeNo (c .field-at .result) ≡ bytePlace 0 (byteNo (c .before .before .before .before .args .b))
+place c =
+    let s = c .before .before .before .before in
+    let l : 0 + byteNo (s .args .b) < 2 ^ 64 = omega (arith, s .pre .1, s .pre .2, s .good .0) in
+    ap placeNo (c .field-at .ensures ∙ field-place (record { 0 = 0 }) (s .args .b) (s .pre .0) l)
+
+own-at-requires : tie.Need-own-at-requires
+own-at-requires c κs = search needs
+
+field-at-requires : tie.Need-field-at-requires
+field-at-requires c κs = search needs
+
+put-over-requires : tie.Need-put-over-requires
+put-over-requires c κs =
+    let p = c .before .before .before .before .before .pre in
+    omega (arith, place (c .before), p .0, p .1)
+
+same-length : tie.Need-same-length
+same-length c = search needs
+
+returns : tie.Need-returns
+returns c =
+    let f = c .before .before .before .before in
+    let l = f .before .before .before .before .args .out .now in
+    c .before .before .put-over .ensures ∙ ap₂ (λ (p v : ℕ). overwritten l p (bytesOf 2 v)) (place f) (f .before .own-at .ensures)
+
+pub fill-field-spec : {M : Type 1} → statement M
+fill-field-spec =
+    tie.close
+    (tie.spec own-at-requires field-at-requires put-over-requires same-length returns)
