@@ -16,12 +16,6 @@ add-exponent c = omega (arith, trailing-le 32 (c .args .a), c .pre .1)
 exponent-requires : tie.Need-exponent-requires
 exponent-requires c κs = omega (arith, trailing-le 32 (c .args .a), c .pre .1)
 
-exponent-unless-zero-requires : tie.Need-exponent-unless-zero-requires
-exponent-unless-zero-requires c κs = tt
-
-shifted-down-requires : tie.Need-shifted-down-requires
-shifted-down-requires c κs = search needs
-
 with-sign-requires : tie.Need-with-sign-requires
 with-sign-requires c κs =
     let s = c .before .before .before in
@@ -39,7 +33,7 @@ canonical-spec =
     (tie.spec
     add-exponent
     exponent-requires
-    exponent-unless-zero-requires
-    shifted-down-requires
+    (λ c κs. tt)
+    (λ c κs. search needs)
     with-sign-requires
     returns)

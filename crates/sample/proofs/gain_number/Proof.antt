@@ -6,18 +6,6 @@ use borrow.Author.Needs.{needs}
 use Rattle.sample.proofs.gain_number.Statement.{statement}
 use Rattle.sample.proofs.gain_number.Tie as tie
 
-magnitude16-requires : tie.Need-magnitude16-requires
-magnitude16-requires c κs = search needs
-
-cast-canonical : tie.Need-cast-canonical
-cast-canonical c = search needs
-
-sub-canonical : tie.Need-sub-canonical
-sub-canonical c = search needs
-
-canonical-requires : tie.Need-canonical-requires
-canonical-requires c κs = search needs
-
 returns : tie.Need-returns
 returns c =
     let d = c .before .before .args .d in
@@ -26,4 +14,4 @@ returns c =
 pub gain-number-spec : {M : Type 1} → statement M
 gain-number-spec =
     tie.close
-    (tie.spec magnitude16-requires cast-canonical sub-canonical canonical-requires returns)
+    (tie.spec (λ c κs. search needs) (λ c. search needs) (λ c. search needs) (λ c κs. search needs) returns)

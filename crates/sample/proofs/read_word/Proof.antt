@@ -8,21 +8,6 @@ use borrow.Author.Needs.{needs}
 use Rattle.sample.proofs.read_word.Statement.{statement}
 use Rattle.sample.proofs.read_word.Tie as tie
 
-read-requires : tie.Need-read-requires
-read-requires c κs = search needs
-
-enum-known-e : tie.Need-enum-known-e
-enum-known-e c = search needs
-
-pair-bytes-requires : tie.Need-pair-bytes-requires
-pair-bytes-requires c κs = search needs
-
-enum-known-number : tie.Need-enum-known-number
-enum-known-number c = search needs
-
-refusal-requires : tie.Need-refusal-requires
-refusal-requires c κs = search needs
-
 returns : tie.Need-returns
 returns c =
     let x : SFits w16 (c .before .before .e .given .0 .0) = search needs in
@@ -36,4 +21,4 @@ returns-2 c =
 pub read-word-spec : {M : Type 1} → statement M
 read-word-spec =
     tie.close
-    (tie.spec read-requires enum-known-e pair-bytes-requires enum-known-number refusal-requires returns returns-2)
+    (tie.spec (λ c κs. search needs) (λ c. search needs) (λ c κs. search needs) (λ c. search needs) (λ c κs. search needs) returns returns-2)

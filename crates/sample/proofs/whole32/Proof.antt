@@ -6,16 +6,10 @@ use borrow.Author.Needs.{needs}
 use Rattle.sample.proofs.whole32.Statement.{statement}
 use Rattle.sample.proofs.whole32.Tie as tie
 
-magnitude32-requires : tie.Need-magnitude32-requires
-magnitude32-requires c κs = search needs
-
-canonical-requires : tie.Need-canonical-requires
-canonical-requires c κs = search needs
-
 returns : tie.Need-returns
 returns c =
     let n = c .before .before .args .n in
     rw (signed-word 32 n (c .before .before .fits .n .fits), signed-mul (leb (2 ^ 31) n), ← (c .before .magnitude32 .ensures .0)) (c .canonical .ensures)
 
 pub whole32-spec : {M : Type 1} → statement M
-whole32-spec = tie.close (tie.spec magnitude32-requires canonical-requires returns)
+whole32-spec = tie.close (tie.spec (λ c κs. search needs) (λ c κs. search needs) returns)

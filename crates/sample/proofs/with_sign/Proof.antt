@@ -8,14 +8,8 @@ use borrow.Author.Needs.{needs}
 use Rattle.sample.proofs.with_sign.Statement.{statement}
 use Rattle.sample.proofs.with_sign.Tie as tie
 
-cast-result : tie.Need-cast-result
-cast-result c = search needs
-
 sub-result : tie.Need-sub-result
 sub-result c = rw (toZ-pos w32 (c .before .pre), +ℤ-idl (negℤ (pos (c .before .args .a)))) (sfits-signed w32 true _ (c .before .pre))
-
-cast-result-2 : tie.Need-cast-result-2
-cast-result-2 c = search needs
 
 returns : tie.Need-returns
 returns c = rw (c .if1 .taken, toZ-pos w32 (c .before .pre), +ℤ-idl (negℤ (pos (c .before .args .a)))) (toZ-ofZ (sfits-signed w32 true _ (c .before .pre)))
@@ -24,4 +18,4 @@ returns-2 : tie.Need-returns-2
 returns-2 c = rw (c .if1 .left) (toZ-pos w32 (c .before .pre))
 
 pub with-sign-spec : {M : Type 1} → statement M
-with-sign-spec = tie.close (tie.spec cast-result sub-result cast-result-2 returns returns-2)
+with-sign-spec = tie.close (tie.spec (λ c. search needs) sub-result (λ c. search needs) returns returns-2)

@@ -6,24 +6,6 @@ use borrow.Author.Needs.{needs}
 use Rattle.sample.proofs.write_pair.Statement.{statement}
 use Rattle.sample.proofs.write_pair.Tie as tie
 
-pair-in-requires : tie.Need-pair-in-requires
-pair-in-requires c κs = search needs
-
-write-requires : tie.Need-write-requires
-write-requires c κs = search needs
-
-enum-known-bits : tie.Need-enum-known-bits
-enum-known-bits c = search needs
-
-bytes32-requires : tie.Need-bytes32-requires
-bytes32-requires c κs = search needs
-
-enum-known-number : tie.Need-enum-known-number
-enum-known-number c = search needs
-
-refusal-requires : tie.Need-refusal-requires
-refusal-requires c κs = search needs
-
 returns : tie.Need-returns
 returns c =
     let w = c .before .before .before .before in
@@ -38,11 +20,11 @@ pub write-pair-spec : {M : Type 1} → statement M
 write-pair-spec =
     tie.close
     (tie.spec
-    pair-in-requires
-    write-requires
-    enum-known-bits
-    bytes32-requires
-    enum-known-number
-    refusal-requires
+    (λ c κs. search needs)
+    (λ c κs. search needs)
+    (λ c. search needs)
+    (λ c κs. search needs)
+    (λ c. search needs)
+    (λ c κs. search needs)
     returns
     returns-2)

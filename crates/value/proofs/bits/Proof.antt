@@ -12,18 +12,6 @@ use Rattle.value.proofs.bits.Tie as tie
 apart : (c : tie.After-neg) → PartsOf (c .before .before .before .args .p) (Odd (c .neg .given .0 .0) (c .neg .given .0 .1 .0) (c .neg .given .0 .1 .1 .0))
 apart c = subst (PartsOf (c .before .before .before .args .p)) (c .neg .given .1) (c .before .before .parts .ensures)
 
-parts-requires : tie.Need-parts-requires
-parts-requires c κs = search needs
-
-enum-told : tie.Need-enum-told
-enum-told c = search needs
-
-enum-told-2 : tie.Need-enum-told-2
-enum-told-2 c = search needs
-
-enum-known-neg : tie.Need-enum-known-neg
-enum-known-neg c = search needs
-
 bits-at-requires : tie.Need-bits-at-requires
 bits-at-requires c κs = let a = apart (c .before) .1 in (c .before .before .before .before .pre, a .odd, a .low)
 
@@ -46,10 +34,10 @@ pub bits-spec : {M : Type 1} → statement M
 bits-spec =
     tie.close
     (tie.spec
-    parts-requires
-    enum-told
-    enum-told-2
-    enum-known-neg
+    (λ c κs. search needs)
+    (λ c. search needs)
+    (λ c. search needs)
+    (λ c. search needs)
     bits-at-requires
     returns
     returns-2

@@ -6,30 +6,6 @@ use borrow.Author.Needs.{needs}
 use Rattle.value.proofs.bits_at.Statement.{statement}
 use Rattle.value.proofs.bits_at.Tie as tie
 
-ibm-of-requires : tie.Need-ibm-of-requires
-ibm-of-requires c κs = search needs
-
-bits-of-requires : tie.Need-bits-of-requires
-bits-of-requires c κs = search needs
-
-whole-of-requires : tie.Need-whole-of-requires
-whole-of-requires c κs = search needs
-
-bits-of-requires-2 : tie.Need-bits-of-requires-2
-bits-of-requires-2 c κs = search needs
-
-whole-of-requires-2 : tie.Need-whole-of-requires-2
-whole-of-requires-2 c κs = search needs
-
-bits-of-requires-3 : tie.Need-bits-of-requires-3
-bits-of-requires-3 c κs = search needs
-
-gain-of-requires : tie.Need-gain-of-requires
-gain-of-requires c κs = search needs
-
-bits-of-requires-4 : tie.Need-bits-of-requires-4
-bits-of-requires-4 c κs = search needs
-
 returns : tie.Need-returns
 returns c = rw (c .before .before .match .keys1) (c .bits-of .ensures ∙ ap wordBits (c .before .ibm-of .ensures))
 
@@ -49,14 +25,14 @@ pub bits-at-spec : {M : Type 1} → statement M
 bits-at-spec =
     tie.close
     (tie.spec
-    ibm-of-requires
-    bits-of-requires
-    whole-of-requires
-    bits-of-requires-2
-    whole-of-requires-2
-    bits-of-requires-3
-    gain-of-requires
-    bits-of-requires-4
+    (λ c κs. search needs)
+    (λ c κs. search needs)
+    (λ c κs. search needs)
+    (λ c κs. search needs)
+    (λ c κs. search needs)
+    (λ c κs. search needs)
+    (λ c κs. search needs)
+    (λ c κs. search needs)
     returns
     returns-2
     returns-3

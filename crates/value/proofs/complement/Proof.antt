@@ -22,9 +22,6 @@ is c = bits-of (c .args .w) (c .pre .0) (c .pre .1) (c .args .neg) (c .args .q) 
 whole : (c : tie.After-shifted-wide) → c .shifted-wide .result ≡ 2 ^ c .before .before .args .w
 whole c = c .shifted-wide .ensures ∙ one-mul (2 ^ c .before .before .args .w)
 
-shifted-wide-requires : tie.Need-shifted-wide-requires
-shifted-wide-requires c κs = search needs
-
 sub-result : tie.Need-sub-result
 sub-result c =
     let s = c .before .before in
@@ -43,4 +40,4 @@ returns-2 c = rw (c .if1 .left) (rw (c .if1 .left) at (is (c .before)))
 
 pub complement-spec : {M : Type 1} → statement M
 complement-spec =
-    tie.close (tie.spec shifted-wide-requires sub-result cast-result returns returns-2)
+    tie.close (tie.spec (λ c κs. search needs) sub-result cast-result returns returns-2)

@@ -27,31 +27,10 @@ below c =
     let b = subst (WholeBelow (a .o) (a .k + (denominatorPower - s .before .lesser .result)) (l .result)) (c .q .given .1) (c .before .before .whole-below .ensures) in
     rw (l .ensures .0) at b
 
-lesser-requires : tie.Need-lesser-requires
-lesser-requires c κs = search needs
-
-sub-g : tie.Need-sub-g
-sub-g c = search needs
-
 returns : tie.Need-returns
 returns c =
     let a = c .before .before .args in
     sym (gain-low (a .neg) (a .o) (a .k) (c .before .before .pre .0) (rw (c .before .lesser .ensures) at (c .if1 .taken)))
-
-add-whole-below : tie.Need-add-whole-below
-add-whole-below c = search needs
-
-limit-requires : tie.Need-limit-requires
-limit-requires c κs = search needs
-
-whole-below-requires : tie.Need-whole-below-requires
-whole-below-requires c κs = search needs
-
-enum-known-q : tie.Need-enum-known-q
-enum-known-q c = search needs
-
-mul-t11 : tie.Need-mul-t11
-mul-t11 c = search needs
 
 complement-requires : tie.Need-complement-requires
 complement-requires c κs =
@@ -59,12 +38,6 @@ complement-requires c κs =
     let s = c .before .before .before .before .before .before .before in
     let g = denominatorPower - c .before .before .before .before .before .before .lesser .result in
     (omega arith, omega arith, omega (arith, b .1, odd-shl (s .args .o) (s .args .k + g - denominatorPower) (s .pre .0)), b .2)
-
-add-t13 : tie.Need-add-t13
-add-t13 c = search needs
-
-enum-told : tie.Need-enum-told
-enum-told c = search needs
 
 returns-2 : tie.Need-returns-2
 returns-2 c =
@@ -87,16 +60,16 @@ pub gain-of-spec : {M : Type 1} → statement M
 gain-of-spec =
     tie.close
     (tie.spec
-    lesser-requires
-    sub-g
+    (λ c κs. search needs)
+    (λ c. search needs)
     returns
-    add-whole-below
-    limit-requires
-    whole-below-requires
-    enum-known-q
-    mul-t11
+    (λ c. search needs)
+    (λ c κs. search needs)
+    (λ c κs. search needs)
+    (λ c. search needs)
+    (λ c. search needs)
     complement-requires
-    add-t13
-    enum-told
+    (λ c. search needs)
+    (λ c. search needs)
     returns-2
     returns-3)

@@ -15,48 +15,15 @@ lesser-le c = omega (arith, c .before .lesser2 .ensures)
 small : (c : tie.After-sign-bit) → c .before .before .before .before .shifted-wide .result * 2 ^ (c .before .lesser2 .result * 4) < 2 ^ 24
 small c = moved-fits _ (c .before .before .digits .result) _ (lesser-le c) (c .before .before .digits .ensures .2)
 
-lesser-requires : tie.Need-lesser-requires
-lesser-requires c κs = search needs
-
-mul-shifted-wide : tie.Need-mul-shifted-wide
-mul-shifted-wide c = search needs
-
-sub-shifted-wide : tie.Need-sub-shifted-wide
-sub-shifted-wide c = search needs
-
-shifted-wide-requires : tie.Need-shifted-wide-requires
-shifted-wide-requires c κs = search needs
-
 returns : tie.Need-returns
 returns c =
     let a = c .before .before .before .args in
     sym (ibm-unfit (a .neg) (a .o) (a .k) (c .before .before .before .pre .0) (c .before .before .lesser .result) (c .before .before .lesser .ensures) (rw (c .before .shifted-wide .ensures) at (c .if1 .taken)))
 
-cast-f : tie.Need-cast-f
-cast-f c = search needs
-
 digits-requires : tie.Need-digits-requires
 digits-requires c κs =
     let a = c .before .before .before .args in
     omega (arith, odd-shl (a .o) (a .k - c .before .before .lesser .result * 4) (c .before .before .before .pre .0), c .before .shifted-wide .ensures)
-
-lesser-requires-2 : tie.Need-lesser-requires-2
-lesser-requires-2 c κs = search needs
-
-sign-bit-requires : tie.Need-sign-bit-requires
-sign-bit-requires c κs = search needs
-
-sub-bits : tie.Need-sub-bits
-sub-bits c = search needs
-
-mul-bits : tie.Need-mul-bits
-mul-bits c = search needs
-
-add-bits : tie.Need-add-bits
-add-bits c = search needs
-
-mul-shifted-up : tie.Need-mul-shifted-up
-mul-shifted-up c = search needs
 
 shifted-up-requires : tie.Need-shifted-up-requires
 shifted-up-requires c κs = (omega (arith, lesser-le c), omega (arith, small c))
@@ -77,19 +44,19 @@ pub ibm-of-spec : {M : Type 1} → statement M
 ibm-of-spec =
     tie.close
     (tie.spec
-    lesser-requires
-    mul-shifted-wide
-    sub-shifted-wide
-    shifted-wide-requires
+    (λ c κs. search needs)
+    (λ c. search needs)
+    (λ c. search needs)
+    (λ c κs. search needs)
     returns
-    cast-f
+    (λ c. search needs)
     digits-requires
-    lesser-requires-2
-    sign-bit-requires
-    sub-bits
-    mul-bits
-    add-bits
-    mul-shifted-up
+    (λ c κs. search needs)
+    (λ c κs. search needs)
+    (λ c. search needs)
+    (λ c. search needs)
+    (λ c. search needs)
+    (λ c. search needs)
     shifted-up-requires
     add-bits-2
     returns-2)

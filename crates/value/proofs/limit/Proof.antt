@@ -14,12 +14,6 @@ half c =
     let e = c .shifted-wide .ensures ∙ one-mul (2 ^ (c .before .args .w - 1)) in
     (e, omega (arith, half-le (c .before .args .w) (c .before .pre .0) (c .before .pre .1)))
 
-sub-shifted-wide : tie.Need-sub-shifted-wide
-sub-shifted-wide c = search needs
-
-shifted-wide-requires : tie.Need-shifted-wide-requires
-shifted-wide-requires c κs = search needs
-
 add-result : tie.Need-add-result
 add-result c = omega (arith, half (c .before) .1)
 
@@ -31,4 +25,4 @@ returns-2 c = rw (c .if1 .left, half (c .before) .0) (omega (arith, half (c .bef
 
 pub limit-spec : {M : Type 1} → statement M
 limit-spec =
-    tie.close (tie.spec sub-shifted-wide shifted-wide-requires add-result returns returns-2)
+    tie.close (tie.spec (λ c. search needs) (λ c κs. search needs) add-result returns returns-2)

@@ -5,9 +5,6 @@ use borrow.Author.Needs.{needs}
 use Rattle.value.proofs.magnitude32.Statement.{statement}
 use Rattle.value.proofs.magnitude32.Tie as tie
 
-wrapping-sub-u32-requires : tie.Need-wrapping-sub-u32-requires
-wrapping-sub-u32-requires c κs = search needs
-
 returns : tie.Need-returns
 returns c = rw (abs-high 32 (c .before .before .args .n) (c .before .before .fits .n .fits) (c .before .if1 .taken)) (omega arith)
 
@@ -15,4 +12,4 @@ returns-2 : tie.Need-returns-2
 returns-2 c = rw (abs-low 32 (c .before .args .n) (c .if1 .left)) (omega arith)
 
 pub magnitude32-spec : {M : Type 1} → statement M
-magnitude32-spec = tie.close (tie.spec wrapping-sub-u32-requires returns returns-2)
+magnitude32-spec = tie.close (tie.spec (λ c κs. search needs) returns returns-2)

@@ -13,9 +13,6 @@ use Rattle.value.proofs.shift.Tie as tie
 fits : (c : tie.Start) → SFits w16 (pos (shifted (c .args .e) (c .pre) .0))
 fits c = record { sfits = omega (arith, shifted (c .args .e) (c .pre) .1 .low) }
 
-cast-result : tie.Need-cast-result
-cast-result c = search needs
-
 add-result : tie.Need-add-result
 add-result c = rw (toZ-ofZ (c .fits .e), shifted (c .args .e) (c .pre) .1 .is) (fits c)
 
@@ -28,4 +25,4 @@ returns c =
     rw (toZ-ofZ (c .fits .e), shifted (c .args .e) (c .pre) .1 .is, toZ-ofZ (fits c)) (omega (arith, shifted (c .args .e) (c .pre) .1 .low))
 
 pub shift-spec : {M : Type 1} → statement M
-shift-spec = tie.close (tie.spec cast-result add-result cast-result-2 returns)
+shift-spec = tie.close (tie.spec (λ c. search needs) add-result cast-result-2 returns)

@@ -8,11 +8,8 @@ use Rattle.value.proofs.shifts_up.Tie as tie
 returns : tie.Need-returns
 returns c = rw (lt-leb denominatorPower (c .before .args .k) (c .if1 .taken))
 
-add-result : tie.Need-add-result
-add-result c = search needs
-
 returns-2 : tie.Need-returns-2
 returns-2 c = rw (le-leb denominatorPower (c .before .args .k) (c .if1 .left))
 
 pub shifts-up-spec : {M : Type 1} → statement M
-shifts-up-spec = tie.close (tie.spec returns add-result returns-2)
+shifts-up-spec = tie.close (tie.spec returns (λ c. search needs) returns-2)

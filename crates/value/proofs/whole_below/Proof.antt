@@ -28,9 +28,6 @@ far c h =
     let l = ltb-false k (denominatorPower + 32) (rw (le-leb denominatorPower k h) at t) in
     omega arith
 
-shifts-up-requires : tie.Need-shifts-up-requires
-shifts-up-requires c κs = search needs
-
 sub-shifted-wide : tie.Need-sub-shifted-wide
 sub-shifted-wide c = near c .0
 
@@ -39,9 +36,6 @@ shifted-wide-requires c κs = omega (arith, near c .1)
 
 returns : tie.Need-returns
 returns c = inr (near (c .before .before) .0, rw (c .before .shifted-wide .ensures) at (c .if2 .taken))
-
-cast-t6 : tie.Need-cast-t6
-cast-t6 c = search needs
 
 returns-2 : tie.Need-returns-2
 returns-2 c = (near (c .before .before) .0, c .before .shifted-wide .ensures, c .if2 .left)
@@ -55,10 +49,10 @@ pub whole-below-spec : {M : Type 1} → statement M
 whole-below-spec =
     tie.close
     (tie.spec
-    shifts-up-requires
+    (λ c κs. search needs)
     sub-shifted-wide
     shifted-wide-requires
     returns
-    cast-t6
+    (λ c. search needs)
     returns-2
     returns-3)

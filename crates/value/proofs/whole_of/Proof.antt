@@ -21,15 +21,6 @@ below c =
     let b = subst (WholeBelow (a .o) (a .k) (l .result)) (c .q .given .1) (c .before .before .whole-below .ensures) in
     rw (l .ensures .0) at b
 
-limit-requires : tie.Need-limit-requires
-limit-requires c κs = search needs
-
-whole-below-requires : tie.Need-whole-below-requires
-whole-below-requires c κs = search needs
-
-enum-known-q : tie.Need-enum-known-q
-enum-known-q c = search needs
-
 complement-requires : tie.Need-complement-requires
 complement-requires c κs =
     let b = below (c .before) in
@@ -40,9 +31,6 @@ mul-t11 : tie.Need-mul-t11
 mul-t11 c =
     let s = c .before .before .before .before .before .before in
     record { fits = times-fits (s .args .w) (s .args .up) _ (s .pre .2) (s .pre .3) (c .complement .ensures .1) }
-
-enum-told : tie.Need-enum-told
-enum-told c = search needs
 
 returns : tie.Need-returns
 returns c =
@@ -63,11 +51,11 @@ pub whole-of-spec : {M : Type 1} → statement M
 whole-of-spec =
     tie.close
     (tie.spec
-    limit-requires
-    whole-below-requires
-    enum-known-q
+    (λ c κs. search needs)
+    (λ c κs. search needs)
+    (λ c. search needs)
     complement-requires
     mul-t11
-    enum-told
+    (λ c. search needs)
     returns
     returns-2)

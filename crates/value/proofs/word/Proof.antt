@@ -11,18 +11,6 @@ use Rattle.value.proofs.word.Tie as tie
 apart : (c : tie.After-neg) → PartsOf (c .before .before .before .args .p) (Odd (c .neg .given .0 .0) (c .neg .given .0 .1 .0) (c .neg .given .0 .1 .1 .0))
 apart c = subst (PartsOf (c .before .before .before .args .p)) (c .neg .given .1) (c .before .before .parts .ensures)
 
-parts-requires : tie.Need-parts-requires
-parts-requires c κs = search needs
-
-enum-told : tie.Need-enum-told
-enum-told c = search needs
-
-enum-told-2 : tie.Need-enum-told-2
-enum-told-2 c = search needs
-
-enum-known-neg : tie.Need-enum-known-neg
-enum-known-neg c = search needs
-
 word-at-requires : tie.Need-word-at-requires
 word-at-requires c κs = let a = apart (c .before) .1 in (c .before .before .before .before .pre, a .odd, a .low)
 
@@ -45,10 +33,10 @@ pub word-spec : {M : Type 1} → statement M
 word-spec =
     tie.close
     (tie.spec
-    parts-requires
-    enum-told
-    enum-told-2
-    enum-known-neg
+    (λ c κs. search needs)
+    (λ c. search needs)
+    (λ c. search needs)
+    (λ c. search needs)
     word-at-requires
     returns
     returns-2

@@ -4,18 +4,6 @@ use borrow.Author.Needs.{needs}
 use Rattle.value.proofs.word_at.Statement.{statement}
 use Rattle.value.proofs.word_at.Tie as tie
 
-ibm-of-requires : tie.Need-ibm-of-requires
-ibm-of-requires c κs = search needs
-
-whole-of-requires : tie.Need-whole-of-requires
-whole-of-requires c κs = search needs
-
-whole-of-requires-2 : tie.Need-whole-of-requires-2
-whole-of-requires-2 c κs = search needs
-
-gain-of-requires : tie.Need-gain-of-requires
-gain-of-requires c κs = search needs
-
 returns : tie.Need-returns
 returns c = rw (c .before .match .keys1) (c .ibm-of .ensures)
 
@@ -35,10 +23,10 @@ pub word-at-spec : {M : Type 1} → statement M
 word-at-spec =
     tie.close
     (tie.spec
-    ibm-of-requires
-    whole-of-requires
-    whole-of-requires-2
-    gain-of-requires
+    (λ c κs. search needs)
+    (λ c κs. search needs)
+    (λ c κs. search needs)
+    (λ c κs. search needs)
     returns
     returns-2
     returns-3

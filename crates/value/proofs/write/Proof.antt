@@ -4,17 +4,11 @@ use borrow.Author.Needs.{needs}
 use Rattle.value.proofs.write.Statement.{statement}
 use Rattle.value.proofs.write.Tie as tie
 
-is-code-requires : tie.Need-is-code-requires
-is-code-requires c κs = search needs
-
 word-requires : tie.Need-word-requires
 word-requires c κs = sym (c .before .is-code .ensures) ∙ c .if1 .taken
-
-returns : tie.Need-returns
-returns c = search needs
 
 returns-2 : tie.Need-returns-2
 returns-2 c = rw (sym (c .before .is-code .ensures) ∙ c .if1 .left)
 
 pub write-spec : {M : Type 1} → statement M
-write-spec = tie.close (tie.spec is-code-requires word-requires returns returns-2)
+write-spec = tie.close (tie.spec (λ c κs. search needs) word-requires (λ c. search needs) returns-2)

@@ -5,18 +5,6 @@ use borrow.Author.Needs.{needs}
 use Rattle.value.proofs.Pair.is_canonical.Statement.{statement}
 use Rattle.value.proofs.Pair.is_canonical.Tie as tie
 
-parts-requires : tie.Need-parts-requires
-parts-requires c κs = search needs
-
-enum-told : tie.Need-enum-told
-enum-told c = search needs
-
-enum-told-2 : tie.Need-enum-told-2
-enum-told-2 c = search needs
-
-enum-told-3 : tie.Need-enum-told-3
-enum-told-3 c = search needs
-
 returns : tie.Need-returns
 returns c = sym (subst (PartsOf (c .before .before .before .args .self)) (c .enum-told .given .1) (c .before .before .parts .ensures))
 
@@ -29,4 +17,4 @@ returns-3 c = sym (subst (PartsOf (c .before .before .before .args .self)) (c .e
 pub is-canonical-spec : {M : Type 1} → statement M
 is-canonical-spec =
     tie.close
-    (tie.spec parts-requires enum-told enum-told-2 enum-told-3 returns returns-2 returns-3)
+    (tie.spec (λ c κs. search needs) (λ c. search needs) (λ c. search needs) (λ c. search needs) returns returns-2 returns-3)

@@ -47,15 +47,6 @@ odd c = omega (arith, c .if3 .left)
 tested : (c : tie.After-is-exponent) → isExponent (c .before .before .before .before .before .before .before .args .self .e) ≡ c .is-exponent .result
 tested c = sym (c .is-exponent .ensures ∙ ap isExponent (toZ-ofZ (known (c .before .before .before .before) .se)))
 
-bits32-requires : tie.Need-bits32-requires
-bits32-requires c κs = search needs
-
-magnitude32-requires : tie.Need-magnitude32-requires
-magnitude32-requires c κs = search needs
-
-bits16-requires : tie.Need-bits16-requires
-bits16-requires c κs = search needs
-
 returns : tie.Need-returns
 returns c =
     let k = known (c .before .before .before .before) in
@@ -76,9 +67,6 @@ returns-3 c =
     let k = known (c .before .before) in
     let p = c .before .before .before .before .before .args .self in
     even-no p (λ h. c .before .if1 .left (k .abs ∙ h)) (sym (ap (λ (x : ℕ). x % 2) (k .abs)) ∙ c .if3 .taken)
-
-is-exponent-requires : tie.Need-is-exponent-requires
-is-exponent-requires c κs = search needs
 
 shift-requires : tie.Need-shift-requires
 shift-requires c κs = sym (c .before .before .is-exponent .ensures) ∙ c .before .if4 .taken
@@ -102,13 +90,13 @@ pub parts-spec : {M : Type 1} → statement M
 parts-spec =
     tie.close
     (tie.spec
-    bits32-requires
-    magnitude32-requires
-    bits16-requires
+    (λ c κs. search needs)
+    (λ c κs. search needs)
+    (λ c κs. search needs)
     returns
     returns-2
     returns-3
-    is-exponent-requires
+    (λ c κs. search needs)
     shift-requires
     returns-4
     returns-5)
