@@ -6,7 +6,7 @@ use Prim.Native.Nat.{ℕ, suc, _+_, _-_, _≤_, _<_}
 use native.Mathlib.Numerals.{add-one}
 use native.Mathlib.Omega.{arith}
 use lib.ListN.{length, set, take, drop, length-append, length-take, length-drop, length-set, drop-of-length-le}
-use lib.Seq.{take-at, drop-at, take-suc-set, take-all, drop-drop, length-take-le}
+use lib.Seq.{take-at, drop-at, take-suc-set, take-all, drop-drop}
 use borrow.Rule.Slice.PartMut.{putMid}
 use Rattle.numbers.specs.Walk.{walk, flat, bytesAt, overwritten}
 use Rattle.numbers.proofs.WalkLaws.{flat-more, flat-none, size-bytes}

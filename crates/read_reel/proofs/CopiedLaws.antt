@@ -1,7 +1,7 @@
 -- The pieces of a record as the code writes them: how long each is. Assumes nothing.
 use mathlib.Core.Path.{_≡_, _∙_}
 use mathlib.Core.List.{List, map}
-use Prim.Native.Nat.{ℕ, _+_, _*_, _≤_, _<_}
+use Prim.Native.Nat.{ℕ, _*_, _≤_, _<_}
 use native.Mathlib.Omega.{arith}
 use lib.ListN.{length, length-append}
 use Rattle.numbers.specs.Walk.{flat, bytesAt}
@@ -13,7 +13,7 @@ use Rattle.record.specs.Record.{recordLength}
 use Rattle.record.proofs.HeaderLaws.{size-cards}
 use Rattle.read_samples.specs.Samples.{places}
 use Rattle.read_samples.proofs.SampleLaws.{size-samples}
-use Rattle.read_reel.specs.Copied.{fieldsCopied, headCopied, fieldFilled, headerCopied, recordTraceCopied, recordCopied}
+use Rattle.read_reel.specs.Copied.{fieldsCopied, headCopied, fieldFilled, recordHeaderCopied, recordTraceCopied, recordCopied}
 
 pub size-fields : (s : List ℕ) → length (fieldsCopied s) ≡ tracesPlace
 unfolding fieldsCopied
@@ -27,8 +27,8 @@ size-head s = size-over (fieldsCopied s) (bytesOf 2 0) codePlace (omega (arith, 
 pub size-filled : (s : List ℕ) (own at b : ℕ) (l : List ℕ) → 1 ≤ b → b < length l → length (fieldFilled s own at b l) ≡ length l
 size-filled s own at b l h k = size-over l (bytesOf 2 _) _ (omega arith)
 
-pub size-header : (s : List ℕ) (n i at : ℕ) → length (headerCopied s n i at) ≡ headerSize
-unfolding headerCopied
+pub size-header : (s : List ℕ) (n i at : ℕ) → length (recordHeaderCopied s n i at) ≡ headerSize
+unfolding recordHeaderCopied
 size-header s n i at =
     let l = bytesAt s at headerSize in
     let size : length l ≡ headerSize = size-bytes s at headerSize in

@@ -1,22 +1,19 @@
 -- The three ways in which reading a reel ends. Assumes nothing.
-use mathlib.Core.Path.{_≡_, refl, sym, ap, ap₂, _∙_, subst}
+use mathlib.Core.Path.{_≡_, sym, ap, ap₂, _∙_, subst}
 use mathlib.Core.List.{List, [], _∷_, _++_}
-use mathlib.Core.Bool.{Bool, true, false}
-use Prim.Native.Nat.{ℕ, zero, suc, _+_, _-_, _*_, _^_, _≤_, _<_}
+use mathlib.Core.Bool.{true}
+use Prim.Native.Nat.{ℕ, _+_, _-_, _*_, _≤_, _<_}
 use native.Mathlib.Nat.{mul-le-mul}
 use native.Mathlib.Omega.{arith}
 use borrow.Author.Tests.{lt-ltb, le-ltb}
-use lib.ListN.{length, getD, drop}
+use lib.ListN.{length, drop}
 use Rattle.numbers.specs.Terms.{Bytes}
-use Rattle.numbers.specs.Cause.{refuseIf, then}
 use Rattle.numbers.specs.Outcome.{taken, Outcome}
-use Rattle.numbers.specs.Places.{placeNo}
 use Rattle.numbers.specs.declared.Place.{Place}
-use Rattle.numbers.specs.declared.Check.{Check}
 use Rattle.numbers.specs.declared.Check.the-variants as check
 use Rattle.reel.specs.Layout.{firstTrace, samplesOf, intervalOf, codeOf, sampleBytes, stride, strideOf, tracesOf}
 use Rattle.reel.specs.Causes.{mostSamples, mostTraces, causesOf}
-use Rattle.reel.proofs.CheckLaws.{Numbers, Sound, reel-fine, inside}
+use Rattle.reel.proofs.CheckLaws.{Numbers, reel-fine, inside}
 use Rattle.reel.proofs.JudgedLaws.{Own}
 use Rattle.value.specs.Value.{isCode}
 use Rattle.record.specs.Form.{heldStride}
@@ -24,7 +21,6 @@ use Rattle.record.specs.Record.{reelRecord, recordLength}
 use Rattle.record.specs.Answer.{outcome}
 use Rattle.read_reel.specs.Reading.{recordLengthOf, readCauses, readEnd, readOutcome}
 use Rattle.read_reel.specs.Copied.{recordCopied}
-use Rattle.record.specs.declared.Answer.{Answer}
 use Rattle.record.specs.declared.Answer.the-variants.{Taken, Refused}
 use Rattle.read_reel.proofs.RecordLaws.{record-is, code-sound}
 

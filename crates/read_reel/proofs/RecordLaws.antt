@@ -1,40 +1,39 @@
 -- The record that the code writes is the record of what the reel means. Assumes nothing.
-use mathlib.Core.Path.{_≡_, refl, sym, ap, ap₂, _∙_, subst}
+use mathlib.Core.Path.{_≡_, refl, sym, ap, ap₂, _∙_}
 use mathlib.Core.List.{List, [], _∷_, _++_, map, append-assoc, append-nil}
-use mathlib.Core.Bool.{Bool, true, false, _&&_}
-use Prim.Native.Nat.{ℕ, zero, suc, _+_, _-_, _*_, _^_, _≤_, _<_}
+use mathlib.Core.Bool.{Bool, true, false}
+use Prim.Native.Nat.{ℕ, zero, suc, _+_, _-_, _*_, _^_, _<_}
 use native.Mathlib.Nat.{add-zero, mul-comm}
 use native.Mathlib.Omega.{arith}
 use borrow.Author.Tests.{eqb-true, le-leb, ne-eqb}
-use lib.Dec.{T, leb, eqb}
+use lib.Dec.{eqb}
 use lib.ListN.{length, length-append}
 use lib.IntN.{ℤ, pos, negsuc, natAbs}
 use Rattle.numbers.specs.Terms.{Bytes}
 use Rattle.numbers.specs.Walk.{pick, walk, flat, bytesAt, overwritten}
 use Rattle.numbers.specs.Places.{bytePlace}
-use Rattle.numbers.specs.Cause.{refuseIf, then, firstOf}
-use Rattle.numbers.specs.BigEndian.{number, bytesOf}
+use Rattle.numbers.specs.Cause.{refuseIf, firstOf}
+use Rattle.numbers.specs.BigEndian.{bytesOf}
 use Rattle.numbers.specs.TwosComplement.{signedOf, bitsOf}
-use Rattle.numbers.specs.declared.Check.{Check}
-use Rattle.numbers.specs.declared.Check.the-variants.{Fine, Refused}
+use Rattle.numbers.specs.declared.Check.the-variants.{Fine}
 use Rattle.numbers.proofs.WalkLaws.{size-walk, size-bytes}
 use Rattle.numbers.proofs.Filling.{over-part, over-bytes}
 use Rattle.numbers.proofs.CauseLaws.{passed, then-fine}
 use Rattle.numbers.proofs.ByteLaws.{number-at, bytes-append}
 use Rattle.numbers.proofs.SignLaws.{bits-signed}
 use Rattle.value.specs.Value.{isCode, exactValue}
-use Rattle.sample.specs.Reading.{badGain, readWord}
-use Rattle.reel.specs.Layout.{Field, cardBytes, fieldsFrom, binaryWidths, binaryFields, traceWidths, traceFields, fieldNumber, firstTrace, traceHeader, number16, samplesOf, intervalOf, codeOf, sampleBytes, strideOf, tracesOf}
-use Rattle.reel.specs.Causes.{mostSamples, neither, wordCause, traceCauses, causesOf}
-use Rattle.reel.specs.Meaning.{cardText, otherThan, binaryNumbers, filled, traceNumber, Trace, traceMeaning, meaningOf}
-use Rattle.reel.proofs.CheckLaws.{Numbers, Sound, reel-fine}
-use Rattle.record.specs.Record.{field, numberBytes, withCode, binaryBytes, valueBytes, samplesField, traceBytes, recordOf, reelRecord}
+use Rattle.sample.specs.Reading.{badGain}
+use Rattle.reel.specs.Layout.{cardBytes, fieldsFrom, traceWidths, traceFields, fieldNumber, firstTrace, traceHeader, number16, samplesOf, intervalOf, codeOf, sampleBytes, strideOf, tracesOf}
+use Rattle.reel.specs.Causes.{neither, wordCause, traceCauses, causesOf}
+use Rattle.reel.specs.Meaning.{cardText, binaryNumbers, filled, traceNumber, traceMeaning, meaningOf}
+use Rattle.reel.proofs.CheckLaws.{Numbers, reel-fine}
+use Rattle.record.specs.Record.{field, numberBytes, binaryBytes, valueBytes, samplesField, traceBytes, recordOf, reelRecord}
 use Rattle.record.proofs.NumberLaws.{fields-again, numbers-append}
 use Rattle.record.specs.Form.{binarySize, codePlace}
 use Rattle.record.proofs.HeaderLaws.{trace-front, trace-back, countField, intervalField, size-cards}
 use Rattle.record.proofs.StoredLaws.{size-binary, code-stored}
-use Rattle.read_samples.specs.Samples.{sampleContent, sampleCopied, places, samplePairs}
-use Rattle.read_reel.specs.Copied.{tagBytes, fieldsCopied, headCopied, ownOr, headerCopied, recordTraceCopied, recordCopied}
+use Rattle.read_samples.specs.Samples.{sampleCopied, places, samplePairs}
+use Rattle.read_reel.specs.Copied.{tagBytes, fieldsCopied, headCopied, ownOr, recordHeaderCopied, recordTraceCopied, recordCopied}
 use Rattle.read_samples.proofs.SampleLaws.{size-samples}
 use Rattle.read_reel.proofs.CopiedLaws.{size-header}
 
@@ -88,8 +87,8 @@ fill-bits own (suc k) h = go (eqb (natAbs (signedOf 16 (suc k))) 0) refl
 
 -- the bytes around the two fields, and what is stored over them
 filled-is : (s : List ℕ) (n i at : ℕ)
-    → headerCopied s n i at ≡ bytesAt s at 114 ++ (bytesOf 2 (ownOr n (number16 s (at + 114))) ++ (bytesOf 2 (ownOr i (number16 s (at + 116))) ++ bytesAt s (at + 118) 62))
-unfolding headerCopied
+    → recordHeaderCopied s n i at ≡ bytesAt s at 114 ++ (bytesOf 2 (ownOr n (number16 s (at + 114))) ++ (bytesOf 2 (ownOr i (number16 s (at + 116))) ++ bytesAt s (at + 118) 62))
+unfolding recordHeaderCopied
 filled-is s n i at =
     let x = bytesAt s at 114 in
     let y = bytesOf 2 (ownOr n (number16 s (at + 114))) in
@@ -105,7 +104,7 @@ filled-is s n i at =
     ∙ append-assoc x y (u ++ z)
     ∙ ap (λ (p : ℕ). x ++ (y ++ (u ++ bytesAt s p 62))) next
 
-header-is : (s : List ℕ) → Bytes s → (n i at : ℕ) → numberBytes traceWidths (map (traceNumber s n i at) traceFields) ≡ headerCopied s n i at
+header-is : (s : List ℕ) → Bytes s → (n i at : ℕ) → numberBytes traceWidths (map (traceNumber s n i at) traceFields) ≡ recordHeaderCopied s n i at
 unfolding traceWidths traceFields trace-front trace-back
 header-is s h n i at =
     let f = fieldNumber s at in
@@ -146,12 +145,12 @@ module _ (s : List ℕ) (b : Bytes s) (code n i : ℕ) (h : isCode code ≡ true
       let d = then-fine (refuseIf (neither (number16 s (at + 116)) i) 8 (at + 116)) _ (c .1) in
       let header = numberBytes traceWidths (map (traceNumber s n i at) traceFields) in
       let samples = flat (map valueBytes (walk (λ p. exactValue code (bytesAt s p 4)) (sampleBytes code) n (at + traceHeader))) in
-      let hi : header ≡ headerCopied s n i at = header-is s b n i at in
+      let hi : header ≡ recordHeaderCopied s n i at = header-is s b n i at in
       let si : samples ≡ samplePairs s code n (at + traceHeader) = samples-are (at + traceHeader) (d .1) in
-      let hf : field 3 header ≡ tagBytes 3 180 ++ headerCopied s n i at = field-is 3 180 header (ap length hi ∙ size-header s n i at) ∙ ap (λ (l : List ℕ). tagBytes 3 180 ++ l) hi in
+      let hf : field 3 header ≡ tagBytes 3 180 ++ recordHeaderCopied s n i at = field-is 3 180 header (ap length hi ∙ size-header s n i at) ∙ ap (λ (l : List ℕ). tagBytes 3 180 ++ l) hi in
       let sf : field 4 samples ≡ tagBytes 4 (6 * n) ++ samplePairs s code n (at + traceHeader) =
       field-is 4 (6 * n) samples (ap length si ∙ size-samples s code n (at + traceHeader) ∙ mul-comm n 6) ∙ ap (λ (l : List ℕ). tagBytes 4 (6 * n) ++ l) si in
-      ap₂ (λ (x y : List ℕ). x ++ y) hf sf ∙ append-assoc (tagBytes 3 180) (headerCopied s n i at) (tagBytes 4 (6 * n) ++ samplePairs s code n (at + traceHeader))
+      ap₂ (λ (x y : List ℕ). x ++ y) hf sf ∙ append-assoc (tagBytes 3 180) (recordHeaderCopied s n i at) (tagBytes 4 (6 * n) ++ samplePairs s code n (at + traceHeader))
 
   traces-walk : (w k at : ℕ) → firstOf (walk (traceCauses s code n i) w k at) ≡ Fine
       → flat (map traceBytes (walk (traceMeaning s code n i) w k at)) ≡ flat (map (recordTraceCopied s code n i) (places w k at))

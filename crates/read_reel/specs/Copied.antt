@@ -33,13 +33,13 @@ abbrev pub fieldFilled : List ℕ → ℕ → ℕ → ℕ → List ℕ → List 
 fieldFilled s own at b l = overwritten l (bytePlace 0 b) (bytesOf 2 (ownOr own (number16 s (bytePlace at b))))
 
 -- The fields of the trace at the place `at`, with 115 and 117 filled in.
-unfoldable pub headerCopied : List ℕ → ℕ → ℕ → ℕ → List ℕ
-headerCopied s n i at = fieldFilled s i at 117 (fieldFilled s n at 115 (bytesAt s at headerSize))
+unfoldable pub recordHeaderCopied : List ℕ → ℕ → ℕ → ℕ → List ℕ
+recordHeaderCopied s n i at = fieldFilled s i at 117 (fieldFilled s n at 115 (bytesAt s at headerSize))
 
 -- A trace.
 unfoldable pub recordTraceCopied : List ℕ → ℕ → ℕ → ℕ → ℕ → List ℕ
 recordTraceCopied s code n i at =
-    tagBytes 3 headerSize ++ (headerCopied s n i at ++ (tagBytes 4 (pairLength * n) ++ samplePairs s code n (at + traceHeader)))
+    tagBytes 3 headerSize ++ (recordHeaderCopied s n i at ++ (tagBytes 4 (pairLength * n) ++ samplePairs s code n (at + traceHeader)))
 
 -- The record of t traces of w bytes each.
 unfoldable pub recordCopied : List ℕ → ℕ → ℕ → ℕ → ℕ → ℕ → List ℕ

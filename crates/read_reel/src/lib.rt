@@ -17,7 +17,7 @@ ghost use Rattle.record.specs.Form.{tracesPlace, headerSize, heldStride};
 ghost use Rattle.record.specs.Record.{recordLength};
 ghost use Rattle.record.specs.Answer.{outcome};
 ghost use Rattle.read_reel.specs.Reading.{readOutcome};
-ghost use Rattle.read_reel.specs.Copied.{tagBytes, fieldsCopied, headCopied, ownOr, fieldFilled, headerCopied, recordTraceCopied, recordCopied};
+ghost use Rattle.read_reel.specs.Copied.{tagBytes, fieldsCopied, headCopied, ownOr, fieldFilled, recordHeaderCopied, recordTraceCopied, recordCopied};
 use numbers::ByteNo;
 use numbers::Place;
 use record::Answer;
@@ -85,7 +85,7 @@ fn fill_field(reel: &[u8], own: u16, at: usize, b: ByteNo, out: &mut [u8])
 // A trace's 71 fields, with N and the interval filled in.
 fn put_header(reel: &[u8], n: u16, i: u16, at: usize, out: &mut [u8])
     requires { ⌜ (at + headerSize ≤ length (now reel)) × (length (now out) ≡ headerSize) ⌝ }
-    ensures { λ _. ⌜ now (out .exit) ≡ headerCopied (now (reel .entry)) n i at ⌝ }
+    ensures { λ _. ⌜ now (out .exit) ≡ recordHeaderCopied (now (reel .entry)) n i at ⌝ }
 {
     slices::copy(&reel[at..at + 180], out);
     fill_field(reel, n, at, ByteNo(115), out);

@@ -12,7 +12,7 @@ use Rattle.numbers.proofs.Filling.{size-over}
 use Rattle.reel.specs.Layout.{firstTrace, sampleBytes, stride}
 use Rattle.write_samples.proofs.WordLaws.{size-samples}
 use Rattle.record.specs.Form.{heldStride}
-use Rattle.write_reel.specs.Copied.{zerosFor, headerCopied, reelTraceCopied, partsCopied, reelCopied}
+use Rattle.write_reel.specs.Copied.{zerosFor, reelHeaderCopied, reelTraceCopied, partsCopied, reelCopied}
 
 -- unassigned bytes in a slice of k bytes
 pub zeroed : (out : List ℕ) (k : ℕ) {ys : List ℕ} → ys ≡ zerosFor out → length out ≡ k → ys ≡ replicate k 0
@@ -20,16 +20,16 @@ unfolding zerosFor
 zeroed out k p e = p ∙ ap (λ (n : ℕ). replicate n 0) e
 
 -- a header whose assigned bytes are k bytes of a record
-pub header-bytes : (size : ℕ) (s : List ℕ) (at k : ℕ) → headerCopied size (bytesAt s at k) ≡ bytesAt s at k ++ replicate (size - k) 0
-unfolding headerCopied
+pub header-bytes : (size : ℕ) (s : List ℕ) (at k : ℕ) → reelHeaderCopied size (bytesAt s at k) ≡ bytesAt s at k ++ replicate (size - k) 0
+unfolding reelHeaderCopied
 header-bytes size s at k = ap (λ (n : ℕ). bytesAt s at k ++ replicate (size - n) 0) (size-bytes s at k)
 
-pub size-header : (size : ℕ) (l : List ℕ) → length l ≤ size → length (headerCopied size l) ≡ size
-unfolding headerCopied
+pub size-header : (size : ℕ) (l : List ℕ) → length l ≤ size → length (reelHeaderCopied size l) ≡ size
+unfolding reelHeaderCopied
 size-header size l h = simp (length-append, length-replicate) (omega arith)
 
 -- a header is as long as it is to be, where k bytes of a record are assigned
-pub size-bytes-header : (size : ℕ) (s : List ℕ) (at k : ℕ) → k ≤ size → length (headerCopied size (bytesAt s at k)) ≡ size
+pub size-bytes-header : (size : ℕ) (s : List ℕ) (at k : ℕ) → k ≤ size → length (reelHeaderCopied size (bytesAt s at k)) ≡ size
 size-bytes-header size s at k h = size-header size (bytesAt s at k) (omega (arith, size-bytes s at k))
 
 module _ (s : List ℕ) (code n : ℕ) where

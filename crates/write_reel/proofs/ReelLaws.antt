@@ -1,8 +1,8 @@
 -- The reel that the code writes is that of what the record holds. Assumes nothing.
 use mathlib.Core.Path.{_≡_, refl, sym, ap, ap₂, _∙_}
-use mathlib.Core.List.{List, [], _∷_, _++_, map, append-assoc}
-use mathlib.Core.Bool.{Bool, true, false, not}
-use Prim.Native.Nat.{ℕ, zero, suc, _+_, _-_, _*_}
+use mathlib.Core.List.{List, _++_, map, append-assoc}
+use mathlib.Core.Bool.{true}
+use Prim.Native.Nat.{ℕ, zero, suc, _+_, _-_}
 use native.Mathlib.Nat.{add-zero}
 use native.Mathlib.Omega.{arith}
 use borrow.Author.Tests.{not-false}
@@ -11,26 +11,23 @@ use Rattle.numbers.specs.Terms.{Bytes}
 use Rattle.numbers.specs.Walk.{walk, flat, bytesAt, overwritten}
 use Rattle.numbers.specs.Places.{bytePlace}
 use Rattle.numbers.specs.BigEndian.{bytesOf}
-use Rattle.numbers.specs.Cause.{refuseIf, then, firstOf}
+use Rattle.numbers.specs.Cause.{firstOf}
 use Rattle.numbers.specs.declared.Check.the-variants.{Fine}
 use Rattle.numbers.proofs.CauseLaws.{passed, then-fine}
 use Rattle.numbers.proofs.WalkLaws.{size-bytes}
 use Rattle.value.specs.Value.{isCode}
 use Rattle.value.specs.Pair.{isCanonical, pairLength, pairIn}
 use Rattle.reel.specs.Layout.{cardBytes, traceHeader, traceWidths, traceFields, fieldNumber}
-use Rattle.reel.specs.Meaning.{Trace, Meaning}
 use Rattle.record.specs.Record.{numberBytes, binaryBytes}
 use Rattle.record.specs.Form.{fieldHead, binarySize, binaryStart, headerSize, toPairs, heldSamples, heldInterval, heldStride, heldCount, tracesPlace, pairCause, traceForm, cardsCauses, binaryCauses, bodyCauses, formCauses}
 use Rattle.record.specs.Held.{heldValue, heldTrace, heldBy}
-use Rattle.fit.specs.Target.{targetCauses}
 use Rattle.record.specs.Parts.{headForm}
 use Rattle.record.proofs.NumberLaws.{fields-again}
 use Rattle.record.proofs.StoredLaws.{code-stored}
 use Rattle.record.proofs.FormLaws.{trace-form}
-use Rattle.fit.proofs.FitLaws.{target-form}
 use Rattle.write_reel.specs.Reel.{sampleWritten, binaryHeader, traceWritten, reelOf}
 use Rattle.write_samples.specs.Samples.{wordBytes, writtenAt, sampleWords}
-use Rattle.write_reel.specs.Copied.{headerCopied, reelTraceCopied, partsCopied, reelCopied}
+use Rattle.write_reel.specs.Copied.{reelHeaderCopied, reelTraceCopied, partsCopied, reelCopied}
 use Rattle.write_reel.proofs.CopiedLaws.{header-bytes}
 
 -- ## Samples
@@ -95,7 +92,7 @@ reel-is s b code h e =
     let zeros : List ℕ = replicate (binaryHeader - binarySize) 0 in
     let traces = flat (map (reelTraceCopied s code n) (walk (λ p. p) (heldStride n) (heldCount s n) tracesPlace)) in
     let place : bytePlace 0 3225 ≡ length cards + (3225 - 3201) = rw (size-bytes s fieldHead cardBytes) in
-    let joined : headerCopied binaryHeader binary ++ traces ≡ binary ++ (zeros ++ traces) =
+    let joined : reelHeaderCopied binaryHeader binary ++ traces ≡ binary ++ (zeros ++ traces) =
     ap (λ (l : List ℕ). l ++ traces) (header-bytes binaryHeader s (bytePlace binaryStart 3201) binarySize) ∙ append-assoc binary zeros traces in
     ap (λ (l : List ℕ). cards ++ (binaryBytes code (heldBy s .binary) ++ (zeros ++ l))) (traces-is s b code h e)
     ∙ sym (ap (λ (l : List ℕ). overwritten (cards ++ l) (bytePlace 0 3225) (bytesOf 2 code)) joined

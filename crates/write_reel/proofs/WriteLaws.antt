@@ -1,8 +1,8 @@
 -- The three ways in which writing a record ends. Assumes nothing.
-use mathlib.Core.Path.{_≡_, refl, sym, ap, ap₂, _∙_, subst}
+use mathlib.Core.Path.{_≡_, sym, ap, ap₂, _∙_, subst}
 use mathlib.Core.List.{List, [], _∷_, _++_}
-use mathlib.Core.Bool.{Bool, true, false, not}
-use Prim.Native.Nat.{ℕ, zero, suc, _+_, _-_, _*_, _≤_, _<_}
+use mathlib.Core.Bool.{true, not}
+use Prim.Native.Nat.{ℕ, _+_, _-_, _*_, _≤_, _<_}
 use native.Mathlib.Nat.{mul-le-mul}
 use native.Mathlib.Omega.{arith}
 use borrow.Author.Tests.{lt-ltb, le-ltb, not-false}
@@ -11,7 +11,6 @@ use Rattle.numbers.specs.Terms.{Bytes}
 use Rattle.numbers.specs.Cause.{refuseIf, then}
 use Rattle.numbers.specs.Outcome.{taken, Outcome}
 use Rattle.numbers.specs.declared.Place.{Place}
-use Rattle.numbers.specs.declared.Check.{Check}
 use Rattle.numbers.specs.declared.Check.the-variants as check
 use Rattle.numbers.proofs.CauseLaws.{passed, then-assoc, then-fine}
 use Rattle.value.specs.Value.{isCode}
@@ -22,9 +21,8 @@ use Rattle.record.specs.Form.{heldSamples, heldInterval, heldStride, heldCount,
 use Rattle.record.specs.Held.{heldBy}
 use Rattle.fit.specs.Target.{targetCauses}
 use Rattle.record.specs.Answer.{outcome}
-use Rattle.record.specs.declared.Answer.{Answer}
 use Rattle.record.specs.declared.Answer.the-variants.{Taken, Refused}
-use Rattle.record.proofs.FormLaws.{tags-most, Headed, headed, held-length}
+use Rattle.record.proofs.FormLaws.{tags-most, headed, held-length}
 use Rattle.record.proofs.JudgedLaws.{Own}
 use Rattle.fit.proofs.FitLaws.{target-form}
 use Rattle.write_reel.specs.Reel.{reelOf, reelLength}

@@ -16,18 +16,18 @@ unfoldable pub zerosFor : List ℕ → List ℕ
 zerosFor out = replicate (length out) 0
 
 -- A header of so many bytes: its assigned ones, and behind them the unassigned.
-unfoldable pub headerCopied : ℕ → List ℕ → List ℕ
-headerCopied size assigned = assigned ++ replicate (size - length assigned) 0
+unfoldable pub reelHeaderCopied : ℕ → List ℕ → List ℕ
+reelHeaderCopied size assigned = assigned ++ replicate (size - length assigned) 0
 
 -- The trace whose tag 03 stands at the place `at`.
 unfoldable pub reelTraceCopied : List ℕ → ℕ → ℕ → ℕ → List ℕ
-reelTraceCopied s code n at = headerCopied traceHeader (bytesAt s (at + fieldHead) headerSize) ++ sampleWords s code n (at + toPairs)
+reelTraceCopied s code n at = reelHeaderCopied traceHeader (bytesAt s (at + fieldHead) headerSize) ++ sampleWords s code n (at + toPairs)
 
 -- The reel of t traces of n samples, but for its format code, which a record has as 0.
 unfoldable pub partsCopied : List ℕ → ℕ → ℕ → ℕ → List ℕ
 partsCopied s code n t =
     bytesAt s fieldHead cardBytes
-    ++ (headerCopied binaryHeader (bytesAt s (bytePlace binaryStart 3201) binarySize)
+    ++ (reelHeaderCopied binaryHeader (bytesAt s (bytePlace binaryStart 3201) binarySize)
     ++ flat (map (reelTraceCopied s code n) (walk (λ p. p) (heldStride n) t tracesPlace)))
 
 -- The reel of t traces of n samples.

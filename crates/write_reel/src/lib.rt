@@ -15,7 +15,7 @@ ghost use Rattle.record.specs.Form.{heldStride, tracesPlace};
 ghost use Rattle.fit.specs.Target.{fitJudged};
 ghost use Rattle.record.specs.Answer.{outcome};
 ghost use Rattle.write_reel.specs.Writing.{writeOutcome};
-ghost use Rattle.write_reel.specs.Copied.{zerosFor, headerCopied, reelTraceCopied, reelCopied};
+ghost use Rattle.write_reel.specs.Copied.{zerosFor, reelHeaderCopied, reelTraceCopied, reelCopied};
 use numbers::ByteNo;
 use numbers::Place;
 use record::Answer;
@@ -35,7 +35,7 @@ fn put_zeros(out: &mut [u8])
 // A header: its assigned bytes, and behind them the unassigned.
 fn put_header(assigned: &[u8], out: &mut [u8])
     requires { ⌜ length (now assigned) ≤ length (now out) ⌝ }
-    ensures { λ _. ⌜ now (out .exit) ≡ headerCopied (length (now (out .entry))) (now (assigned .entry)) ⌝ }
+    ensures { λ _. ⌜ now (out .exit) ≡ reelHeaderCopied (length (now (out .entry))) (now (assigned .entry)) ⌝ }
 {
     let k = assigned.len();
     let e = out.len();

@@ -8,7 +8,7 @@ use Rattle.numbers.proofs.WalkLaws.{bytes-between, copied, size-bytes}
 use Rattle.numbers.specs.Walk.{bytesAt}
 use lib.ListN.{length}
 use mathlib.Core.List.{_++_, map}
-use mathlib.Core.Path.{_≡_, refl, sym, ap, _∙_}
+use mathlib.Core.Path.{refl, sym, ap, _∙_}
 use native.Mathlib.Omega.{arith}
 use Rattle.read_reel.proofs.put_fields.Statement.{statement}
 use Rattle.read_reel.proofs.put_fields.Tie as tie

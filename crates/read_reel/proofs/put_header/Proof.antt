@@ -1,9 +1,9 @@
 -- `read_reel::put_header` meets its contract. Assumes nothing.
-use Rattle.read_reel.specs.Copied.{fieldFilled, headerCopied}
+use Rattle.read_reel.specs.Copied.{fieldFilled, recordHeaderCopied}
 use Rattle.record.specs.Form.{headerSize}
 use Rattle.numbers.proofs.WalkLaws.{bytes-between, copied}
 use Prim.Native.Nat.{_+_}
-use mathlib.Core.Path.{_≡_, refl, sym, ap, _∙_}
+use mathlib.Core.Path.{refl, ap, _∙_}
 use native.Mathlib.Omega.{arith}
 use borrow.Author.Needs.{needs}
 use Rattle.read_reel.proofs.put_header.Statement.{statement}
@@ -34,7 +34,7 @@ same-length : tie.Need-same-length
 same-length c = search needs
 
 returns : tie.Need-returns
-unfolding headerCopied
+unfolding recordHeaderCopied
 returns c =
     let second = c .before .before in
     let first = second .before .before .before .before in

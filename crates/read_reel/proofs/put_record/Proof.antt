@@ -10,7 +10,7 @@ use Rattle.numbers.specs.Walk.{flat}
 use lib.ListN.{length}
 use Prim.Native.Nat.{_+_, _*_}
 use mathlib.Core.List.{_++_, map}
-use mathlib.Core.Path.{_≡_, refl, sym, ap, _∙_}
+use mathlib.Core.Path.{refl, sym, ap, _∙_}
 use native.Mathlib.Omega.{arith}
 use Rattle.read_reel.proofs.put_record.Statement.{statement}
 use Rattle.read_reel.proofs.put_record.Tie as tie

@@ -2,13 +2,13 @@
 use Rattle.read_samples.proofs.SampleLaws.{size-samples, samples-read}
 use Rattle.read_reel.proofs.CopiedLaws.{size-header, size-trace}
 use Rattle.read_samples.specs.Samples.{samplePairs}
-use Rattle.read_reel.specs.Copied.{tagBytes, headerCopied, recordTraceCopied}
+use Rattle.read_reel.specs.Copied.{tagBytes, recordHeaderCopied, recordTraceCopied}
 use Rattle.reel.specs.Layout.{traceHeader}
 use Rattle.numbers.proofs.Filling.{start, lend, close}
 use lib.ListN.{length}
 use Prim.Native.Nat.{_+_, _*_}
 use mathlib.Core.List.{_++_}
-use mathlib.Core.Path.{_≡_, refl, sym, ap, _∙_}
+use mathlib.Core.Path.{refl, sym, ap, _∙_}
 use native.Mathlib.Omega.{arith}
 use Rattle.read_reel.proofs.put_trace.Statement.{statement}
 use Rattle.read_reel.proofs.put_trace.Tie as tie
@@ -79,7 +79,7 @@ returns c =
     let b = c .before .before .before .before .before .before .before .before .before .before .before .before .before .before .before .before .before .before in
     let a = b .args in
     let s = a .reel .now in
-    let y = headerCopied s (a .n) (a .i) (a .at) in
+    let y = recordHeaderCopied s (a .n) (a .i) (a .at) in
     let z = samplePairs s (a .code) (a .n) (a .at + traceHeader) in
     let w₀ = start _ (a .out .now) (b .pre .3 ∙ sym (size-trace s (a .code) (a .n) (a .i) (a .at))) in
     let w₁ = lend (tagBytes 3 180) (y ++ (tagBytes 4 (6 * a .n) ++ z)) 3 w₀ (omega arith) refl (c .before .before .before .before .before .before .before .before .before .before .before .before .before .before .put-tag .ensures) in

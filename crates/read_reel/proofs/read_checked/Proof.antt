@@ -5,7 +5,7 @@ use Rattle.read_reel.proofs.ReadLaws.{Fit, fit, short-end, taken-end}
 use Rattle.numbers.proofs.ByteLaws.{all-bytes}
 use Rattle.reel.specs.Layout.{stride}
 use lib.Seq.{length-take-le}
-use mathlib.Core.Path.{_≡_, sym, ap, _∙_}
+use mathlib.Core.Path.{sym, ap, _∙_}
 use native.Mathlib.Omega.{arith}
 use borrow.Author.Needs.{needs}
 use Rattle.read_reel.proofs.read_checked.Statement.{statement}

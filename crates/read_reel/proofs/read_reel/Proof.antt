@@ -1,7 +1,7 @@
 -- `read_reel::read_reel` meets its contract. Assumes nothing.
 use Rattle.reel.proofs.JudgedLaws.{refused-is}
 use Rattle.read_reel.proofs.ReadLaws.{refused-end}
-use mathlib.Core.Path.{_≡_, sym, _∙_}
+use mathlib.Core.Path.{sym, _∙_}
 use borrow.Author.Needs.{needs}
 use Rattle.read_reel.proofs.read_reel.Statement.{statement}
 use Rattle.read_reel.proofs.read_reel.Tie as tie

@@ -12,7 +12,6 @@ use lib.ListN.{length}
 use mathlib.Core.List.{List}
 use Prim.Native.Nat.{ℕ, _+_, _-_, _*_, _≤_}
 use mathlib.Core.Path.{_≡_, refl, sym, ap, _∙_}
-use borrow.Author.Needs.{needs}
 use native.Mathlib.Omega.{arith}
 use Rattle.read_samples.proofs.put_whole16.Statement.{statement}
 use Rattle.read_samples.proofs.put_whole16.Tie as tie

@@ -1,12 +1,12 @@
 -- `write_reel::put_header` meets its contract. Assumes nothing.
 use Rattle.write_reel.proofs.CopiedLaws.{zeroed, size-header}
-use Rattle.write_reel.specs.Copied.{headerCopied}
+use Rattle.write_reel.specs.Copied.{reelHeaderCopied}
 use Rattle.numbers.proofs.Filling.{start, lend, close}
 use Rattle.numbers.proofs.WalkLaws.{copied}
 use lib.ListN.{length, replicate, length-replicate}
 use Prim.Native.Nat.{ℕ, _-_}
 use mathlib.Core.List.{List}
-use mathlib.Core.Path.{_≡_, sym, _∙_}
+use mathlib.Core.Path.{sym, _∙_}
 use native.Mathlib.Omega.{arith}
 use borrow.Author.Needs.{needs}
 use Rattle.write_reel.proofs.put_header.Statement.{statement}
@@ -40,7 +40,7 @@ same-length : tie.Need-same-length
 same-length c = search needs
 
 returns : tie.Need-returns
-unfolding headerCopied
+unfolding reelHeaderCopied
 returns c =
     let copy = c .before .before .before .before .before .before in
     let b = copy .before .before .before .before in

@@ -1,7 +1,7 @@
 -- `write_reel::put_reel` meets its contract. Assumes nothing.
 use Rattle.write_reel.proofs.CopiedLaws.{size-bytes-header, size-traces, size-parts, size-reel}
 use Rattle.write_reel.specs.Reel.{binaryHeader}
-use Rattle.write_reel.specs.Copied.{headerCopied, reelTraceCopied, partsCopied, reelCopied}
+use Rattle.write_reel.specs.Copied.{reelHeaderCopied, reelTraceCopied, partsCopied, reelCopied}
 use Rattle.record.specs.Form.{fieldHead, binarySize, binaryPlace, binaryStart, heldStride, tracesPlace}
 use Rattle.reel.specs.Layout.{cardBytes, firstTrace, stride, sampleBytes}
 use Rattle.numbers.proofs.Filling.{start, lend, close}
@@ -96,11 +96,11 @@ returns c =
     let s = a .«record» .now in
     let from = bytePlace binaryStart 3201 in
     let x = bytesAt s fieldHead cardBytes in
-    let y = headerCopied binaryHeader (bytesAt s from binarySize) in
+    let y = reelHeaderCopied binaryHeader (bytesAt s from binarySize) in
     let z = flat (map (reelTraceCopied s (a .code) (a .n)) (walk (λ p. p) (heldStride (a .n)) (a .t) tracesPlace)) in
     let wide : a .t * a .w ≡ a .t * stride (a .n) (sampleBytes (a .code)) = ap (λ (k : ℕ). a .t * k) (b .pre .1) in
     let cards = copied _ _ (copy .copy .ensures) (omega (arith, copy .before .before .copy-arg .given .2, copy .before .copy-arg2 .given .2)) ∙ bytes-between s fieldHead binaryPlace cardBytes (omega (arith, b .pre .3)) refl in
-    let binary = header .put-header .ensures ∙ ap₂ headerCopied (header .before .put-header-arg2 .given .2) (bytes-between s from tracesPlace binarySize (omega (arith, b .pre .3)) refl) in
+    let binary = header .put-header .ensures ∙ ap₂ reelHeaderCopied (header .before .put-header-arg2 .given .2) (bytes-between s from tracesPlace binarySize (omega (arith, b .pre .3)) refl) in
     let w₀ = start _ (a .out .now) (b .pre .4 ∙ ap (λ (k : ℕ). firstTrace + k) wide ∙ sym (size-parts s (a .code) (a .n) (a .t))) in
     let w₁ = lend x (y ++ z) cardBytes w₀ (omega arith) (size-bytes s fieldHead cardBytes) cards in
     let w₂ = lend y z firstTrace w₁ (omega arith) (size-bytes-header binaryHeader s from binarySize (omega arith)) binary in

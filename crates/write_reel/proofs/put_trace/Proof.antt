@@ -2,7 +2,7 @@
 use Rattle.write_samples.specs.Samples.{sampleWords}
 use Rattle.write_samples.proofs.WordLaws.{size-samples, samples-written}
 use Rattle.write_reel.proofs.CopiedLaws.{size-bytes-header, size-trace}
-use Rattle.write_reel.specs.Copied.{headerCopied, reelTraceCopied}
+use Rattle.write_reel.specs.Copied.{reelHeaderCopied, reelTraceCopied}
 use Rattle.record.specs.Form.{fieldHead, headerSize, toSamples, toPairs}
 use Rattle.reel.specs.Layout.{traceHeader}
 use Rattle.numbers.proofs.Filling.{start, lend, close}
@@ -70,9 +70,9 @@ returns c =
     let s = a .«record» .now in
     let from = a .at + fieldHead in
     let pairs = a .at + toPairs in
-    let x = headerCopied traceHeader (bytesAt s from headerSize) in
+    let x = reelHeaderCopied traceHeader (bytesAt s from headerSize) in
     let z = sampleWords s (a .code) (a .n) pairs in
-    let header = h .put-header .ensures ∙ ap₂ headerCopied (h .before .put-header-arg2 .given .2) (bytes-between s from (a .at + toSamples) headerSize (omega (arith, b .pre .1)) (omega arith)) in
+    let header = h .put-header .ensures ∙ ap₂ reelHeaderCopied (h .before .put-header-arg2 .given .2) (bytes-between s from (a .at + toSamples) headerSize (omega (arith, b .pre .1)) (omega arith)) in
     let w₀ = start _ (a .out .now) (b .pre .2 ∙ sym (size-trace s (a .code) (a .n) (a .at))) in
     let w₁ = lend x z traceHeader w₀ (omega arith) (size-bytes-header traceHeader s from headerSize (omega arith)) header in
     let size : length z ≡ length (a .out .now) - traceHeader = size-samples s (a .code) (a .n) pairs ∙ omega (arith, b .pre .2) in

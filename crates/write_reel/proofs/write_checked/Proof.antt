@@ -6,7 +6,7 @@ use Rattle.numbers.proofs.ByteLaws.{all-bytes}
 use Rattle.reel.specs.Layout.{firstTrace, stride, sampleBytes}
 use lib.Seq.{length-take-le}
 use Prim.Native.Nat.{ℕ, _+_, _*_, _≤_}
-use mathlib.Core.Path.{_≡_, refl, sym, ap, subst, _∙_}
+use mathlib.Core.Path.{_≡_, sym, ap, subst}
 use native.Mathlib.Omega.{arith}
 use Rattle.write_reel.proofs.write_checked.Statement.{statement}
 use Rattle.write_reel.proofs.write_checked.Tie as tie

@@ -2,7 +2,7 @@
 use Rattle.fit.specs.Target.{targetCauses}
 use Rattle.record.proofs.JudgedLaws.{refused-is}
 use Rattle.write_reel.proofs.WriteLaws.{refused-end}
-use mathlib.Core.Path.{_≡_, sym, _∙_}
+use mathlib.Core.Path.{sym, _∙_}
 use Rattle.write_reel.proofs.write_reel.Statement.{statement}
 use Rattle.write_reel.proofs.write_reel.Tie as tie
 
