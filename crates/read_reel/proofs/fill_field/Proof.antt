@@ -17,19 +17,10 @@ place c =
     let l : 0 + byteNo (s .args .b) < 2 ^ 64 = omega (arith, s .pre .1, s .pre .2, s .good .0) in
     ap placeNo (c .field-at .ensures ∙ field-place (record { 0 = 0 }) (s .args .b) (s .pre .0) l)
 
-own-at-requires : tie.Need-own-at-requires
-own-at-requires c κs = search needs
-
-field-at-requires : tie.Need-field-at-requires
-field-at-requires c κs = search needs
-
 put-over-requires : tie.Need-put-over-requires
 put-over-requires c κs =
     let p = c .before .before .before .before .before .pre in
     omega (arith, place (c .before), p .0, p .1)
-
-same-length : tie.Need-same-length
-same-length c = search needs
 
 returns : tie.Need-returns
 returns c =
@@ -40,4 +31,4 @@ returns c =
 pub fill-field-spec : {M : Type 1} → statement M
 fill-field-spec =
     tie.close
-    (tie.spec own-at-requires field-at-requires put-over-requires same-length returns)
+    (tie.spec (λ c κs. search needs) (λ c κs. search needs) put-over-requires (λ c. search needs) returns)

@@ -18,12 +18,6 @@ held c =
     let l : a .at + byteNo (a .b) < 2 ^ 64 = omega (arith, s .pre .1, s .good .0) in
     c .number16-at .ensures ∙ ap (number16 (a .reel .now)) (ap placeNo (c .before .field-at .ensures ∙ field-place (record { 0 = a .at }) (a .b) (s .pre .0) l))
 
-field-at-requires : tie.Need-field-at-requires
-field-at-requires c κs = search needs
-
-number16-at-requires : tie.Need-number16-at-requires
-number16-at-requires c κs = search needs
-
 returns : tie.Need-returns
 returns c = rw (eq-eqb _ 0 (sym (held (c .before)) ∙ c .if1 .taken))
 
@@ -31,4 +25,4 @@ returns-2 : tie.Need-returns-2
 returns-2 c = rw (← (held (c .before)), ne-eqb (c .before .number16-at .result) 0 (c .if1 .left))
 
 pub own-at-spec : {M : Type 1} → statement M
-own-at-spec = tie.close (tie.spec field-at-requires number16-at-requires returns returns-2)
+own-at-spec = tie.close (tie.spec (λ c κs. search needs) (λ c κs. search needs) returns returns-2)

@@ -24,9 +24,6 @@ loop-holds c =
 shared-slice-read-blank-of : tie.Need-shared-slice-read-blank-of Inv-loop μ-loop
 shared-slice-read-blank-of c = c .before .loop-test .taken
 
-blank-of-requires : tie.Need-blank-of-requires Inv-loop μ-loop
-blank-of-requires c κs = tt
-
 slice-write-out : tie.Need-slice-write-out Inv-loop μ-loop
 slice-write-out c = omega (arith, c .before .before .loop-test .taken, c .before .before .before .loop .inv .1)
 
@@ -59,7 +56,7 @@ put-cards-spec =
     μ-loop
     loop-holds
     shared-slice-read-blank-of
-    blank-of-requires
+    (λ c κs. tt)
     slice-write-out
     add-i
     loop-less

@@ -8,29 +8,14 @@ use native.Mathlib.Omega.{arith}
 use Rattle.read_reel.proofs.put_count.Statement.{statement}
 use Rattle.read_reel.proofs.put_count.Tie as tie
 
-sub-put-tag : tie.Need-sub-put-tag
-sub-put-tag c = omega arith
-
-part-put-tag-start : tie.Need-part-put-tag-start
-part-put-tag-start c = omega arith
-
 part-put-tag-end : tie.Need-part-put-tag-end
 part-put-tag-end c = omega (arith, c .before .pre)
 
 put-tag-requires : tie.Need-put-tag-requires
 put-tag-requires c κs = c .put-tag-arg .given .2
 
-sub-put32 : tie.Need-sub-put32
-sub-put32 c = omega arith
-
-part-put32-start : tie.Need-part-put32-start
-part-put32-start c = omega arith
-
 part-put32-end : tie.Need-part-put32-end
 part-put32-end c = omega (arith, c .before .before .before .before .before .pre, c .before .out .given .1)
-
-put32-requires : tie.Need-put32-requires
-put32-requires c κs = tt
 
 same-length : tie.Need-same-length
 same-length c = omega (arith, c .before .out2 .given .1, c .before .before .before .before .before .out .given .1)
@@ -46,13 +31,13 @@ pub put-count-spec : {M : Type 1} → statement M
 put-count-spec =
     tie.close
     (tie.spec
-    sub-put-tag
-    part-put-tag-start
+    (λ c. omega arith)
+    (λ c. omega arith)
     part-put-tag-end
     put-tag-requires
-    sub-put32
-    part-put32-start
+    (λ c. omega arith)
+    (λ c. omega arith)
     part-put32-end
-    put32-requires
+    (λ c κs. tt)
     same-length
     returns)

@@ -13,32 +13,14 @@ use native.Mathlib.Omega.{arith}
 use Rattle.read_reel.proofs.put_fields.Statement.{statement}
 use Rattle.read_reel.proofs.put_fields.Tie as tie
 
-sub-put-tag : tie.Need-sub-put-tag
-sub-put-tag c = omega arith
-
-part-put-tag-start : tie.Need-part-put-tag-start
-part-put-tag-start c = omega arith
-
 part-put-tag-end : tie.Need-part-put-tag-end
 part-put-tag-end c = omega (arith, c .before .before .pre .1)
 
 put-tag-requires : tie.Need-put-tag-requires
 put-tag-requires c κs = c .put-tag-arg .given .2
 
-sub-put-cards : tie.Need-sub-put-cards
-sub-put-cards c = omega arith
-
-part-put-cards-start : tie.Need-part-put-cards-start
-part-put-cards-start c = omega arith
-
 part-put-cards-end : tie.Need-part-put-cards-end
 part-put-cards-end c = omega (arith, c .before .before .before .before .before .before .pre .0)
-
-sub-put-cards-2 : tie.Need-sub-put-cards-2
-sub-put-cards-2 c = omega arith
-
-part-put-cards-start-2 : tie.Need-part-put-cards-start-2
-part-put-cards-start-2 c = omega arith
 
 part-put-cards-end-2 : tie.Need-part-put-cards-end-2
 part-put-cards-end-2 c = omega (arith, c .before .before .before .before .before .before .before .pre .1, c .before .before .out .given .1)
@@ -46,38 +28,17 @@ part-put-cards-end-2 c = omega (arith, c .before .before .before .before .before
 put-cards-requires : tie.Need-put-cards-requires
 put-cards-requires c κs = c .put-cards-arg2 .given .2 ∙ sym (c .before .put-cards-arg .given .2)
 
-sub-put-tag-2 : tie.Need-sub-put-tag-2
-sub-put-tag-2 c = omega arith
-
-part-put-tag-start-2 : tie.Need-part-put-tag-start-2
-part-put-tag-start-2 c = omega arith
-
 part-put-tag-end-2 : tie.Need-part-put-tag-end-2
 part-put-tag-end-2 c = omega (arith, c .before .before .before .before .before .before .before .before .before .before .before .pre .1, c .before .before .before .before .before .before .out .given .1, c .before .out2 .given .1)
 
 put-tag-requires-2 : tie.Need-put-tag-requires-2
 put-tag-requires-2 c κs = c .put-tag-arg2 .given .2
 
-sub-copy : tie.Need-sub-copy
-sub-copy c = omega arith
-
-part-copy-start : tie.Need-part-copy-start
-part-copy-start c = omega arith
-
 part-copy-end : tie.Need-part-copy-end
 part-copy-end c = omega (arith, c .before .before .before .before .before .before .before .before .before .before .before .before .before .before .before .pre .0)
 
-sub-copy-2 : tie.Need-sub-copy-2
-sub-copy-2 c = omega arith
-
-part-copy-start-2 : tie.Need-part-copy-start-2
-part-copy-start-2 c = omega arith
-
 part-copy-end-2 : tie.Need-part-copy-end-2
 part-copy-end-2 c = omega (arith, c .before .before .before .before .before .before .before .before .before .before .before .before .before .before .before .before .pre .1, c .before .before .before .before .before .before .before .before .before .before .before .out .given .1, c .before .before .before .before .before .before .out2 .given .1, c .before .before .out3 .given .1)
-
-copy-requires : tie.Need-copy-requires
-copy-requires c κs = tt
 
 returns : tie.Need-returns
 unfolding fieldsCopied cardText
@@ -101,27 +62,27 @@ pub put-fields-spec : {M : Type 1} → statement M
 put-fields-spec =
     tie.close
     (tie.spec
-    sub-put-tag
-    part-put-tag-start
+    (λ c. omega arith)
+    (λ c. omega arith)
     part-put-tag-end
     put-tag-requires
-    sub-put-cards
-    part-put-cards-start
+    (λ c. omega arith)
+    (λ c. omega arith)
     part-put-cards-end
-    sub-put-cards-2
-    part-put-cards-start-2
+    (λ c. omega arith)
+    (λ c. omega arith)
     part-put-cards-end-2
     put-cards-requires
-    sub-put-tag-2
-    part-put-tag-start-2
+    (λ c. omega arith)
+    (λ c. omega arith)
     part-put-tag-end-2
     put-tag-requires-2
-    sub-copy
-    part-copy-start
+    (λ c. omega arith)
+    (λ c. omega arith)
     part-copy-end
-    sub-copy-2
-    part-copy-start-2
+    (λ c. omega arith)
+    (λ c. omega arith)
     part-copy-end-2
-    copy-requires
+    (λ c κs. tt)
     same-length
     returns)

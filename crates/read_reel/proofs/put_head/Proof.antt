@@ -19,17 +19,8 @@ use Rattle.read_reel.proofs.put_head.Tie as tie
 place : (c : tie.After-field-at) → placeNo (c .field-at .result) ≡ codePlace
 place c = ap placeNo (c .field-at .ensures ∙ field-place (record { 0 = 6 }) (record { 0 = 3225 }) (omega arith) (omega arith))
 
-put-fields-requires : tie.Need-put-fields-requires
-put-fields-requires c κs = search needs
-
-field-at-requires : tie.Need-field-at-requires
-field-at-requires c κs = search needs
-
 put-over-requires : tie.Need-put-over-requires
 put-over-requires c κs = let f = c .before .before .before .before in omega (arith, place (c .before), ap length (f .put-fields .ensures) ∙ size-fields (f .before .before .before .before .args .reel .now))
-
-same-length : tie.Need-same-length
-same-length c = search needs
 
 returns : tie.Need-returns
 unfolding headCopied
@@ -40,4 +31,4 @@ returns c =
 pub put-head-spec : {M : Type 1} → statement M
 put-head-spec =
     tie.close
-    (tie.spec put-fields-requires field-at-requires put-over-requires same-length returns)
+    (tie.spec (λ c κs. search needs) (λ c κs. search needs) put-over-requires (λ c. search needs) returns)

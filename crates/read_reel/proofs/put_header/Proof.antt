@@ -9,30 +9,6 @@ use borrow.Author.Needs.{needs}
 use Rattle.read_reel.proofs.put_header.Statement.{statement}
 use Rattle.read_reel.proofs.put_header.Tie as tie
 
-add-copy : tie.Need-add-copy
-add-copy c = search needs
-
-sub-copy : tie.Need-sub-copy
-sub-copy c = search needs
-
-part-copy-start : tie.Need-part-copy-start
-part-copy-start c = search needs
-
-part-copy-end : tie.Need-part-copy-end
-part-copy-end c = search needs
-
-copy-requires : tie.Need-copy-requires
-copy-requires c κs = search needs
-
-fill-field-requires : tie.Need-fill-field-requires
-fill-field-requires c κs = search needs
-
-fill-field-requires-2 : tie.Need-fill-field-requires-2
-fill-field-requires-2 c κs = search needs
-
-same-length : tie.Need-same-length
-same-length c = search needs
-
 returns : tie.Need-returns
 unfolding recordHeaderCopied
 returns c =
@@ -48,12 +24,12 @@ pub put-header-spec : {M : Type 1} → statement M
 put-header-spec =
     tie.close
     (tie.spec
-    add-copy
-    sub-copy
-    part-copy-start
-    part-copy-end
-    copy-requires
-    fill-field-requires
-    fill-field-requires-2
-    same-length
+    (λ c. search needs)
+    (λ c. search needs)
+    (λ c. search needs)
+    (λ c. search needs)
+    (λ c κs. search needs)
+    (λ c κs. search needs)
+    (λ c κs. search needs)
+    (λ c. search needs)
     returns)

@@ -9,24 +9,6 @@ use borrow.Author.Needs.{needs}
 use Rattle.read_reel.proofs.put_over.Statement.{statement}
 use Rattle.read_reel.proofs.put_over.Tie as tie
 
-add-put16 : tie.Need-add-put16
-add-put16 c = search needs
-
-sub-put16 : tie.Need-sub-put16
-sub-put16 c = search needs
-
-part-put16-start : tie.Need-part-put16-start
-part-put16-start c = search needs
-
-part-put16-end : tie.Need-part-put16-end
-part-put16-end c = search needs
-
-put16-requires : tie.Need-put16-requires
-put16-requires c κs = search needs
-
-same-length : tie.Need-same-length
-same-length c = search needs
-
 returns : tie.Need-returns
 returns c =
     let a = c .before .before .before .before .before .args in
@@ -36,10 +18,10 @@ pub put-over-spec : {M : Type 1} → statement M
 put-over-spec =
     tie.close
     (tie.spec
-    add-put16
-    sub-put16
-    part-put16-start
-    part-put16-end
-    put16-requires
-    same-length
+    (λ c. search needs)
+    (λ c. search needs)
+    (λ c. search needs)
+    (λ c. search needs)
+    (λ c κs. search needs)
+    (λ c. search needs)
     returns)

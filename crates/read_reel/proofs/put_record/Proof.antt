@@ -27,23 +27,11 @@ mul-e c = omega (arith, c .before .before .pre .5, c .before .before .good .1 .1
 add-e : tie.Need-add-e
 add-e c = omega (arith, c .before .before .pre .5, c .before .before .good .1 .1 .1 .1 .1 .1 .0)
 
-sub-put-head : tie.Need-sub-put-head
-sub-put-head c = omega arith
-
-part-put-head-start : tie.Need-part-put-head-start
-part-put-head-start c = omega arith
-
 part-put-head-end : tie.Need-part-put-head-end
 part-put-head-end c = omega (arith, c .before .before .pre .5)
 
 put-head-requires : tie.Need-put-head-requires
 put-head-requires c κs = (omega (arith, c .before .before .before .pre .4), c .put-head-arg .given .2)
-
-sub-put-traces : tie.Need-sub-put-traces
-sub-put-traces c = omega arith
-
-part-put-traces-start : tie.Need-part-put-traces-start
-part-put-traces-start c = omega arith
 
 part-put-traces-end : tie.Need-part-put-traces-end
 part-put-traces-end c = omega (arith, c .before .before .before .before .before .before .pre .5, c .before .out .given .1)
@@ -58,12 +46,6 @@ cast-put-count c = omega (arith, c .before .before .before .before .before .befo
 
 add-put-count : tie.Need-add-put-count
 add-put-count c = omega (arith, c .before .before .before .before .before .before .before .before .before .before .pre .5, c .before .before .before .before .before .before .before .before .before .before .good .1 .1 .1 .1 .1 .1 .0)
-
-sub-put-count : tie.Need-sub-put-count
-sub-put-count c = omega arith
-
-part-put-count-start : tie.Need-part-put-count-start
-part-put-count-start c = omega arith
 
 part-put-count-end : tie.Need-part-put-count-end
 part-put-count-end c = omega (arith, c .before .before .before .before .before .before .before .before .before .before .pre .5, c .before .before .before .before .before .out .given .1, c .before .out2 .given .1)
@@ -98,18 +80,18 @@ put-record-spec =
     add-m
     mul-e
     add-e
-    sub-put-head
-    part-put-head-start
+    (λ c. omega arith)
+    (λ c. omega arith)
     part-put-head-end
     put-head-requires
-    sub-put-traces
-    part-put-traces-start
+    (λ c. omega arith)
+    (λ c. omega arith)
     part-put-traces-end
     put-traces-requires
     cast-put-count
     add-put-count
-    sub-put-count
-    part-put-count-start
+    (λ c. omega arith)
+    (λ c. omega arith)
     part-put-count-end
     put-count-requires
     same-length

@@ -13,17 +13,8 @@ use Rattle.read_reel.proofs.put_tag.Tie as tie
 slice-write-out : tie.Need-slice-write-out
 slice-write-out c = omega (arith, c .before .pre)
 
-sub-put16 : tie.Need-sub-put16
-sub-put16 c = omega arith
-
-part-put16-start : tie.Need-part-put16-start
-part-put16-start c = omega arith
-
 part-put16-end : tie.Need-part-put16-end
 part-put16-end c = simp length-set (omega arith)
-
-put16-requires : tie.Need-put16-requires
-put16-requires c κs = tt
 
 returns : tie.Need-returns
 returns c =
@@ -38,9 +29,9 @@ put-tag-spec =
     tie.close
     (tie.spec
     slice-write-out
-    sub-put16
-    part-put16-start
+    (λ c. omega arith)
+    (λ c. omega arith)
     part-put16-end
-    put16-requires
+    (λ c κs. tt)
     same-length
     returns)

@@ -22,35 +22,17 @@ cast-e c = omega (arith, c .before .before .pre .1)
 add-e : tie.Need-add-e
 add-e c = omega (arith, c .before .before .pre .1)
 
-sub-put-tag : tie.Need-sub-put-tag
-sub-put-tag c = omega arith
-
-part-put-tag-start : tie.Need-part-put-tag-start
-part-put-tag-start c = omega arith
-
 part-put-tag-end : tie.Need-part-put-tag-end
 part-put-tag-end c = omega (arith, c .before .before .pre .3)
 
 put-tag-requires : tie.Need-put-tag-requires
 put-tag-requires c κs = c .put-tag-arg .given .2
 
-sub-put-header : tie.Need-sub-put-header
-sub-put-header c = omega arith
-
-part-put-header-start : tie.Need-part-put-header-start
-part-put-header-start c = omega arith
-
 part-put-header-end : tie.Need-part-put-header-end
 part-put-header-end c = omega (arith, c .before .before .before .before .before .before .pre .3, c .before .out .given .1)
 
 put-header-requires : tie.Need-put-header-requires
 put-header-requires c κs = (omega (arith, c .before .before .before .before .before .before .before .pre .2), c .put-header-arg .given .2)
-
-sub-put-tag-2 : tie.Need-sub-put-tag-2
-sub-put-tag-2 c = omega arith
-
-part-put-tag-start-2 : tie.Need-part-put-tag-start-2
-part-put-tag-start-2 c = omega arith
 
 part-put-tag-end-2 : tie.Need-part-put-tag-end-2
 part-put-tag-end-2 c = omega (arith, c .before .before .before .before .before .before .before .before .before .before .pre .3, c .before .before .before .before .before .out .given .1, c .before .out2 .given .1)
@@ -61,17 +43,8 @@ put-tag-requires-2 c κs = c .put-tag-arg2 .given .2
 add-t20 : tie.Need-add-t20
 add-t20 c = omega (arith, c .before .before .before .before .before .before .before .before .before .before .before .before .before .before .pre .2, c .before .before .before .before .before .before .before .before .before .before .before .before .before .before .good .0)
 
-sub-read-samples : tie.Need-sub-read-samples
-sub-read-samples c = omega arith
-
-part-read-samples-start : tie.Need-part-read-samples-start
-part-read-samples-start c = omega arith
-
 part-read-samples-end : tie.Need-part-read-samples-end
 part-read-samples-end c = omega (arith, c .before .before .before .before .before .before .before .before .before .before .before .before .before .before .pre .3, c .before .before .before .before .before .before .before .before .before .out .given .1, c .before .before .before .before .before .out2 .given .1, c .before .out3 .given .1)
-
-read-samples-requires : tie.Need-read-samples-requires
-read-samples-requires c κs = tt
 
 returns : tie.Need-returns
 unfolding recordTraceCopied
@@ -99,22 +72,22 @@ put-trace-spec =
     mul-size
     cast-e
     add-e
-    sub-put-tag
-    part-put-tag-start
+    (λ c. omega arith)
+    (λ c. omega arith)
     part-put-tag-end
     put-tag-requires
-    sub-put-header
-    part-put-header-start
+    (λ c. omega arith)
+    (λ c. omega arith)
     part-put-header-end
     put-header-requires
-    sub-put-tag-2
-    part-put-tag-start-2
+    (λ c. omega arith)
+    (λ c. omega arith)
     part-put-tag-end-2
     put-tag-requires-2
     add-t20
-    sub-read-samples
-    part-read-samples-start
+    (λ c. omega arith)
+    (λ c. omega arith)
     part-read-samples-end
-    read-samples-requires
+    (λ c κs. tt)
     same-length
     returns)

@@ -41,9 +41,6 @@ cast-put-record c = omega (arith, fits (c .before .before .before) .n-high)
 cast-put-record-2 : tie.Need-cast-put-record-2
 cast-put-record-2 c = omega (arith, fits (c .before .before .before) .i-high)
 
-slice-relend-prefix-put-record : tie.Need-slice-relend-prefix-put-record
-slice-relend-prefix-put-record c = search needs
-
 slice-aggregate-put-record : tie.Need-slice-aggregate-put-record
 slice-aggregate-put-record c = sym (length-take-le (recordLength (c .before .before .before .before .args .t) (c .before .before .before .before .args .n)) (c .before .before .before .before .args .out .now) (c .before .if1 .left))
 
@@ -53,9 +50,6 @@ put-record-requires c κs =
     let a = s .args in
     let f = fits s in
     (f .a-code, f .n-high, f .strides ∙ ap (stride (a .n)) (f .width), f .few, f .room, length-take-le (recordLength (a .t) (a .n)) (a .out .now) (c .before .if1 .left))
-
-same-length : tie.Need-same-length
-same-length c = search needs
 
 returns-2 : tie.Need-returns-2
 returns-2 c =
@@ -74,8 +68,8 @@ read-checked-spec =
     returns
     cast-put-record
     cast-put-record-2
-    slice-relend-prefix-put-record
+    (λ c. search needs)
     slice-aggregate-put-record
     put-record-requires
-    same-length
+    (λ c. search needs)
     returns-2)

@@ -9,9 +9,6 @@ use mathlib.Core.Path.{_≡_, sym, ap, _∙_}
 use Rattle.read_samples.proofs.do_fit.Statement.{statement}
 use Rattle.read_samples.proofs.do_fit.Tie as tie
 
-is-code-requires : tie.Need-is-code-requires
-is-code-requires c κs = tt
-
 -- what the first two tests found, where they were passed
 code : (c : tie.Else1) → isCode (c .before .before .args .code) ≡ true
 code c = sym (c .before .is-code .ensures) ∙ not-false (c .before .is-code .result) (c .if1 .left)
@@ -24,21 +21,12 @@ words c =
 returns : tie.Need-returns
 returns c = let i : isCode (c .before .before .args .code) ≡ false = sym (c .before .is-code .ensures) ∙ not-true (c .before .is-code .result) (c .if1 .taken) in rw (i)
 
-width-of-requires : tie.Need-width-of-requires
-width-of-requires c κs = tt
-
-are-within-requires : tie.Need-are-within-requires
-are-within-requires c κs = tt
-
 returns-2 : tie.Need-returns-2
 returns-2 c =
     let a = c .before .before .before .before .before .args in
     let w : leb (a .start + a .n * sampleBytes (a .code)) (a .bytes) ≡ false =
     ap (λ (v : ℕ). leb (a .start + a .n * v) (a .bytes)) (sym (c .before .before .width-of .ensures .0)) ∙ sym (c .before .are-within .ensures) ∙ not-true (c .before .are-within .result) (c .if2 .taken) in
     rw (code (c .before .before .before), w)
-
-make-up-requires : tie.Need-make-up-requires
-make-up-requires c κs = tt
 
 returns-3 : tie.Need-returns-3
 returns-3 c = rw (code (c .before .before .before .before), words (c .before)) (c .make-up .ensures)
@@ -47,10 +35,10 @@ pub do-fit-spec : {M : Type 1} → statement M
 do-fit-spec =
     tie.close
     (tie.spec
-    is-code-requires
+    (λ c κs. tt)
     returns
-    width-of-requires
-    are-within-requires
+    (λ c κs. tt)
+    (λ c κs. tt)
     returns-2
-    make-up-requires
+    (λ c κs. tt)
     returns-3)

@@ -11,29 +11,8 @@ use borrow.Author.Needs.{needs}
 use Rattle.read_samples.proofs.put_exponent.Statement.{statement}
 use Rattle.read_samples.proofs.put_exponent.Tie as tie
 
-enum-known-word : tie.Need-enum-known-word
-enum-known-word c = search needs
-
-enum-told : tie.Need-enum-told
-enum-told c = search needs
-
-put16-requires : tie.Need-put16-requires
-put16-requires c κs = search needs
-
-same-length : tie.Need-same-length
-same-length c = search needs
-
 returns : tie.Need-returns
 returns c = copied _ _ (c .before .before .put16 .ensures) (c .before .before .before .before .before .before .before .pre) ∙ ap exponentContent (sym (c .before .before .before .before .enum-told .given .1))
-
-bits16-requires : tie.Need-bits16-requires
-bits16-requires c κs = search needs
-
-put16-requires-2 : tie.Need-put16-requires-2
-put16-requires-2 c κs = search needs
-
-same-length-2 : tie.Need-same-length-2
-same-length-2 c = search needs
 
 returns-2 : tie.Need-returns-2
 returns-2 c =
@@ -45,12 +24,12 @@ pub put-exponent-spec : {M : Type 1} → statement M
 put-exponent-spec =
     tie.close
     (tie.spec
-    enum-known-word
-    enum-told
-    put16-requires
-    same-length
+    (λ c. search needs)
+    (λ c. search needs)
+    (λ c κs. search needs)
+    (λ c. search needs)
     returns
-    bits16-requires
-    put16-requires-2
-    same-length-2
+    (λ c κs. search needs)
+    (λ c κs. search needs)
+    (λ c. search needs)
     returns-2)

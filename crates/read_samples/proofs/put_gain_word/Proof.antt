@@ -16,18 +16,6 @@ add-gain-or-zero c = omega (arith, c .before .before .before .pre .0, c .before 
 shared-slice-read-gain-or-zero-2 : tie.Need-shared-slice-read-gain-or-zero-2
 shared-slice-read-gain-or-zero-2 c = omega (arith, c .before .before .before .before .pre .0)
 
-low-half-requires : tie.Need-low-half-requires
-low-half-requires c κs = tt
-
-gain-or-zero-requires : tie.Need-gain-or-zero-requires
-gain-or-zero-requires c κs = tt
-
-sub-put-exponent : tie.Need-sub-put-exponent
-sub-put-exponent c = omega arith
-
-part-put-exponent-start : tie.Need-part-put-exponent-start
-part-put-exponent-start c = omega arith
-
 part-put-exponent-end : tie.Need-part-put-exponent-end
 part-put-exponent-end c = omega (arith, c .before .before .before .before .before .before .pre .1)
 
@@ -39,12 +27,6 @@ add-word32-at c = let s = c .before .before .before .before .before .before .bef
 
 word32-at-requires : tie.Need-word32-at-requires
 word32-at-requires c κs = omega (arith, c .before .before .before .before .before .before .before .before .before .before .pre .0)
-
-sub-put-mantissa : tie.Need-sub-put-mantissa
-sub-put-mantissa c = omega arith
-
-part-put-mantissa-start : tie.Need-part-put-mantissa-start
-part-put-mantissa-start c = omega arith
 
 part-put-mantissa-end : tie.Need-part-put-mantissa-end
 part-put-mantissa-end c = omega (arith, c .before .before .before .before .before .before .before .before .before .before .before .pre .1, c .before .before .out .given .1)
@@ -61,9 +43,6 @@ returns c =
           ∙ ap sampleContent (p .gain-or-zero .ensures) ∙ gain-copied (s .args .reel .now) (s .args .at) (p .before .low-half .result) (p .before .low-half .ensures ∙ s .pre .2 .low),
     )
 
-same-length : tie.Need-same-length
-same-length c = search needs
-
 pub put-gain-word-spec : {M : Type 1} → statement M
 put-gain-word-spec =
     tie.close
@@ -71,17 +50,17 @@ put-gain-word-spec =
     shared-slice-read-gain-or-zero
     add-gain-or-zero
     shared-slice-read-gain-or-zero-2
-    low-half-requires
-    gain-or-zero-requires
-    sub-put-exponent
-    part-put-exponent-start
+    (λ c κs. tt)
+    (λ c κs. tt)
+    (λ c. omega arith)
+    (λ c. omega arith)
     part-put-exponent-end
     put-exponent-requires
     add-word32-at
     word32-at-requires
-    sub-put-mantissa
-    part-put-mantissa-start
+    (λ c. omega arith)
+    (λ c. omega arith)
     part-put-mantissa-end
     put-mantissa-requires
-    same-length
+    (λ c. search needs)
     returns)

@@ -7,15 +7,6 @@ use mathlib.Core.Path.{ap, _∙_}
 use Rattle.read_samples.proofs.put_ibm_word.Statement.{statement}
 use Rattle.read_samples.proofs.put_ibm_word.Tie as tie
 
-ibm-requires : tie.Need-ibm-requires
-ibm-requires c κs = tt
-
-sub-put-exponent : tie.Need-sub-put-exponent
-sub-put-exponent c = omega arith
-
-part-put-exponent-start : tie.Need-part-put-exponent-start
-part-put-exponent-start c = omega arith
-
 part-put-exponent-end : tie.Need-part-put-exponent-end
 part-put-exponent-end c = omega (arith, c .before .before .before .pre .1)
 
@@ -24,12 +15,6 @@ put-exponent-requires c κs = c .put-exponent-arg .given .2
 
 word32-at-requires : tie.Need-word32-at-requires
 word32-at-requires c κs = c .before .before .before .before .before .before .before .pre .0
-
-sub-put-mantissa : tie.Need-sub-put-mantissa
-sub-put-mantissa c = omega arith
-
-part-put-mantissa-start : tie.Need-part-put-mantissa-start
-part-put-mantissa-start c = omega arith
 
 part-put-mantissa-end : tie.Need-part-put-mantissa-end
 part-put-mantissa-end c = omega (arith, c .before .before .before .before .before .before .before .before .pre .1, c .before .before .out .given .1)
@@ -47,22 +32,19 @@ returns c =
           ∙ ap sampleContent (p .ibm .ensures),
     )
 
-same-length : tie.Need-same-length
-same-length c = search needs
-
 pub put-ibm-word-spec : {M : Type 1} → statement M
 put-ibm-word-spec =
     tie.close
     (tie.spec
-    ibm-requires
-    sub-put-exponent
-    part-put-exponent-start
+    (λ c κs. tt)
+    (λ c. omega arith)
+    (λ c. omega arith)
     part-put-exponent-end
     put-exponent-requires
     word32-at-requires
-    sub-put-mantissa
-    part-put-mantissa-start
+    (λ c. omega arith)
+    (λ c. omega arith)
     part-put-mantissa-end
     put-mantissa-requires
-    same-length
+    (λ c. search needs)
     returns)

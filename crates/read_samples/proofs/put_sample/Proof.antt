@@ -5,23 +5,11 @@ use borrow.Author.Needs.{needs}
 use Rattle.read_samples.proofs.put_sample.Statement.{statement}
 use Rattle.read_samples.proofs.put_sample.Tie as tie
 
-sub-put-exponent : tie.Need-sub-put-exponent
-sub-put-exponent c = omega arith
-
-part-put-exponent-start : tie.Need-part-put-exponent-start
-part-put-exponent-start c = omega arith
-
 part-put-exponent-end : tie.Need-part-put-exponent-end
 part-put-exponent-end c = omega (arith, c .before .pre)
 
 put-exponent-requires : tie.Need-put-exponent-requires
 put-exponent-requires c κs = c .put-exponent-arg .given .2
-
-sub-put-mantissa : tie.Need-sub-put-mantissa
-sub-put-mantissa c = omega arith
-
-part-put-mantissa-start : tie.Need-part-put-mantissa-start
-part-put-mantissa-start c = omega arith
 
 part-put-mantissa-end : tie.Need-part-put-mantissa-end
 part-put-mantissa-end c = omega (arith, c .before .before .before .before .before .pre, c .before .out .given .1)
@@ -35,20 +23,17 @@ returns c =
     let s = x .before .before .before in
     parts-put (s .args .out .now) (s .args .word) (s .pre) (x .put-exponent .ensures) (c .before .before .put-mantissa .ensures)
 
-same-length : tie.Need-same-length
-same-length c = search needs
-
 pub put-sample-spec : {M : Type 1} → statement M
 put-sample-spec =
     tie.close
     (tie.spec
-    sub-put-exponent
-    part-put-exponent-start
+    (λ c. omega arith)
+    (λ c. omega arith)
     part-put-exponent-end
     put-exponent-requires
-    sub-put-mantissa
-    part-put-mantissa-start
+    (λ c. omega arith)
+    (λ c. omega arith)
     part-put-mantissa-end
     put-mantissa-requires
-    same-length
+    (λ c. search needs)
     returns)

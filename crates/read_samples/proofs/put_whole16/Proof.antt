@@ -59,12 +59,6 @@ add-e c = omega (arith, c .before .loop .inv .1, c .before .loop .inv .2)
 add-at : tie.Need-add-at Inv-loop μ-loop
 add-at c = omega (arith, c .before .loop .inv .0)
 
-sub-put-whole16-word : tie.Need-sub-put-whole16-word Inv-loop μ-loop
-sub-put-whole16-word c = omega arith
-
-part-put-whole16-word-start : tie.Need-part-put-whole16-word-start Inv-loop μ-loop
-part-put-whole16-word-start c = omega arith
-
 part-put-whole16-word-end : tie.Need-part-put-whole16-word-end Inv-loop μ-loop
 part-put-whole16-word-end c = omega (arith, c .before .loop .inv .1, c .before .loop .inv .2)
 
@@ -87,17 +81,8 @@ loop-again c =
     let f = next-put (sampleCopied s 3) (λ p. p) 2 6 (size-copied s 3) (l .left) (l .at) (l .o) (l .o + 6) some refl (l .inv .4) (g .1 ∙ content s (l .at) (l .w) (l .inv .3)) in
     (omega (arith, times-more (l .left) 2 some, l .inv .0), f .size ∙ sym (l .inv .4 .size) ∙ l .inv .1, omega (arith, times-more (l .left) 6 some, l .inv .2), g .0, f)
 
-whole16-requires : tie.Need-whole16-requires Inv-loop μ-loop
-whole16-requires c κs = tt
-
 add-put-sample : tie.Need-add-put-sample Inv-loop μ-loop
 add-put-sample c = omega (arith, c .before .before .loop .inv .1, c .before .before .loop .inv .2)
-
-sub-put-sample : tie.Need-sub-put-sample Inv-loop μ-loop
-sub-put-sample c = omega arith
-
-part-put-sample-start : tie.Need-part-put-sample-start Inv-loop μ-loop
-part-put-sample-start c = omega arith
 
 part-put-sample-end : tie.Need-part-put-sample-end Inv-loop μ-loop
 part-put-sample-end c = omega (arith, c .before .before .loop .inv .1, c .before .before .loop .inv .2)
@@ -130,17 +115,17 @@ put-whole16-spec =
     loop-holds
     add-e
     add-at
-    sub-put-whole16-word
-    part-put-whole16-word-start
+    (λ c. omega arith)
+    (λ c. omega arith)
     part-put-whole16-word-end
     put-whole16-word-requires
     sub-left
     loop-less
     loop-again
-    whole16-requires
+    (λ c κs. tt)
     add-put-sample
-    sub-put-sample
-    part-put-sample-start
+    (λ c. omega arith)
+    (λ c. omega arith)
     part-put-sample-end
     put-sample-requires
     same-length

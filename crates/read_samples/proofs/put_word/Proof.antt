@@ -9,15 +9,6 @@ use borrow.Author.Needs.{needs}
 use Rattle.read_samples.proofs.put_word.Statement.{statement}
 use Rattle.read_samples.proofs.put_word.Tie as tie
 
-add-put-ibm-word : tie.Need-add-put-ibm-word
-add-put-ibm-word c = search needs
-
-put-ibm-word-requires : tie.Need-put-ibm-word-requires
-put-ibm-word-requires c κs = search needs
-
-same-length : tie.Need-same-length
-same-length c = search needs
-
 returns : tie.Need-returns
 returns c =
     let t = c .before .before .before .before in
@@ -27,15 +18,6 @@ returns c =
     let one : 1 ≡ b .args .code = omega (arith, code-limits (b .args .code) (b .pre .0), t .if1 .taken) in
     (g .0, g .1 ∙ ibm-content s (b .args .at) (b .args .word) (b .pre .4) ∙ ap (λ (k : ℕ). sampleCopied s k (b .args .at)) one)
 
-add-put-whole32-word : tie.Need-add-put-whole32-word
-add-put-whole32-word c = search needs
-
-put-whole32-word-requires : tie.Need-put-whole32-word-requires
-put-whole32-word-requires c κs = search needs
-
-same-length-2 : tie.Need-same-length-2
-same-length-2 c = search needs
-
 returns-2 : tie.Need-returns-2
 returns-2 c =
     let t = c .before .before .before .before in
@@ -44,12 +26,6 @@ returns-2 c =
     let g = c .before .before .put-whole32-word .ensures in
     let two : 2 ≡ b .args .code = omega (arith, t .if2 .taken, t .before .if1 .left) in
     (g .0, g .1 ∙ whole32-content s (b .args .at) (b .args .word) (b .pre .4) ∙ ap (λ (k : ℕ). sampleCopied s k (b .args .at)) two)
-
-put-gain-word-requires : tie.Need-put-gain-word-requires
-put-gain-word-requires c κs = search needs
-
-same-length-3 : tie.Need-same-length-3
-same-length-3 c = search needs
 
 returns-3 : tie.Need-returns-3
 returns-3 c =
@@ -64,14 +40,14 @@ pub put-word-spec : {M : Type 1} → statement M
 put-word-spec =
     tie.close
     (tie.spec
-    add-put-ibm-word
-    put-ibm-word-requires
-    same-length
+    (λ c. search needs)
+    (λ c κs. search needs)
+    (λ c. search needs)
     returns
-    add-put-whole32-word
-    put-whole32-word-requires
-    same-length-2
+    (λ c. search needs)
+    (λ c κs. search needs)
+    (λ c. search needs)
     returns-2
-    put-gain-word-requires
-    same-length-3
+    (λ c κs. search needs)
+    (λ c. search needs)
     returns-3)

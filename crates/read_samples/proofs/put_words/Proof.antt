@@ -56,12 +56,6 @@ loop-holds c =
 add-e : tie.Need-add-e Inv-loop μ-loop
 add-e c = omega (arith, c .before .loop .inv .1, c .before .loop .inv .2)
 
-sub-put-word : tie.Need-sub-put-word Inv-loop μ-loop
-sub-put-word c = omega arith
-
-part-put-word-start : tie.Need-part-put-word-start Inv-loop μ-loop
-part-put-word-start c = omega arith
-
 part-put-word-end : tie.Need-part-put-word-end Inv-loop μ-loop
 part-put-word-end c = omega (arith, c .before .loop .inv .1, c .before .loop .inv .2)
 
@@ -104,12 +98,6 @@ sample-at-requires c κs = omega (arith, c .before .loop .inv .0, c .before .loo
 add-put-sample : tie.Need-add-put-sample Inv-loop μ-loop
 add-put-sample c = omega (arith, c .before .before .loop .inv .1, c .before .before .loop .inv .2)
 
-sub-put-sample : tie.Need-sub-put-sample Inv-loop μ-loop
-sub-put-sample c = omega arith
-
-part-put-sample-start : tie.Need-part-put-sample-start Inv-loop μ-loop
-part-put-sample-start c = omega arith
-
 part-put-sample-end : tie.Need-part-put-sample-end Inv-loop μ-loop
 part-put-sample-end c = omega (arith, c .before .before .loop .inv .1, c .before .before .loop .inv .2)
 
@@ -146,8 +134,8 @@ put-words-spec =
     word32-at-requires
     loop-holds
     add-e
-    sub-put-word
-    part-put-word-start
+    (λ c. omega arith)
+    (λ c. omega arith)
     part-put-word-end
     put-word-requires
     add-at
@@ -156,8 +144,8 @@ put-words-spec =
     loop-again
     sample-at-requires
     add-put-sample
-    sub-put-sample
-    part-put-sample-start
+    (λ c. omega arith)
+    (λ c. omega arith)
     part-put-sample-end
     put-sample-requires
     same-length

@@ -8,9 +8,6 @@ use mathlib.Core.Path.{_≡_, sym, ap, _∙_}
 use Rattle.read_samples.proofs.read_samples.Statement.{statement}
 use Rattle.read_samples.proofs.read_samples.Tie as tie
 
-do-fit-requires : tie.Need-do-fit-requires
-do-fit-requires c κs = tt
-
 returns : tie.Need-returns
 returns c =
     let a = c .before .before .before .before .args in
@@ -34,4 +31,4 @@ same-length c = c .before .before .put-samples .kept .1 .1 .1 .1 .0
 
 pub read-samples-spec : {M : Type 1} → statement M
 read-samples-spec =
-    tie.close (tie.spec do-fit-requires returns put-samples-requires same-length returns-2)
+    tie.close (tie.spec (λ c κs. tt) returns put-samples-requires same-length returns-2)

@@ -13,9 +13,6 @@ add-be16 c = omega (arith, c .before .before .pre, c .before .before .good .0)
 shared-slice-read-be16-2 : tie.Need-shared-slice-read-be16-2
 shared-slice-read-be16-2 c = omega (arith, c .before .before .before .pre)
 
-be16-requires : tie.Need-be16-requires
-be16-requires c κs = tt
-
 returns : tie.Need-returns
 unfolding bytesAt
 returns c = c .be16 .ensures
@@ -23,4 +20,4 @@ returns c = c .be16 .ensures
 pub word16-at-spec : {M : Type 1} → statement M
 word16-at-spec =
     tie.close
-    (tie.spec shared-slice-read-be16 add-be16 shared-slice-read-be16-2 be16-requires returns)
+    (tie.spec shared-slice-read-be16 add-be16 shared-slice-read-be16-2 (λ c κs. tt) returns)

@@ -29,9 +29,6 @@ add-be32-3 c = omega (arith, c .before .before .before .before .pre, c .before .
 shared-slice-read-be32-4 : tie.Need-shared-slice-read-be32-4
 shared-slice-read-be32-4 c = omega (arith, c .before .before .before .before .before .pre)
 
-be32-requires : tie.Need-be32-requires
-be32-requires c κs = tt
-
 returns : tie.Need-returns
 returns c =
     let a = c .before .before .before .before .before .before .args in
@@ -48,5 +45,5 @@ word32-at-spec =
     shared-slice-read-be32-3
     add-be32-3
     shared-slice-read-be32-4
-    be32-requires
+    (λ c κs. tt)
     returns)

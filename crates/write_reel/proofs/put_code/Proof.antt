@@ -17,29 +17,14 @@ use Rattle.write_reel.proofs.put_code.Tie as tie
 place : (c : tie.After-field-at) → placeNo (c .field-at .result) ≡ bytePlace 0 3225
 place c = ap placeNo (c .field-at .ensures ∙ field-place (record { 0 = 0 }) (record { 0 = 3225 }) (omega arith) (omega arith))
 
-field-at-requires : tie.Need-field-at-requires
-field-at-requires c κs = search needs
-
 cast-put16 : tie.Need-cast-put16
 cast-put16 c = omega (arith, code-limits (c .before .before .args .code) (c .before .before .pre .0))
 
 add-put16 : tie.Need-add-put16
 add-put16 c = omega (arith, place c)
 
-sub-put16 : tie.Need-sub-put16
-sub-put16 c = search needs
-
-part-put16-start : tie.Need-part-put16-start
-part-put16-start c = search needs
-
 part-put16-end : tie.Need-part-put16-end
 part-put16-end c = omega (arith, place c, c .before .before .pre .1)
-
-put16-requires : tie.Need-put16-requires
-put16-requires c κs = search needs
-
-same-length : tie.Need-same-length
-same-length c = search needs
 
 returns : tie.Need-returns
 returns c =
@@ -54,12 +39,12 @@ pub put-code-spec : {M : Type 1} → statement M
 put-code-spec =
     tie.close
     (tie.spec
-    field-at-requires
+    (λ c κs. search needs)
     cast-put16
     add-put16
-    sub-put16
-    part-put16-start
+    (λ c. search needs)
+    (λ c. search needs)
     part-put16-end
-    put16-requires
-    same-length
+    (λ c κs. search needs)
+    (λ c. search needs)
     returns)

@@ -18,63 +18,6 @@ use borrow.Author.Needs.{needs}
 use Rattle.write_reel.proofs.put_reel.Statement.{statement}
 use Rattle.write_reel.proofs.put_reel.Tie as tie
 
-sub-copy : tie.Need-sub-copy
-sub-copy c = search needs
-
-part-copy-start : tie.Need-part-copy-start
-part-copy-start c = search needs
-
-part-copy-end : tie.Need-part-copy-end
-part-copy-end c = search needs
-
-sub-copy-2 : tie.Need-sub-copy-2
-sub-copy-2 c = search needs
-
-part-copy-start-2 : tie.Need-part-copy-start-2
-part-copy-start-2 c = search needs
-
-part-copy-end-2 : tie.Need-part-copy-end-2
-part-copy-end-2 c = search needs
-
-copy-requires : tie.Need-copy-requires
-copy-requires c κs = search needs
-
-sub-put-header : tie.Need-sub-put-header
-sub-put-header c = search needs
-
-part-put-header-start : tie.Need-part-put-header-start
-part-put-header-start c = search needs
-
-part-put-header-end : tie.Need-part-put-header-end
-part-put-header-end c = search needs
-
-sub-put-header-2 : tie.Need-sub-put-header-2
-sub-put-header-2 c = search needs
-
-part-put-header-start-2 : tie.Need-part-put-header-start-2
-part-put-header-start-2 c = search needs
-
-part-put-header-end-2 : tie.Need-part-put-header-end-2
-part-put-header-end-2 c = search needs
-
-put-header-requires : tie.Need-put-header-requires
-put-header-requires c κs = search needs
-
-mul-put-traces : tie.Need-mul-put-traces
-mul-put-traces c = search needs
-
-add-put-traces : tie.Need-add-put-traces
-add-put-traces c = search needs
-
-sub-put-traces : tie.Need-sub-put-traces
-sub-put-traces c = search needs
-
-part-put-traces-start : tie.Need-part-put-traces-start
-part-put-traces-start c = search needs
-
-part-put-traces-end : tie.Need-part-put-traces-end
-part-put-traces-end c = search needs
-
 put-traces-requires : tie.Need-put-traces-requires
 put-traces-requires c κs = let s = c .before .before .before .before .before .before .before .before .before .before .before .before .before in (s .pre .0, s .pre .1, refl, s .pre .3, omega (arith, s .pre .4))
 
@@ -118,25 +61,25 @@ pub put-reel-spec : {M : Type 1} → statement M
 put-reel-spec =
     tie.close
     (tie.spec
-    sub-copy
-    part-copy-start
-    part-copy-end
-    sub-copy-2
-    part-copy-start-2
-    part-copy-end-2
-    copy-requires
-    sub-put-header
-    part-put-header-start
-    part-put-header-end
-    sub-put-header-2
-    part-put-header-start-2
-    part-put-header-end-2
-    put-header-requires
-    mul-put-traces
-    add-put-traces
-    sub-put-traces
-    part-put-traces-start
-    part-put-traces-end
+    (λ c. search needs)
+    (λ c. search needs)
+    (λ c. search needs)
+    (λ c. search needs)
+    (λ c. search needs)
+    (λ c. search needs)
+    (λ c κs. search needs)
+    (λ c. search needs)
+    (λ c. search needs)
+    (λ c. search needs)
+    (λ c. search needs)
+    (λ c. search needs)
+    (λ c. search needs)
+    (λ c κs. search needs)
+    (λ c. search needs)
+    (λ c. search needs)
+    (λ c. search needs)
+    (λ c. search needs)
+    (λ c. search needs)
     put-traces-requires
     put-code-requires
     same-length

@@ -16,51 +16,6 @@ use borrow.Author.Needs.{needs}
 use Rattle.write_reel.proofs.put_trace.Statement.{statement}
 use Rattle.write_reel.proofs.put_trace.Tie as tie
 
-add-put-header : tie.Need-add-put-header
-add-put-header c = search needs
-
-add-put-header-2 : tie.Need-add-put-header-2
-add-put-header-2 c = search needs
-
-sub-put-header : tie.Need-sub-put-header
-sub-put-header c = search needs
-
-part-put-header-start : tie.Need-part-put-header-start
-part-put-header-start c = search needs
-
-part-put-header-end : tie.Need-part-put-header-end
-part-put-header-end c = search needs
-
-sub-put-header-2 : tie.Need-sub-put-header-2
-sub-put-header-2 c = search needs
-
-part-put-header-start-2 : tie.Need-part-put-header-start-2
-part-put-header-start-2 c = search needs
-
-part-put-header-end-2 : tie.Need-part-put-header-end-2
-part-put-header-end-2 c = search needs
-
-put-header-requires : tie.Need-put-header-requires
-put-header-requires c κs = search needs
-
-add-t15 : tie.Need-add-t15
-add-t15 c = search needs
-
-sub-write-samples : tie.Need-sub-write-samples
-sub-write-samples c = search needs
-
-part-write-samples-start : tie.Need-part-write-samples-start
-part-write-samples-start c = search needs
-
-part-write-samples-end : tie.Need-part-write-samples-end
-part-write-samples-end c = search needs
-
-write-samples-requires : tie.Need-write-samples-requires
-write-samples-requires c κs = search needs
-
-same-length : tie.Need-same-length
-same-length c = search needs
-
 returns : tie.Need-returns
 unfolding reelTraceCopied
 returns c =
@@ -82,19 +37,19 @@ pub put-trace-spec : {M : Type 1} → statement M
 put-trace-spec =
     tie.close
     (tie.spec
-    add-put-header
-    add-put-header-2
-    sub-put-header
-    part-put-header-start
-    part-put-header-end
-    sub-put-header-2
-    part-put-header-start-2
-    part-put-header-end-2
-    put-header-requires
-    add-t15
-    sub-write-samples
-    part-write-samples-start
-    part-write-samples-end
-    write-samples-requires
-    same-length
+    (λ c. search needs)
+    (λ c. search needs)
+    (λ c. search needs)
+    (λ c. search needs)
+    (λ c. search needs)
+    (λ c. search needs)
+    (λ c. search needs)
+    (λ c. search needs)
+    (λ c κs. search needs)
+    (λ c. search needs)
+    (λ c. search needs)
+    (λ c. search needs)
+    (λ c. search needs)
+    (λ c κs. search needs)
+    (λ c. search needs)
     returns)

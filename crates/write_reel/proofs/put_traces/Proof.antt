@@ -30,12 +30,6 @@ loop-holds c =
 add-e : tie.Need-add-e Inv-loop μ-loop
 add-e c = omega (arith, times-more (c .before .loop .left) (c .before .before .before .before .args .w) (c .loop-test .taken), c .before .loop .inv .1, c .before .loop .inv .2)
 
-sub-put-trace : tie.Need-sub-put-trace Inv-loop μ-loop
-sub-put-trace c = omega arith
-
-part-put-trace-start : tie.Need-part-put-trace-start Inv-loop μ-loop
-part-put-trace-start c = omega arith
-
 part-put-trace-end : tie.Need-part-put-trace-end Inv-loop μ-loop
 part-put-trace-end c = omega (arith, times-more (c .before .loop .left) (c .before .before .before .before .args .w) (c .loop-test .taken), c .before .loop .inv .1, c .before .loop .inv .2)
 
@@ -82,8 +76,8 @@ put-traces-spec =
     μ-loop
     loop-holds
     add-e
-    sub-put-trace
-    part-put-trace-start
+    (λ c. omega arith)
+    (λ c. omega arith)
     part-put-trace-end
     put-trace-requires
     add-at

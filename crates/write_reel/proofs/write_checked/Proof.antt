@@ -27,9 +27,6 @@ most c = subst (λ (v : ℕ). c .before .before .before .args .t * (240 + c .bef
 size : (c : tie.After-width-of) → let a = c .before .before .before .args in 3600 + a .t * (240 + a .n * c .width-of .result) ≡ firstTrace + a .t * stride (a .n) (sampleBytes (a .code))
 size c = let a = c .before .before .before .args in ap (λ (v : ℕ). 3600 + a .t * (240 + a .n * v)) (c .width-of .ensures .0)
 
-width-of-requires : tie.Need-width-of-requires
-width-of-requires c κs = tt
-
 mul-w : tie.Need-mul-w
 mul-w c = omega (arith, wide c)
 
@@ -76,7 +73,7 @@ pub write-checked-spec : {M : Type 1} → statement M
 write-checked-spec =
     tie.close
     (tie.spec
-    width-of-requires
+    (λ c κs. tt)
     mul-w
     add-w
     mul-length

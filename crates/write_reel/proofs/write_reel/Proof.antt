@@ -6,15 +6,6 @@ use mathlib.Core.Path.{sym, _∙_}
 use Rattle.write_reel.proofs.write_reel.Statement.{statement}
 use Rattle.write_reel.proofs.write_reel.Tie as tie
 
-judge-fit-requires : tie.Need-judge-fit-requires
-judge-fit-requires c κs = tt
-
-enum-known-c : tie.Need-enum-known-c
-enum-known-c c = c .match .keys1
-
-enum-known-c-2 : tie.Need-enum-known-c-2
-enum-known-c-2 c = c .match .keys2
-
 write-checked-requires : tie.Need-write-checked-requires
 write-checked-requires c κs = sym (c .before .before .before .before .judge-fit .ensures) ∙ c .before .before .c2 .given .1
 
@@ -33,9 +24,9 @@ pub write-reel-spec : {M : Type 1} → statement M
 write-reel-spec =
     tie.close
     (tie.spec
-    judge-fit-requires
-    enum-known-c
-    enum-known-c-2
+    (λ c κs. tt)
+    (λ c. c .match .keys1)
+    (λ c. c .match .keys2)
     write-checked-requires
     returns
     same-length

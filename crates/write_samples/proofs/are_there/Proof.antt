@@ -6,16 +6,10 @@ use mathlib.Core.Path.{_≡_, sym, _∙_}
 use Rattle.write_samples.proofs.are_there.Statement.{statement}
 use Rattle.write_samples.proofs.are_there.Tie as tie
 
-is-code-requires : tie.Need-is-code-requires
-is-code-requires c κs = tt
-
 returns : tie.Need-returns
 returns c =
     let i : isCode (c .before .before .args .code) ≡ false = sym (c .before .is-code .ensures) ∙ not-true (c .before .is-code .result) (c .if1 .taken) in
     rw (i)
-
-are-within-requires : tie.Need-are-within-requires
-are-within-requires c κs = tt
 
 returns-2 : tie.Need-returns-2
 returns-2 c =
@@ -23,4 +17,4 @@ returns-2 c =
     rw (i) (c .are-within .ensures)
 
 pub are-there-spec : {M : Type 1} → statement M
-are-there-spec = tie.close (tie.spec is-code-requires returns are-within-requires returns-2)
+are-there-spec = tie.close (tie.spec (λ c κs. tt) returns (λ c κs. tt) returns-2)

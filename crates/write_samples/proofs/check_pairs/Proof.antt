@@ -43,9 +43,6 @@ loop-holds c =
       c .mantissa-at .ensures,
     )
 
-pair-of-bits-requires : tie.Need-pair-of-bits-requires Inv-loop μ-loop
-pair-of-bits-requires c κs = tt
-
 word-of-requires : tie.Need-word-of-requires Inv-loop μ-loop
 word-of-requires c κs = c .before .before .before .before .before .before .before .pre .0
 
@@ -57,21 +54,6 @@ cause c =
     let a = c .before .before .before .before .before .before .before .before .args in
     let l = c .before .before .before .loop in
     pair-cause (a .«record» .now) (a .code) (l .at) (l .e) (l .m) (c .before .pair-of-bits .result) (c .word-of .result) (c .word-of .ensures) (c .before .pair-of-bits .ensures) (l .inv .2) (l .inv .3)
-
-enum-told : tie.Need-enum-told Inv-loop μ-loop
-enum-told c = c .match .keys1
-
-enum-told-2 : tie.Need-enum-told-2 Inv-loop μ-loop
-enum-told-2 c = c .match .keys2
-
-pair-of-bits-requires-2 : tie.Need-pair-of-bits-requires-2 Inv-loop μ-loop
-pair-of-bits-requires-2 c κs = tt
-
-write-requires : tie.Need-write-requires Inv-loop μ-loop
-write-requires c κs = tt
-
-refused-requires : tie.Need-refused-requires Inv-loop μ-loop
-refused-requires c κs = tt
 
 returns-2 : tie.Need-returns-2 Inv-loop μ-loop
 returns-2 c =
@@ -115,15 +97,6 @@ loop-again c =
       c .mantissa-at2 .ensures,
     )
 
-pair-of-bits-requires-3 : tie.Need-pair-of-bits-requires-3 Inv-loop μ-loop
-pair-of-bits-requires-3 c κs = tt
-
-write-requires-2 : tie.Need-write-requires-2 Inv-loop μ-loop
-write-requires-2 c κs = tt
-
-refused-requires-2 : tie.Need-refused-requires-2 Inv-loop μ-loop
-refused-requires-2 c κs = tt
-
 returns-3 : tie.Need-returns-3 Inv-loop μ-loop
 returns-3 c =
     let a = c .before .before .before .before .before .before .before .before .before .args in
@@ -142,13 +115,13 @@ check-pairs-spec =
     exponent-at-requires
     mantissa-at-requires
     loop-holds
-    pair-of-bits-requires
+    (λ c κs. tt)
     word-of-requires
-    enum-told
-    enum-told-2
-    pair-of-bits-requires-2
-    write-requires
-    refused-requires
+    (λ c. c .match .keys1)
+    (λ c. c .match .keys2)
+    (λ c κs. tt)
+    (λ c κs. tt)
+    (λ c κs. tt)
     returns-2
     add-at
     exponent-at-requires-2
@@ -156,7 +129,7 @@ check-pairs-spec =
     sub-left
     loop-less
     loop-again
-    pair-of-bits-requires-3
-    write-requires-2
-    refused-requires-2
+    (λ c κs. tt)
+    (λ c κs. tt)
+    (λ c κs. tt)
     returns-3)

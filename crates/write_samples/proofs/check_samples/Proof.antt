@@ -11,18 +11,12 @@ use Prim.Native.Nat.{_+_, _*_, _≤_}
 use Rattle.write_samples.proofs.check_samples.Statement.{statement}
 use Rattle.write_samples.proofs.check_samples.Tie as tie
 
-is-code-requires : tie.Need-is-code-requires
-is-code-requires c κs = tt
-
 returns : tie.Need-returns
 unfolding samplesChecked
 returns c = rw (sym (c .before .is-code .ensures) ∙ not-true (c .before .is-code .result) (c .if1 .taken))
 
 code-is : (c : tie.Else1) → isCode (c .before .before .before .args .code) ≡ true
 code-is c = sym (c .before .is-code .ensures) ∙ not-false (c .before .is-code .result) (c .if1 .left)
-
-are-within-requires : tie.Need-are-within-requires
-are-within-requires c κs = tt
 
 returns-2 : tie.Need-returns-2
 unfolding samplesChecked
@@ -44,4 +38,4 @@ returns-3 c =
 pub check-samples-spec : {M : Type 1} → statement M
 check-samples-spec =
     tie.close
-    (tie.spec is-code-requires returns are-within-requires returns-2 check-pairs-requires returns-3)
+    (tie.spec (λ c κs. tt) returns (λ c κs. tt) returns-2 check-pairs-requires returns-3)

@@ -10,9 +10,6 @@ use native.Mathlib.Omega.{arith}
 use Rattle.write_samples.proofs.put_half.Statement.{statement}
 use Rattle.write_samples.proofs.put_half.Tie as tie
 
-bytes32-requires : tie.Need-bytes32-requires
-bytes32-requires c κs = tt
-
 array-read-out : tie.Need-array-read-out
 array-read-out c = lit< tt
 
@@ -35,7 +32,7 @@ pub put-half-spec : {M : Type 1} → statement M
 put-half-spec =
     tie.close
     (tie.spec
-    bytes32-requires
+    (λ c κs. tt)
     array-read-out
     slice-write-out
     array-read-out-2

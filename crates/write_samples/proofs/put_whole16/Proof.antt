@@ -49,18 +49,6 @@ loop-holds c =
 add-next : tie.Need-add-next Inv-loop μ-loop
 add-next c = omega (arith, c .before .loop .inv .1, c .before .loop .inv .2)
 
-pair-of-bits-requires : tie.Need-pair-of-bits-requires Inv-loop μ-loop
-pair-of-bits-requires c κs = tt
-
-whole16-bits-requires : tie.Need-whole16-bits-requires Inv-loop μ-loop
-whole16-bits-requires c κs = tt
-
-sub-put-half : tie.Need-sub-put-half Inv-loop μ-loop
-sub-put-half c = omega arith
-
-part-put-half-start : tie.Need-part-put-half-start Inv-loop μ-loop
-part-put-half-start c = omega arith
-
 part-put-half-end : tie.Need-part-put-half-end Inv-loop μ-loop
 part-put-half-end c = omega (arith, c .before .before .before .loop .inv .1, c .before .before .before .loop .inv .2)
 
@@ -98,20 +86,8 @@ loop-again c =
       f,
     )
 
-pair-of-bits-requires-2 : tie.Need-pair-of-bits-requires-2 Inv-loop μ-loop
-pair-of-bits-requires-2 c κs = tt
-
-whole16-bits-requires-2 : tie.Need-whole16-bits-requires-2 Inv-loop μ-loop
-whole16-bits-requires-2 c κs = tt
-
 add-put-half : tie.Need-add-put-half Inv-loop μ-loop
 add-put-half c = omega (arith, c .before .before .before .loop .inv .1, c .before .before .before .loop .inv .2)
-
-sub-put-half-2 : tie.Need-sub-put-half-2 Inv-loop μ-loop
-sub-put-half-2 c = omega arith
-
-part-put-half-start-2 : tie.Need-part-put-half-start-2 Inv-loop μ-loop
-part-put-half-start-2 c = omega arith
 
 part-put-half-end-2 : tie.Need-part-put-half-end-2 Inv-loop μ-loop
 part-put-half-end-2 c = omega (arith, c .before .before .before .loop .inv .1, c .before .before .before .loop .inv .2)
@@ -143,10 +119,10 @@ put-whole16-spec =
     mantissa-at-requires
     loop-holds
     add-next
-    pair-of-bits-requires
-    whole16-bits-requires
-    sub-put-half
-    part-put-half-start
+    (λ c κs. tt)
+    (λ c κs. tt)
+    (λ c. omega arith)
+    (λ c. omega arith)
     part-put-half-end
     put-half-requires
     add-at
@@ -155,11 +131,11 @@ put-whole16-spec =
     sub-left
     loop-less
     loop-again
-    pair-of-bits-requires-2
-    whole16-bits-requires-2
+    (λ c κs. tt)
+    (λ c κs. tt)
     add-put-half
-    sub-put-half-2
-    part-put-half-start-2
+    (λ c. omega arith)
+    (λ c. omega arith)
     part-put-half-end-2
     put-half-requires-2
     same-length

@@ -7,15 +7,6 @@ use borrow.Author.Needs.{needs}
 use Rattle.write_samples.proofs.put_word.Statement.{statement}
 use Rattle.write_samples.proofs.put_word.Tie as tie
 
-ibm-bits-requires : tie.Need-ibm-bits-requires
-ibm-bits-requires c κs = search needs
-
-put32-requires : tie.Need-put32-requires
-put32-requires c κs = search needs
-
-same-length : tie.Need-same-length
-same-length c = search needs
-
 returns : tie.Need-returns
 returns c =
     let t = c .before .before .before .before .before in
@@ -23,30 +14,12 @@ returns c =
     let is : 1 ≡ b .args .code = omega (arith, code-limits (b .args .code) (b .pre .0), t .if1 .taken) in
     pair-stored (b .args .code) 1 _ (b .args .p) (b .args .out .now) (b .pre .1) is (c .before .before .before .before .ibm-bits .ensures) (b .pre .2) (c .before .before .put32 .ensures)
 
-whole32-bits-requires : tie.Need-whole32-bits-requires
-whole32-bits-requires c κs = search needs
-
-put32-requires-2 : tie.Need-put32-requires-2
-put32-requires-2 c κs = search needs
-
-same-length-2 : tie.Need-same-length-2
-same-length-2 c = search needs
-
 returns-2 : tie.Need-returns-2
 returns-2 c =
     let t = c .before .before .before .before .before in
     let b = t .before .before .before in
     let is : 2 ≡ b .args .code = omega (arith, t .if2 .taken, t .before .if1 .left) in
     pair-stored (b .args .code) 2 _ (b .args .p) (b .args .out .now) (b .pre .1) is (c .before .before .before .before .whole32-bits .ensures) (b .pre .2) (c .before .before .put322 .ensures)
-
-gain-bits-requires : tie.Need-gain-bits-requires
-gain-bits-requires c κs = search needs
-
-put32-requires-3 : tie.Need-put32-requires-3
-put32-requires-3 c κs = search needs
-
-same-length-3 : tie.Need-same-length-3
-same-length-3 c = search needs
 
 returns-3 : tie.Need-returns-3
 returns-3 c =
@@ -59,15 +32,15 @@ pub put-word-spec : {M : Type 1} → statement M
 put-word-spec =
     tie.close
     (tie.spec
-    ibm-bits-requires
-    put32-requires
-    same-length
+    (λ c κs. search needs)
+    (λ c κs. search needs)
+    (λ c. search needs)
     returns
-    whole32-bits-requires
-    put32-requires-2
-    same-length-2
+    (λ c κs. search needs)
+    (λ c κs. search needs)
+    (λ c. search needs)
     returns-2
-    gain-bits-requires
-    put32-requires-3
-    same-length-3
+    (λ c κs. search needs)
+    (λ c κs. search needs)
+    (λ c. search needs)
     returns-3)

@@ -53,15 +53,6 @@ loop-holds c =
 add-next : tie.Need-add-next Inv-loop μ-loop
 add-next c = omega (arith, c .before .loop .inv .1, c .before .loop .inv .2)
 
-pair-of-bits-requires : tie.Need-pair-of-bits-requires Inv-loop μ-loop
-pair-of-bits-requires c κs = tt
-
-sub-put-word : tie.Need-sub-put-word Inv-loop μ-loop
-sub-put-word c = omega arith
-
-part-put-word-start : tie.Need-part-put-word-start Inv-loop μ-loop
-part-put-word-start c = omega arith
-
 part-put-word-end : tie.Need-part-put-word-end Inv-loop μ-loop
 part-put-word-end c = omega (arith, c .before .before .loop .inv .1, c .before .before .loop .inv .2)
 
@@ -110,29 +101,11 @@ loop-again c =
       f,
     )
 
-pair-of-bits-requires-2 : tie.Need-pair-of-bits-requires-2 Inv-loop μ-loop
-pair-of-bits-requires-2 c κs = tt
-
-write-requires : tie.Need-write-requires Inv-loop μ-loop
-write-requires c κs = tt
-
-bits-of-requires : tie.Need-bits-of-requires Inv-loop μ-loop
-bits-of-requires c κs = tt
-
 add-put32 : tie.Need-add-put32 Inv-loop μ-loop
 add-put32 c = omega (arith, c .before .before .before .before .loop .inv .1, c .before .before .before .before .loop .inv .2)
 
-sub-put32 : tie.Need-sub-put32 Inv-loop μ-loop
-sub-put32 c = omega arith
-
-part-put32-start : tie.Need-part-put32-start Inv-loop μ-loop
-part-put32-start c = omega arith
-
 part-put32-end : tie.Need-part-put32-end Inv-loop μ-loop
 part-put32-end c = omega (arith, c .before .before .before .before .loop .inv .1, c .before .before .before .before .loop .inv .2)
-
-put32-requires : tie.Need-put32-requires Inv-loop μ-loop
-put32-requires c κs = tt
 
 returns-2 : tie.Need-returns-2 Inv-loop μ-loop
 unfolding sampleWords
@@ -164,9 +137,9 @@ put-words-spec =
     mantissa-at-requires
     loop-holds
     add-next
-    pair-of-bits-requires
-    sub-put-word
-    part-put-word-start
+    (λ c κs. tt)
+    (λ c. omega arith)
+    (λ c. omega arith)
     part-put-word-end
     put-word-requires
     add-at
@@ -175,13 +148,13 @@ put-words-spec =
     sub-left
     loop-less
     loop-again
-    pair-of-bits-requires-2
-    write-requires
-    bits-of-requires
+    (λ c κs. tt)
+    (λ c κs. tt)
+    (λ c κs. tt)
     add-put32
-    sub-put32
-    part-put32-start
+    (λ c. omega arith)
+    (λ c. omega arith)
     part-put32-end
-    put32-requires
+    (λ c κs. tt)
     same-length
     returns-2)

@@ -5,17 +5,8 @@ use borrow.Author.Needs.{needs}
 use Rattle.write_samples.proofs.refused.Statement.{statement}
 use Rattle.write_samples.proofs.refused.Tie as tie
 
-enum-told : tie.Need-enum-told
-enum-told c = c .match .keys1
-
-enum-known-word : tie.Need-enum-known-word
-enum-known-word c = c .match .keys2
-
-returns : tie.Need-returns
-returns c = search needs
-
 returns-2 : tie.Need-returns-2
 returns-2 c = ap (λ w. pairRefused w (c .before .before .before .args .at)) (sym (c .before .word .given .1))
 
 pub refused-spec : {M : Type 1} → statement M
-refused-spec = tie.close (tie.spec enum-told enum-known-word returns returns-2)
+refused-spec = tie.close (tie.spec (λ c. c .match .keys1) (λ c. c .match .keys2) (λ c. search needs) returns-2)

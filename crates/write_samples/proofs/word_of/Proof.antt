@@ -7,17 +7,11 @@ use native.Mathlib.Omega.{arith}
 use Rattle.write_samples.proofs.word_of.Statement.{statement}
 use Rattle.write_samples.proofs.word_of.Tie as tie
 
-ibm-word-requires : tie.Need-ibm-word-requires
-ibm-word-requires c κs = tt
-
 returns : tie.Need-returns
 returns c =
     let b = c .before .before in
     let one : 1 ≡ b .args .code = omega (arith, code-limits (b .args .code) (b .pre), c .before .if1 .taken) in
     c .ibm-word .ensures ∙ ap (λ (k : ℕ). writePair k (b .args .p)) one
-
-whole32-word-requires : tie.Need-whole32-word-requires
-whole32-word-requires c κs = tt
 
 returns-2 : tie.Need-returns-2
 returns-2 c =
@@ -25,17 +19,11 @@ returns-2 c =
     let two : 2 ≡ b .args .code = omega (arith, c .before .if2 .taken, c .before .before .if1 .left) in
     c .whole32-word .ensures ∙ ap (λ (k : ℕ). writePair k (b .args .p)) two
 
-whole16-word-requires : tie.Need-whole16-word-requires
-whole16-word-requires c κs = tt
-
 returns-3 : tie.Need-returns-3
 returns-3 c =
     let b = c .before .before .before .before in
     let three : 3 ≡ b .args .code = omega (arith, c .before .if3 .taken, c .before .before .if2 .left) in
     c .whole16-word .ensures ∙ ap (λ (k : ℕ). writePair k (b .args .p)) three
-
-gain-word-requires : tie.Need-gain-word-requires
-gain-word-requires c κs = tt
 
 returns-4 : tie.Need-returns-4
 returns-4 c =
@@ -47,11 +35,11 @@ pub word-of-spec : {M : Type 1} → statement M
 word-of-spec =
     tie.close
     (tie.spec
-    ibm-word-requires
+    (λ c κs. tt)
     returns
-    whole32-word-requires
+    (λ c κs. tt)
     returns-2
-    whole16-word-requires
+    (λ c κs. tt)
     returns-3
-    gain-word-requires
+    (λ c κs. tt)
     returns-4)

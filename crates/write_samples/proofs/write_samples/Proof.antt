@@ -11,9 +11,6 @@ use mathlib.Core.Path.{_≡_, sym, ap, _∙_}
 use Rattle.write_samples.proofs.write_samples.Statement.{statement}
 use Rattle.write_samples.proofs.write_samples.Tie as tie
 
-are-there-requires : tie.Need-are-there-requires
-are-there-requires c κs = tt
-
 returns : tie.Need-returns
 returns c =
     let a = c .before .before .before .before .args in
@@ -21,12 +18,6 @@ returns c =
 
 are : (c : tie.Else1) → let a = c .before .before .before .before .args in pairsThere (a .«record» .now) (a .code) (a .n) (a .start .0) ≡ true
 are c = sym (c .before .are-there .ensures) ∙ not-false (c .before .are-there .result) (c .if1 .left)
-
-width-of-requires : tie.Need-width-of-requires
-width-of-requires c κs = tt
-
-make-up-requires : tie.Need-make-up-requires
-make-up-requires c κs = tt
 
 returns-2 : tie.Need-returns-2
 returns-2 c =
@@ -58,4 +49,4 @@ same-length c = c .before .before .put-samples .kept .1 .1 .1 .1 .0
 pub write-samples-spec : {M : Type 1} → statement M
 write-samples-spec =
     tie.close
-    (tie.spec are-there-requires returns width-of-requires make-up-requires returns-2 put-samples-requires same-length returns-3)
+    (tie.spec (λ c κs. tt) returns (λ c κs. tt) (λ c κs. tt) returns-2 put-samples-requires same-length returns-3)
