@@ -63,18 +63,18 @@ use Rattle.reel.specs.Causes.{traceCauses, behindCauses, causesOf}
 use Rattle.record.specs.Record.{reelRecord}
 use Rattle.record.specs.Held.{heldBy}
 use Rattle.fit.specs.Target.{isUnfit, targetCauses}
-use Rattle.read_reel.specs.Reading.{recordLengthOf, readCauses, readEnd, readOutcome}
+use Rattle.read_reel.specs.Reading.{recordLengthOf, readNumbers, readCauses, readEnd, readOutcome}
 use Rattle.write_reel.specs.Reel.{reelOf}
-use Rattle.write_reel.specs.Writing.{reelLengthOf, writeCauses, writeEnd, writeOutcome}
-use Rattle.look_up.specs.LookUp.{Found, found, none, isNone, fieldIn, fieldAt, foundNumber, fieldCauses, lookUpCauses, numberSaid, lookUpOutcome}
+use Rattle.write_reel.specs.Writing.{reelLengthOf, writtenNumbers, writeCauses, writeEnd, writeOutcome}
+use Rattle.look_up.specs.LookUp.{Found, found, none, isNone, fieldIn, headerFields, fieldAt, foundNumber, fieldCauses, lookUpCauses, numberSaid, lookUpOutcome}
 use Rattle.reel_theorems.proofs.Refusals.{exact-causes, no-cause}
 use Rattle.reel_theorems.proofs.Same.{record-size}
 use Rattle.demands.proofs.Fitting.{fits-is}
 use Rattle.demands.proofs.WriteRefusals.{exact-writing}
 use Rattle.demands.proofs.WrittenSize.{reel-size}
 use Rattle.demands.specs.Words.{HasWord}
-use Rattle.demands.specs.Tables.{WriteRow, ReadRow, LookUpRow, no-trace, no-field, headerFields, WordRow, bad-code, bad-gain, PairRow}
-use Rattle.demands.specs.Results.{readNumbers, writtenNumbers, example, LookedUp}
+use Rattle.demands.specs.Tables.{WriteRow, ReadRow, LookUpRow, no-trace, no-field, WordRow, bad-code, bad-gain, PairRow}
+use Rattle.demands.specs.Results.{example, LookedUp}
 
 -- ## Reading a reel
 

@@ -18,18 +18,14 @@ use Rattle.reel.specs.Meaning.{blank, otherThan, meaningOf, MeanTheSame}
 use Rattle.record.specs.Record.{recordOf, reelRecord}
 use Rattle.record.specs.Form.{heldSamples, heldCount, formCauses}
 use Rattle.record.specs.Held.{heldBy}
-use Rattle.read_reel.specs.Reading.{recordLengthOf, readOutcome}
+use Rattle.read_reel.specs.Reading.{readOutcome}
 use Rattle.write_reel.specs.Reel.{reelOf}
-use Rattle.write_reel.specs.Writing.{reelLengthOf, writeOutcome}
+use Rattle.write_reel.specs.Writing.{writeOutcome}
 use Rattle.look_up.specs.LookUp.{found, fieldAt, headerNumber}
 use Rattle.reel_theorems.specs.ReelTable.{sampleAt}
 use Rattle.demands.specs.Words.{Worded}
 
 -- ## Reading a reel
-
--- The numbers that reading returns: T, N and the record's length, 3273 + T × (186 + 6N).
-abbrev pub readNumbers : List ℕ → List ℕ
-readNumbers s = tracesOf s ∷ samplesOf s ∷ recordLengthOf s ∷ []
 
 -- What reading a reel gives, where it returns t, n and the length l.
 pub record RecordRead (s out : List ℕ) (t n l : ℕ) : Type 0 where
@@ -79,10 +75,6 @@ example =
     ++ (0x41 ∷ 0x10 ∷ 0 ∷ 0 ∷ 0xC2 ∷ 0x76 ∷ 0xA0 ∷ 0 ∷ [])))))
 
 -- ## Writing a record
-
--- The numbers that writing returns: T and N as the record holds them, and the reel's length, 3600 + T × (240 + N × the bytes of a sample).
-abbrev pub writtenNumbers : List ℕ → ℕ → List ℕ
-writtenNumbers r code = heldCount r (heldSamples r) ∷ heldSamples r ∷ reelLengthOf r code ∷ []
 
 -- What it takes to write a record: the code is from 1 to 4, it holds every sample exactly, and the output is long enough.
 pub record CanBeWritten (r : List ℕ) (code : ℕ) (out : List ℕ) : Type 0 where

@@ -4,19 +4,19 @@ use mathlib.Core.Path.{_≡_}
 use mathlib.Core.List.{List}
 use mathlib.Core.Bool.{true}
 use Prim.Native.Nat.{ℕ, _+_, _*_, _≤_, _<_}
-use lib.Dec.{eqb}
 use lib.ListN.{length, getD}
-use Rattle.numbers.specs.Walk.{pick, bytesAt}
+use Rattle.numbers.specs.Walk.{bytesAt}
 use Rattle.numbers.specs.Places.{byteNo}
 use Rattle.numbers.specs.BigEndian.{number}
 use Rattle.numbers.specs.Terms.{All, Between}
 use Rattle.numbers.specs.declared.ByteNo.{ByteNo}
 use Rattle.value.specs.Pair.{valueOf, isCanonical, pairIn}
-use Rattle.reel.specs.Layout.{Field, binaryFields, traceFields, number16, tracesOf}
+use Rattle.reel.specs.Layout.{number16, tracesOf}
 use Rattle.record.specs.Form.{heldInterval, heldSamples, heldCode}
 use Rattle.record.specs.Held.{heldValue}
 use Rattle.read_reel.specs.Reading.{recordLengthOf}
 use Rattle.write_reel.specs.Reel.{reelLength}
+use Rattle.look_up.specs.LookUp.{headerFields}
 use Rattle.reel_theorems.specs.ReelTable.{Row}
 use Rattle.demands.specs.ValidRecord.{Stands, CanonicalAt, tracePlace, headerPlace, pairPlace, CardsRight, HeaderRight, TraceNext, EndNext, RecordRight}
 use Rattle.demands.specs.Words.{HasWord}
@@ -116,10 +116,6 @@ pub data PairRow (code : ℕ) (b : List ℕ) : ℕ → ℕ → Type 0 where
   unfit : Between 1 4 code → isCanonical (pairIn b) ≡ true → ¬ (HasWord code (valueOf (pairIn b))) → PairRow code b 14 0
 
 -- ## Looking up a field
-
--- The assigned fields of header k: of the binary header for 0, of a trace's from 1 on.
-abbrev pub headerFields : ℕ → List Field
-headerFields k = pick (eqb k 0) binaryFields traceFields
 
 -- No assigned field of header k begins at byte number b.
 abbrev pub NoField : ℕ → ByteNo → Type 0
