@@ -28,12 +28,12 @@ use mathlib.Core.Path.{_≡_, refl, sym, ap, _∙_, subst}
 use mathlib.Core.List.{List, [], _∷_}
 use mathlib.Core.Logic.{_⊎_}
 use mathlib.Core.Bool.{Bool, true, false, not}
-use Prim.Native.Nat.{ℕ, _^_, _≤_}
+use Prim.Native.Nat.{ℕ, _≤_}
 use native.Mathlib.Omega.{arith}
 use borrow.Author.Tests.{le-leb, eq-eqb, ne-eqb, eqb-true, eqb-false, not-true}
 use lib.Dec.{leb, ltb, eqb}
 use lib.ListN.{length, getD, drop, replicate}
-use lib.IntN.{ℤ, pos}
+use lib.IntN.{pos}
 use Rattle.numbers.specs.Walk.{pick, bytesAt}
 use Rattle.numbers.specs.Cause.{refuseIf, then}
 use Rattle.numbers.specs.Outcome.{Said, taken, refused}
@@ -47,7 +47,7 @@ use Rattle.numbers.proofs.CauseLaws.{passed, then-fine, at-most}
 use Rattle.numbers.proofs.BoolLaws.{and-true, and-both}
 use Rattle.numbers.proofs.RowLaws.{Tests, apart, refused-where, row-where, then-row, then-first, then-second, test-between, test-room, test-by, not-enough, too-short, test-flag, not-no, fine-then, refused-then, row-then, no-row}
 use Rattle.numbers.proofs.SaidLaws.{not-taken, iff-trans, says-refused, says-fine, says-either, refused-by, taken-by, keeps-rest}
-use Rattle.value.specs.Value.{denominatorPower, isCode, exactValue}
+use Rattle.value.specs.Value.{isCode, exactValue}
 use Rattle.value.specs.Pair.{valueOf, isCanonical, pairIn}
 use Rattle.value.specs.Writing.{wordOf, writePair}
 use Rattle.value.proofs.WrittenLaws.{Only14, only-14}

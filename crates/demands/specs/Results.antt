@@ -55,7 +55,8 @@ abbrev pub sampleValue : List ℕ → ℕ → ℕ → ℤ
 sampleValue s k j = exactValue (codeOf s) (bytesAt s (sampleAt s k j) 4)
 
 -- Two reels agree number by number: each card byte, with 40 for a 00; each binary field but the format code; T; each field of each trace
--- header, with 115 and 117 filled in (header k + 1 is that of trace k, counted from 0); and each sample's exact value.
+-- header, with 115 and 117 filled in (header k + 1 is that of trace k, counted from 0); and each sample's exact value. N is
+-- one of the binary fields, so the traces of both have as many samples.
 pub record Agree (s₁ s₂ : List ℕ) : Type 0 where
   pub cards : (j : ℕ) → j < cardBytes → blank (getD s₁ j 0) ≡ blank (getD s₂ j 0)
   pub binary : All (λ f. fieldNumber s₁ 0 f ≡ fieldNumber s₂ 0 f) (otherThan 3225 binaryFields)
