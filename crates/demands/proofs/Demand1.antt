@@ -17,7 +17,8 @@
 -- - `look_up`: lookedUp answer ≡ lookUpOutcome reel (trace number) (byte number)
 -- - `read_word`: wordRead answer ≡ wordOutcome code word, for a single word
 -- - `write_pair`: pairWritten answer ≡ pairOutcome code pair, for a single pair
--- - the program prints what reading into 65,536 bytes says: `programLine` of the crate `line`
+-- - `program_line`, of `line`: the line is `programLine input (output before)`. That `main` reads its input, lends 65,536 bytes and prints
+--   this line is tested, not proved.
 --
 -- The rows of each call are in `specs/Tables`, those of 1 to 9 in `ReelTable` of `reel_theorems`. Over each theorem stands the clause that
 -- it answers, in the user's words; where it is a sentence of document 01, that is said. Beside each, here and in the files on the other
@@ -27,12 +28,12 @@ use mathlib.Core.Path.{_≡_, refl, sym, ap, _∙_, subst}
 use mathlib.Core.List.{List, [], _∷_}
 use mathlib.Core.Logic.{_⊎_}
 use mathlib.Core.Bool.{Bool, true, false, not}
-use Prim.Native.Nat.{ℕ, _^_, _≤_}
+use Prim.Native.Nat.{ℕ, _≤_}
 use native.Mathlib.Omega.{arith}
 use borrow.Author.Tests.{le-leb, eq-eqb, ne-eqb, eqb-true, eqb-false, not-true}
 use lib.Dec.{leb, ltb, eqb}
 use lib.ListN.{length, getD, drop, replicate}
-use lib.IntN.{ℤ, pos}
+use lib.IntN.{pos}
 use Rattle.numbers.specs.Walk.{pick, bytesAt}
 use Rattle.numbers.specs.Cause.{refuseIf, then}
 use Rattle.numbers.specs.Outcome.{Said, taken, refused}
@@ -46,7 +47,7 @@ use Rattle.numbers.proofs.CauseLaws.{passed, then-fine, at-most}
 use Rattle.numbers.proofs.BoolLaws.{and-true, and-both}
 use Rattle.numbers.proofs.RowLaws.{Tests, apart, refused-where, row-where, then-row, then-first, then-second, test-between, test-room, test-by, not-enough, too-short, test-flag, not-no, fine-then, refused-then, row-then, no-row}
 use Rattle.numbers.proofs.SaidLaws.{not-taken, iff-trans, says-refused, says-fine, says-either, refused-by, taken-by, keeps-rest}
-use Rattle.value.specs.Value.{denominatorPower, isCode, exactValue}
+use Rattle.value.specs.Value.{isCode, exactValue}
 use Rattle.value.specs.Pair.{valueOf, isCanonical, pairIn}
 use Rattle.value.specs.Writing.{wordOf, writePair}
 use Rattle.value.proofs.WrittenLaws.{Only14, only-14}
@@ -62,18 +63,18 @@ use Rattle.reel.specs.Causes.{traceCauses, behindCauses, causesOf}
 use Rattle.record.specs.Record.{reelRecord}
 use Rattle.record.specs.Held.{heldBy}
 use Rattle.fit.specs.Target.{isUnfit, targetCauses}
-use Rattle.read_reel.specs.Reading.{recordLengthOf, readCauses, readEnd, readOutcome}
+use Rattle.read_reel.specs.Reading.{recordLengthOf, readNumbers, readCauses, readEnd, readOutcome}
 use Rattle.write_reel.specs.Reel.{reelOf}
-use Rattle.write_reel.specs.Writing.{reelLengthOf, writeCauses, writeEnd, writeOutcome}
-use Rattle.look_up.specs.LookUp.{Found, found, none, isNone, fieldIn, fieldAt, foundNumber, fieldCauses, lookUpCauses, numberSaid, lookUpOutcome}
+use Rattle.write_reel.specs.Writing.{reelLengthOf, writtenNumbers, writeCauses, writeEnd, writeOutcome}
+use Rattle.look_up.specs.LookUp.{Found, found, none, isNone, fieldIn, headerFields, fieldAt, foundNumber, fieldCauses, lookUpCauses, numberSaid, lookUpOutcome}
 use Rattle.reel_theorems.proofs.Refusals.{exact-causes, no-cause}
 use Rattle.reel_theorems.proofs.Same.{record-size}
 use Rattle.demands.proofs.Fitting.{fits-is}
 use Rattle.demands.proofs.WriteRefusals.{exact-writing}
 use Rattle.demands.proofs.WrittenSize.{reel-size}
 use Rattle.demands.specs.Words.{HasWord}
-use Rattle.demands.specs.Tables.{WriteRow, ReadRow, LookUpRow, no-trace, no-field, headerFields, WordRow, bad-code, bad-gain, PairRow}
-use Rattle.demands.specs.Results.{readNumbers, writtenNumbers, example, LookedUp}
+use Rattle.demands.specs.Tables.{WriteRow, ReadRow, LookUpRow, no-trace, no-field, WordRow, bad-code, bad-gain, PairRow}
+use Rattle.demands.specs.Results.{example, LookedUp}
 
 -- ## Reading a reel
 
@@ -186,7 +187,8 @@ module _ (r : List ℕ) (code : ℕ) (out : List ℕ) where
       ap (λ (c : Check). writeEnd r code out c .bytes)
       (says-refused writeSays (writtenNumbers r code) refl (λ n p. refl) writeChecks number place .0 e)
 
-  -- THEOREM. A taken call leaves the output's length, and each byte behind the length returned, as they were.
+  -- THEOREM. A taken call leaves the output's length, and each byte behind the length returned, as they were; document 01: "The rest of a
+  -- longer output buffer keeps its content."
   -- Alone it rules out none of the list.
   pub write-rest : (t n l : ℕ) → writeOutcome r code out .said ≡ taken (t ∷ n ∷ l ∷ [])
       → (length (writeOutcome r code out .bytes) ≡ length out) × (drop l (writeOutcome r code out .bytes) ≡ drop l out)
@@ -379,7 +381,7 @@ module _ (code : ℕ) (w : List ℕ) where
   pub word-taken : Iff (calls.wordOutcome code w .said ≡ taken []) ((number place : ℕ) → ¬ (WordRow code w number place))
   word-taken = single-taken (calls.wordOutcome code w .said) wordChecks word-says (WordRow code w) word-exact
 
-  -- THEOREM. "the place is 0 and the bytes handed out are all 00": the six of a word that is refused.
+  -- THEOREM. Document 01: "the place is 0 and the bytes handed out are all 00": the six of a word that is refused.
   -- Alone it rules out none of the list.
   pub word-zero : (number place : ℕ) → calls.wordOutcome code w .said ≡ refused number place → calls.wordOutcome code w .bytes ≡ 0 ∷ 0 ∷ 0 ∷ 0 ∷ 0 ∷ 0 ∷ []
   word-zero number place e = go (readWord code w) e
@@ -452,7 +454,7 @@ module _ (code : ℕ) (b : List ℕ) where
   pub pair-taken : Iff (calls.pairOutcome code b .said ≡ taken []) ((number place : ℕ) → ¬ (PairRow code b number place))
   pair-taken = single-taken (calls.pairOutcome code b .said) pairChecks pair-says (PairRow code b) pair-exact
 
-  -- THEOREM. "the place is 0 and the bytes handed out are all 00": the four of a pair that is refused.
+  -- THEOREM. Document 01: "the place is 0 and the bytes handed out are all 00": the four of a pair that is refused.
   -- Alone it rules out none of the list.
   pub pair-zero : (number place : ℕ) → calls.pairOutcome code b .said ≡ refused number place → calls.pairOutcome code b .bytes ≡ 0 ∷ 0 ∷ 0 ∷ 0 ∷ []
   pair-zero number place e = go (writePair code (pairIn b)) e

@@ -14,7 +14,8 @@
 --
 -- - `records-equal`: where the readings of two reels are taken, each in any code and each into any output, the two records are equal
 --   exactly when the reels mean the same.
--- - `sixteen`, `by-sample`: values are compared V by V, whole numbers over 16^70.
+-- - `by-number`, `by-sample`: that is, when they agree card byte by card byte, header field by header field, in T and sample by sample;
+--   `sixteen`: sample values are compared V by V, whole numbers over 16^70.
 -- - `cards-alike`, `own-alike`: the spellings taken as one, and no others.
 -- - `reel-again`: where the reading of a reel is taken, and the writing of its record under any code is taken, the writing returns the same
 --   T and N and the length of such a reel; no cause of 1 to 9 applies to the reel that was written, it is in that code, it means the same
@@ -26,7 +27,7 @@
 --
 -- Each byte of a reel is below 256; nothing else is assumed.
 use mathlib.Core.Path.{_≡_, refl, sym, ap, ap₂, _∙_, subst}
-use mathlib.Core.List.{List, [], _∷_, _++_, map}
+use mathlib.Core.List.{List, [], _∷_, _++_}
 use mathlib.Core.Bool.{true, Bool, false}
 use mathlib.Core.Logic.{_⊎_, inl, inr, ⊎-elim}
 use Prim.Native.Nat.{ℕ, _+_, _-_, _*_, _^_, _≤_, _<_, suc}
@@ -36,13 +37,13 @@ use borrow.Author.Tests.{le-leb, eqb-true}
 use lib.ListN.{length, take, drop}
 use lib.IntN.{ℤ, pos, negsuc, natAbs}
 use lib.Dec.{eqb}
-use Rattle.numbers.specs.Walk.{walk, bytesAt, pick}
+use Rattle.numbers.specs.Walk.{bytesAt, pick}
 use Rattle.numbers.specs.Cause.{refuseIf}
 use Rattle.numbers.specs.Outcome.{taken, Outcome}
 use Rattle.numbers.specs.declared.Check.the-variants.{Fine}
 use Rattle.numbers.specs.Terms.{All, Bytes, ZeroOr}
 use Rattle.numbers.specs.Iff.{Iff}
-use Rattle.numbers.proofs.WalkLaws.{cons-eq, size-bytes, walk-each, map-walk}
+use Rattle.numbers.proofs.WalkLaws.{cons-eq, size-bytes}
 use Rattle.numbers.proofs.ByteLaws.{bytes-at}
 use Rattle.numbers.proofs.CauseLaws.{passed, then-fine, first-all}
 use Rattle.value.specs.Value.{denominatorPower, isCode, exactValue}
@@ -56,11 +57,12 @@ use Rattle.write_reel.specs.Reel.{reelLength}
 use Rattle.write_reel.specs.Writing.{writeOutcome}
 use Rattle.reel_theorems.proofs.Same.{same-records}
 use Rattle.reel_theorems.proofs.Output.{taken-reel, same-outputs}
+use Rattle.demands.proofs.ByNumber.{means-agree, agree-means}
 use Rattle.demands.proofs.Taken.{written-needs, needs, write-taken, written-bytes, written-no-cause, written-code, written-record}
 use Rattle.demands.proofs.Demand2.{reading, written, read-back}
 use Rattle.demands.proofs.Determined.{read-valid}
 use Rattle.demands.specs.Words.{HasWord, Worded}
-use Rattle.demands.specs.Results.{sampleValue, ReelAgain, OwnCode}
+use Rattle.demands.specs.Results.{sampleValue, Agree, ReelAgain, OwnCode}
 
 -- ## Two reels
 
@@ -74,31 +76,23 @@ pub records-equal : (s₁ s₂ out₁ out₂ : List ℕ) (t₁ n₁ l₁ t₂ n�
     → Iff (take l₁ (readOutcome s₁ out₁ .bytes) ≡ take l₂ (readOutcome s₂ out₂ .bytes)) (MeanTheSame s₁ s₂)
 records-equal = same-outputs
 
--- ## Sample by sample
+-- ## Number by number
 
 -- THEOREM. "a whole number over 16 to the power 70": the denominator of every exact value. Alone it rules out none of the list.
 pub sixteen : 2 ^ denominatorPower ≡ 16 ^ 70
 sixteen = refl
 
--- The values of the trace at a place.
-traceValues : List ℕ → ℕ → List ℤ
-traceValues s at = walk (λ p. exactValue (codeOf s) (bytesAt s p 4)) (sampleBytes (codeOf s)) (samplesOf s) (at + traceHeader)
-
--- They are those that the reel means, trace by trace.
-all-values : (s : List ℕ) → map (λ (t : Trace). t .values) (meaningOf s .traces) ≡ walk (traceValues s) (strideOf s) (tracesOf s) firstTrace
-unfolding meaningOf traceMeaning traceValues
-all-values s = map-walk (λ (t : Trace). t .values) (traceMeaning s (codeOf s) (samplesOf s) (intervalOf s)) (strideOf s) (tracesOf s) firstTrace
-
 -- THEOREM. "They mean the same when they have the same card text, the same number in every assigned header field but the sample format
--- code, the same count of traces, and sample by sample the same exact value, a whole number over 16 to the power 70." That is
--- `MeanTheSame`, field by field; so where two reels mean the same, sample j of trace k has the same exact value in both.
+-- code, the same count of traces, and sample by sample the same exact value, a whole number over 16 to the power 70." They mean the same
+-- exactly when they agree number by number, `Agree`.
+-- Alone it rules out none of the list: it spells out what `records-equal` compares.
+pub by-number : (s₁ s₂ : List ℕ) → Bytes s₁ → Bytes s₂ → Iff (MeanTheSame s₁ s₂) (Agree s₁ s₂)
+by-number s₁ s₂ b₁ b₂ = (means-agree s₁ s₂, agree-means s₁ s₂ b₁ b₂)
+
+-- THEOREM. "sample by sample the same exact value": where two reels mean the same, sample j of trace k has the same exact value in both.
 -- Alone it rules out none of the list: it spells out what `records-equal` compares.
 pub by-sample : (s₁ s₂ : List ℕ) → MeanTheSame s₁ s₂ → (k j : ℕ) → k < tracesOf s₁ → j < samplesOf s₁ → sampleValue s₁ k j ≡ sampleValue s₂ k j
-unfolding traceValues
-by-sample s₁ s₂ m k j l h =
-    let e = sym (all-values s₁) ∙ m .values ∙ all-values s₂ in
-    let t = walk-each (traceValues s₁) (traceValues s₂) (strideOf s₁) (strideOf s₂) (tracesOf s₁) (tracesOf s₂) firstTrace firstTrace e k l in
-    walk-each _ _ (sampleBytes (codeOf s₁)) (sampleBytes (codeOf s₂)) (samplesOf s₁) (samplesOf s₂) _ _ t j h
+by-sample s₁ s₂ m = means-agree s₁ s₂ m .values
 
 -- ## The spellings taken as one
 

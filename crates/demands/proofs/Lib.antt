@@ -12,6 +12,7 @@ pub mod WrittenSize
 pub mod Taken
 pub mod FormRefusals
 pub mod WriteRefusals
+pub mod ByNumber
 pub mod Demand1
 pub mod Demand2
 pub mod Demand3

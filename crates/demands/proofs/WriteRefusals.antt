@@ -163,7 +163,7 @@ exact-writing s code room number place = (to-row s code room, from-row s code ro
 pub no-writing-cause : (s : List ℕ) (code room : ℕ) → Iff (writeCauses s code room ≡ Fine) ((number place : ℕ) → ¬ (WriteRow s code room number place))
 no-writing-cause s code room = fine-none (WriteRow s code room) (writeCauses s code room) (exact-writing s code room)
 
--- LAW. Where 100,000 traces stand and are right, and trace 100,001 follows them, writing is refused by 12 at the place of its tag.
+-- THEOREM. Where 100,000 traces stand and are right, and trace 100,001 follows them, writing is refused by 12 at the place of its tag.
 pub trace-beyond : (s : List ℕ) (code room : ℕ) → Between 1 4 code → RightUntil s 100000 → getD s (tracePlace s 100000) 0 ≡ 3
     → writeCauses s code room ≡ Refused 12 (atPlace (tracePlace s 100000))
 trace-beyond s code room g h tag =

@@ -2,34 +2,30 @@
 use mathlib.Core.Path.{_≡_}
 use mathlib.Core.List.{List, [], _∷_, _++_}
 use mathlib.Core.Bool.{true}
-use Prim.Native.Nat.{ℕ, _+_, _*_, _≤_}
-use lib.ListN.{length, take, drop, replicate}
+use Prim.Native.Nat.{ℕ, suc, _+_, _*_, _≤_, _<_}
+use lib.ListN.{length, getD, take, drop, replicate}
 use lib.IntN.{ℤ}
 use Rattle.numbers.specs.Walk.{bytesAt}
 use Rattle.numbers.specs.Places.{byteNo}
 use Rattle.numbers.specs.Outcome.{taken}
-use Rattle.numbers.specs.Terms.{Bytes}
+use Rattle.numbers.specs.Terms.{All, Bytes}
 use Rattle.numbers.specs.declared.ByteNo.{ByteNo}
 use Rattle.numbers.specs.declared.Check.the-variants.{Fine}
 use Rattle.value.specs.Value.{isCode, exactValue}
-use Rattle.reel.specs.Layout.{Field, samplesOf, codeOf, sampleBytes, tracesOf}
+use Rattle.reel.specs.Layout.{Field, cardBytes, binaryFields, traceFields, fieldNumber, samplesOf, codeOf, sampleBytes, tracesOf}
 use Rattle.reel.specs.Causes.{causesOf}
-use Rattle.reel.specs.Meaning.{meaningOf, MeanTheSame}
+use Rattle.reel.specs.Meaning.{blank, otherThan, meaningOf, MeanTheSame}
 use Rattle.record.specs.Record.{recordOf, reelRecord}
 use Rattle.record.specs.Form.{heldSamples, heldCount, formCauses}
 use Rattle.record.specs.Held.{heldBy}
-use Rattle.read_reel.specs.Reading.{recordLengthOf, readOutcome}
+use Rattle.read_reel.specs.Reading.{readOutcome}
 use Rattle.write_reel.specs.Reel.{reelOf}
-use Rattle.write_reel.specs.Writing.{reelLengthOf, writeOutcome}
+use Rattle.write_reel.specs.Writing.{writeOutcome}
 use Rattle.look_up.specs.LookUp.{found, fieldAt, headerNumber}
 use Rattle.reel_theorems.specs.ReelTable.{sampleAt}
 use Rattle.demands.specs.Words.{Worded}
 
 -- ## Reading a reel
-
--- The numbers that reading returns: T, N and the record's length, 3273 + T × (186 + 6N).
-abbrev pub readNumbers : List ℕ → List ℕ
-readNumbers s = tracesOf s ∷ samplesOf s ∷ recordLengthOf s ∷ []
 
 -- What reading a reel gives, where it returns t, n and the length l.
 pub record RecordRead (s out : List ℕ) (t n l : ℕ) : Type 0 where
@@ -58,6 +54,16 @@ pub record RecordHolds (s : List ℕ) (t n : ℕ) (r : List ℕ) : Type 0 where
 abbrev pub sampleValue : List ℕ → ℕ → ℕ → ℤ
 sampleValue s k j = exactValue (codeOf s) (bytesAt s (sampleAt s k j) 4)
 
+-- Two reels agree number by number: each card byte, with 40 for a 00; each binary field but the format code; T; each field of each trace
+-- header, with 115 and 117 filled in (header k + 1 is that of trace k, counted from 0); and each sample's exact value. N is
+-- one of the binary fields, so the traces of both have as many samples.
+pub record Agree (s₁ s₂ : List ℕ) : Type 0 where
+  pub cards : (j : ℕ) → j < cardBytes → blank (getD s₁ j 0) ≡ blank (getD s₂ j 0)
+  pub binary : All (λ f. fieldNumber s₁ 0 f ≡ fieldNumber s₂ 0 f) (otherThan 3225 binaryFields)
+  pub count : tracesOf s₁ ≡ tracesOf s₂
+  pub numbers : (k : ℕ) → k < tracesOf s₁ → All (λ f. headerNumber s₁ (suc k) f ≡ headerNumber s₂ (suc k) f) traceFields
+  pub values : (k j : ℕ) → k < tracesOf s₁ → j < samplesOf s₁ → sampleValue s₁ k j ≡ sampleValue s₂ k j
+
 -- Document 01's example: 3,200 bytes 40, a binary header all 0 but interval 2000, N 2, code 1, and one trace with a zero header and words
 -- 41100000 C276A000.
 abbrev pub example : List ℕ
@@ -70,10 +76,6 @@ example =
     ++ (0x41 ∷ 0x10 ∷ 0 ∷ 0 ∷ 0xC2 ∷ 0x76 ∷ 0xA0 ∷ 0 ∷ [])))))
 
 -- ## Writing a record
-
--- The numbers that writing returns: T and N as the record holds them, and the reel's length, 3600 + T × (240 + N × the bytes of a sample).
-abbrev pub writtenNumbers : List ℕ → ℕ → List ℕ
-writtenNumbers r code = heldCount r (heldSamples r) ∷ heldSamples r ∷ reelLengthOf r code ∷ []
 
 -- What it takes to write a record: the code is from 1 to 4, it holds every sample exactly, and the output is long enough.
 pub record CanBeWritten (r : List ℕ) (code : ℕ) (out : List ℕ) : Type 0 where

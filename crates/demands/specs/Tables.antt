@@ -4,19 +4,19 @@ use mathlib.Core.Path.{_≡_}
 use mathlib.Core.List.{List}
 use mathlib.Core.Bool.{true}
 use Prim.Native.Nat.{ℕ, _+_, _*_, _≤_, _<_}
-use lib.Dec.{eqb}
 use lib.ListN.{length, getD}
-use Rattle.numbers.specs.Walk.{pick, bytesAt}
+use Rattle.numbers.specs.Walk.{bytesAt}
 use Rattle.numbers.specs.Places.{byteNo}
 use Rattle.numbers.specs.BigEndian.{number}
 use Rattle.numbers.specs.Terms.{All, Between}
 use Rattle.numbers.specs.declared.ByteNo.{ByteNo}
 use Rattle.value.specs.Pair.{valueOf, isCanonical, pairIn}
-use Rattle.reel.specs.Layout.{Field, binaryFields, traceFields, number16, tracesOf}
+use Rattle.reel.specs.Layout.{number16, tracesOf}
 use Rattle.record.specs.Form.{heldInterval, heldSamples, heldCode}
 use Rattle.record.specs.Held.{heldValue}
 use Rattle.read_reel.specs.Reading.{recordLengthOf}
 use Rattle.write_reel.specs.Reel.{reelLength}
+use Rattle.look_up.specs.LookUp.{headerFields}
 use Rattle.reel_theorems.specs.ReelTable.{Row}
 use Rattle.demands.specs.ValidRecord.{Stands, CanonicalAt, tracePlace, headerPlace, pairPlace, CardsRight, HeaderRight, TraceNext, EndNext, RecordRight}
 use Rattle.demands.specs.Words.{HasWord}
@@ -43,13 +43,14 @@ pub data FormRow (s : List ℕ) : ℕ → ℕ → Type 0 where
   no-cards : ¬ (Stands s 1 3200 0) → FormRow s 12 0
   -- 13: a card byte is 00, the first such
   bad-card : (j : ℕ) → Stands s 1 3200 0 → j < 3200 → ((i : ℕ) → i < j → ¬ (getD s (3 + i) 0 ≡ 0)) → getD s (3 + j) 0 ≡ 0 → FormRow s 13 (3 + j)
-  -- 12: tag 02 doesn't stand behind it, whole and with its 60 bytes
+  -- 12: tag 02 doesn't stand behind it, whole and with its 60 bytes; 3203 is behind the 3 + 3200 bytes of tag 01
   no-binary : CardsRight s → ¬ (Stands s 2 60 3203) → FormRow s 12 3203
-  -- 13: in tag 02, first an interval that is not 1 to 32,767
+  -- 13: in tag 02, first an interval that is not 1 to 32,767; the content of tag 02, byte numbers 3201 to 3260, begins at 3206, so byte
+  -- number 3217 stands at 3222
   bad-held-interval : CardsRight s → Stands s 2 60 3203 → ¬ (Between 1 32767 (heldInterval s)) → FormRow s 13 3222
-  -- 13: then N that is not 1 to 8,000
+  -- 13: then N that is not 1 to 8,000; byte number 3221 stands at 3226
   bad-held-samples : CardsRight s → Stands s 2 60 3203 → Between 1 32767 (heldInterval s) → ¬ (Between 1 8000 (heldSamples s)) → FormRow s 13 3226
-  -- 13: then a format code other than 0
+  -- 13: then a format code other than 0; byte number 3225 stands at 3230
   bad-held-code : CardsRight s → Stands s 2 60 3203 → Between 1 32767 (heldInterval s) → Between 1 8000 (heldSamples s) → ¬ (heldCode s ≡ 0)
       → FormRow s 13 3230
   -- 12: tag 03 of trace k is cut short or has a wrong length
@@ -61,7 +62,7 @@ pub data FormRow (s : List ℕ) : ℕ → ℕ → Type 0 where
   bad-held-117 : (k : ℕ) → TraceNext s k → Stands s 3 180 (tracePlace s k) → number16 s (headerPlace s k 115) ≡ heldSamples s
       → ¬ (number16 s (headerPlace s k 117) ≡ heldInterval s)
       → FormRow s 13 (headerPlace s k 117)
-  -- 12: tag 04 of trace k doesn't stand behind it, whole and with its 6N bytes
+  -- 12: tag 04 of trace k doesn't stand behind it, whole and with its 6N bytes; 183 is the 3 + 180 bytes of tag 03
   no-samples : (k : ℕ) → TraceNext s k → HeaderRight s k → ¬ (Stands s 4 (6 * heldSamples s) (tracePlace s k + 183)) → FormRow s 12 (tracePlace s k + 183)
   -- 13: a pair of it isn't canonical, the first such
   bad-pair : (k j : ℕ) → TraceNext s k → HeaderRight s k → Stands s 4 (6 * heldSamples s) (tracePlace s k + 183)
@@ -71,7 +72,7 @@ pub data FormRow (s : List ℕ) : ℕ → ℕ → Type 0 where
   no-end : (t : ℕ) → EndNext s t → ¬ (Stands s 5 4 (tracePlace s t)) → FormRow s 12 (tracePlace s t)
   -- 12: the count in tag 05 is not t, at its tag
   bad-count : (t : ℕ) → EndNext s t → Stands s 5 4 (tracePlace s t) → ¬ (number (bytesAt s (tracePlace s t + 3) 4) ≡ t) → FormRow s 12 (tracePlace s t)
-  -- 12: bytes come after tag 05, at the first of them
+  -- 12: bytes come after tag 05, at the first of them; 7 is the 3 + 4 bytes of tag 05
   after : (t : ℕ) → EndNext s t → Stands s 5 4 (tracePlace s t) → number (bytesAt s (tracePlace s t + 3) 4) ≡ t → tracePlace s t + 7 < length s
       → FormRow s 12 (tracePlace s t + 7)
 
@@ -116,10 +117,6 @@ pub data PairRow (code : ℕ) (b : List ℕ) : ℕ → ℕ → Type 0 where
   unfit : Between 1 4 code → isCanonical (pairIn b) ≡ true → ¬ (HasWord code (valueOf (pairIn b))) → PairRow code b 14 0
 
 -- ## Looking up a field
-
--- The assigned fields of header k: of the binary header for 0, of a trace's from 1 on.
-abbrev pub headerFields : ℕ → List Field
-headerFields k = pick (eqb k 0) binaryFields traceFields
 
 -- No assigned field of header k begins at byte number b.
 abbrev pub NoField : ℕ → ByteNo → Type 0

@@ -34,7 +34,8 @@ tracePlace s k = tracesPlace + k * heldStride (heldSamples s)
 abbrev pub headerPlace : List ℕ → ℕ → ℕ → ℕ
 headerPlace s k b = bytePlace (tracePlace s k + 3) b
 
--- The place of pair j of trace k, behind tag 03 with its 180 bytes and tag 04 with its length.
+-- The place of pair j of trace k, behind tag 03 with its 180 bytes and tag 04 with its length: 186 is 3 + 180 + 3, each field's tag and
+-- length being 3 bytes.
 abbrev pub pairPlace : List ℕ → ℕ → ℕ → ℕ
 pairPlace s k j = tracePlace s k + 186 + j * pairLength
 
@@ -45,7 +46,8 @@ pub record CardsRight (s : List ℕ) : Type 0 where
   pub cards : Stands s 1 3200 0
   pub card-bytes : (j : ℕ) → j < 3200 → ¬ (getD s (3 + j) 0 ≡ 0)
 
--- Then tag 02 stands with its 60 bytes: interval and N are within their limits, and the format code is 0.
+-- Then tag 02 stands with its 60 bytes: interval and N are within their limits, and the format code is 0. Its place is 3203, behind the
+-- 3 + 3200 bytes of tag 01.
 pub record HeadRight (s : List ℕ) : Type 0 where
   pub front : CardsRight s
   pub binary : Stands s 2 60 3203
@@ -59,7 +61,7 @@ pub record HeaderRight (s : List ℕ) (k : ℕ) : Type 0 where
   pub count : number16 s (headerPlace s k 115) ≡ heldSamples s
   pub interval : number16 s (headerPlace s k 117) ≡ heldInterval s
 
--- Trace k stands: tag 03 is right, then tag 04 stands with N canonical pairs.
+-- Trace k stands: tag 03 is right, then tag 04 stands with N canonical pairs, 183 bytes on, behind the 3 + 180 bytes of tag 03.
 pub record TraceRight (s : List ℕ) (k : ℕ) : Type 0 where
   pub front : HeaderRight s k
   pub samples : Stands s 4 (6 * heldSamples s) (tracePlace s k + 183)
@@ -83,6 +85,7 @@ pub record EndNext (s : List ℕ) (t : ℕ) : Type 0 where
   pub end : (t ≡ 100000) ⊎ (¬ (getD s (tracePlace s t) 0 ≡ 3))
 
 -- A valid record of t traces, to which neither 12 nor 13 applies: behind its traces tag 05 holds their count, and no byte comes after it.
+-- Tag 05 is 7 bytes, 3 + 4.
 pub record RecordRight (s : List ℕ) (t : ℕ) : Type 0 where
   pub end : EndNext s t
   pub field : Stands s 5 4 (tracePlace s t)

@@ -34,9 +34,13 @@ unfoldable pub fieldIn : ℕ → List Field → Found
 fieldIn b [] = none
 fieldIn b (f ∷ fs) = pick (eqb (f .begins) b) (found f) (fieldIn b fs)
 
--- The field that begins at byte number b of header k: of the binary header for 0, of a trace's from 1 on.
+-- The assigned fields of header k: of the binary header for 0, of a trace's from 1 on.
+abbrev pub headerFields : ℕ → List Field
+headerFields k = pick (eqb k 0) binaryFields traceFields
+
+-- The field that begins at byte number b of header k.
 abbrev pub fieldAt : ℕ → ByteNo → Found
-fieldAt k b = fieldIn (byteNo b) (pick (eqb k 0) binaryFields traceFields)
+fieldAt k b = fieldIn (byteNo b) (headerFields k)
 
 -- ## Its number
 

@@ -16,6 +16,10 @@ use Rattle.record.specs.Record.{reelRecord, recordLength}
 abbrev pub recordLengthOf : List ℕ → ℕ
 recordLengthOf s = recordLength (tracesOf s) (samplesOf s)
 
+-- The numbers that reading returns: T, N and the record's length.
+abbrev pub readNumbers : List ℕ → List ℕ
+readNumbers s = tracesOf s ∷ samplesOf s ∷ recordLengthOf s ∷ []
+
 -- 1 to 9, then 10: the output is too short.
 abbrev pub readCauses : List ℕ → ℕ → Check
 readCauses s room = then (causesOf s) (refuseIf (ltb room (recordLengthOf s)) 10 (recordLengthOf s))
@@ -23,7 +27,7 @@ readCauses s room = then (causesOf s) (refuseIf (ltb room (recordLengthOf s)) 10
 -- Taken, the record stands at the output's front, and the rest keeps its content; refused, the output is left as it was.
 abbrev pub readEnd : List ℕ → List ℕ → Check → Outcome
 readEnd s out check.Fine =
-    record { said = taken (tracesOf s ∷ samplesOf s ∷ recordLengthOf s ∷ []); bytes = reelRecord s ++ drop (recordLengthOf s) out }
+    record { said = taken (readNumbers s); bytes = reelRecord s ++ drop (recordLengthOf s) out }
 readEnd s out (check.Refused number place) = record { said = refused number (placeNo place); bytes = out }
 
 -- The outcome of reading a reel s into an output.

@@ -20,13 +20,13 @@ use Rattle.reel.specs.Layout.{samplesOf, tracesOf}
 use Rattle.reel.specs.Causes.{causesOf}
 use Rattle.reel.specs.Meaning.{MeanTheSame}
 use Rattle.record.specs.Record.{reelRecord}
-use Rattle.read_reel.specs.Reading.{recordLengthOf, readCauses, readEnd, readOutcome}
+use Rattle.read_reel.specs.Reading.{recordLengthOf, readNumbers, readCauses, readEnd, readOutcome}
 use Rattle.reel_theorems.proofs.Same.{record-size, same-records}
 
 -- a reading that is taken has no cause of 1 to 10
 pub taken-fine : (s out numbers : List ℕ) → readOutcome s out .said ≡ taken numbers → readCauses s (length out) ≡ Fine
 taken-fine s out numbers e =
-    says-fine (λ (c : Check). readEnd s out c .said) (tracesOf s ∷ samplesOf s ∷ recordLengthOf s ∷ []) refl (λ n p. refl) (readCauses s (length out)) numbers e
+    says-fine (λ (c : Check). readEnd s out c .said) (readNumbers s) refl (λ n p. refl) (readCauses s (length out)) numbers e
 
 -- the reel of a reading that is taken has no cause of 1 to 9
 pub taken-reel : (s out numbers : List ℕ) → readOutcome s out .said ≡ taken numbers → causesOf s ≡ Fine
@@ -44,7 +44,7 @@ taken-numbers s out numbers e = ap (λ (o : Outcome). o .said) (taken-outcome s 
 -- the length returned is that of the reel's record
 pub taken-length : (s out : List ℕ) (t n l : ℕ) → readOutcome s out .said ≡ taken (t ∷ n ∷ l ∷ []) → recordLengthOf s ≡ l
 taken-length s out t n l e =
-    let same : taken (tracesOf s ∷ samplesOf s ∷ recordLengthOf s ∷ []) ≡ taken (t ∷ n ∷ l ∷ []) = sym (taken-numbers s out (t ∷ n ∷ l ∷ []) e) ∙ e in
+    let same : taken (readNumbers s) ≡ taken (t ∷ n ∷ l ∷ []) = sym (taken-numbers s out (t ∷ n ∷ l ∷ []) e) ∙ e in
     cc
 
 -- THEOREM. Where the reading of a reel is taken, with T, N and a length returned, the output's first bytes, as many as that length, are
@@ -55,8 +55,8 @@ output-record s out t n l b e =
     let size : length (reelRecord s) ≡ l = record-size s b (taken-reel s out (t ∷ n ∷ l ∷ []) e) ∙ taken-length s out t n l e in
     ap (λ (o : Outcome). take l (o .bytes)) (taken-outcome s out (t ∷ n ∷ l ∷ []) e) ∙ take-at (reelRecord s) (drop (recordLengthOf s) out) l size
 
--- THEOREM. Where the readings of two reels, each in any code and each into any output, are both taken, the first bytes of the two outputs,
--- as many as the length returned each time, are equal exactly when the reels mean the same.
+-- LAW. Where the readings of two reels, each in any code and each into any output, are both taken, the first bytes of the two outputs,
+-- as many as the length returned each time, are equal exactly when the reels mean the same: `records-equal`, of `demands`.
 pub same-outputs : (s₁ s₂ out₁ out₂ : List ℕ) (t₁ n₁ l₁ t₂ n₂ l₂ : ℕ) → Bytes s₁ → Bytes s₂
     → readOutcome s₁ out₁ .said ≡ taken (t₁ ∷ n₁ ∷ l₁ ∷ []) → readOutcome s₂ out₂ .said ≡ taken (t₂ ∷ n₂ ∷ l₂ ∷ [])
     → Iff (take l₁ (readOutcome s₁ out₁ .bytes) ≡ take l₂ (readOutcome s₂ out₂ .bytes)) (MeanTheSame s₁ s₂)

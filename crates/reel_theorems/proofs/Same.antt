@@ -206,7 +206,7 @@ pub eighth : (s : List ℕ) → getD (binaryNumbers s) 7 (pos 0) ≡ signedOf 16
 unfolding binaryNumbers binaryFields binaryWidths
 eighth s = refl
 
-samples-same : (s₁ s₂ : List ℕ) → Bytes s₁ → Bytes s₂ → binaryNumbers s₁ ≡ binaryNumbers s₂ → samplesOf s₁ ≡ samplesOf s₂
+pub samples-same : (s₁ s₂ : List ℕ) → Bytes s₁ → Bytes s₂ → binaryNumbers s₁ ≡ binaryNumbers s₂ → samplesOf s₁ ≡ samplesOf s₂
 samples-same s₁ s₂ h₁ h₂ e =
     let same : signedOf 16 (samplesOf s₁) ≡ signedOf 16 (samplesOf s₂) = sym (eighth s₁) ∙ ap (λ (l : List ℤ). getD l 7 (pos 0)) e ∙ eighth s₂ in
     sym (bits-signed 16 (samplesOf s₁) (omega arith) (number-at s₁ h₁ 3220 2)) ∙ ap (bitsOf 16) same ∙ bits-signed 16 (samplesOf s₂) (omega arith) (number-at s₂ h₂ 3220 2)

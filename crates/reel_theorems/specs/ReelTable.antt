@@ -4,6 +4,7 @@ use mathlib.Core.Path.{_≡_}
 use mathlib.Core.List.{List}
 use Prim.Native.Nat.{ℕ, _+_, _*_, _≤_, _<_}
 use lib.ListN.{length, getD}
+use Rattle.numbers.specs.Places.{bytePlace}
 use Rattle.numbers.specs.Terms.{Between, ZeroOr}
 use Rattle.reel.specs.Layout.{number16, samplesOf, intervalOf, codeOf, sampleBytes, strideOf, tracesOf}
 
@@ -32,8 +33,8 @@ pub record Whole (s : List ℕ) : Type 0 where
 
 -- 7 to 9 don't apply to trace k: fields 115 and 117 are 0 or the reel's own, and under code 4 each sample begins with 00.
 pub record Passed (s : List ℕ) (k : ℕ) : Type 0 where
-  pub count : ZeroOr (samplesOf s) (number16 s (traceAt s k + 114))
-  pub interval : ZeroOr (intervalOf s) (number16 s (traceAt s k + 116))
+  pub count : ZeroOr (samplesOf s) (number16 s (bytePlace (traceAt s k) 115))
+  pub interval : ZeroOr (intervalOf s) (number16 s (bytePlace (traceAt s k) 117))
   pub words : (j : ℕ) → j < samplesOf s → codeOf s ≡ 4 → getD s (sampleAt s k j) 0 ≡ 0
 
 -- Nothing applies before trace k: not 1 to 6, nor 7 to 9 to the traces before it.
@@ -59,11 +60,11 @@ pub data Row (s : List ℕ) : ℕ → ℕ → Type 0 where
   -- 6: there are more than 100,000 traces, at trace 100,001
   many : Headed s → length s ≤ traceAt s (tracesOf s) → 100000 < tracesOf s → Row s 6 (traceAt s 100000)
   -- 7: field 115 of trace k is neither 0 nor N
-  bad-115 : (k : ℕ) → Until s k → ¬ (ZeroOr (samplesOf s) (number16 s (traceAt s k + 114))) → Row s 7 (traceAt s k + 114)
+  bad-115 : (k : ℕ) → Until s k → ¬ (ZeroOr (samplesOf s) (number16 s (bytePlace (traceAt s k) 115))) → Row s 7 (bytePlace (traceAt s k) 115)
   -- 8: its field 117 is neither 0 nor the reel's interval
-  bad-117 : (k : ℕ) → Until s k → ZeroOr (samplesOf s) (number16 s (traceAt s k + 114)) → ¬ (ZeroOr (intervalOf s) (number16 s (traceAt s k + 116)))
-      → Row s 8 (traceAt s k + 116)
+  bad-117 : (k : ℕ) → Until s k → ZeroOr (samplesOf s) (number16 s (bytePlace (traceAt s k) 115)) → ¬ (ZeroOr (intervalOf s) (number16 s (bytePlace (traceAt s k) 117)))
+      → Row s 8 (bytePlace (traceAt s k) 117)
   -- 9: the first byte of one of its gain words is not 00, the first such word
-  bad-gain : (k j : ℕ) → Until s k → ZeroOr (samplesOf s) (number16 s (traceAt s k + 114)) → ZeroOr (intervalOf s) (number16 s (traceAt s k + 116))
+  bad-gain : (k j : ℕ) → Until s k → ZeroOr (samplesOf s) (number16 s (bytePlace (traceAt s k) 115)) → ZeroOr (intervalOf s) (number16 s (bytePlace (traceAt s k) 117))
       → codeOf s ≡ 4 → j < samplesOf s → ((i : ℕ) → i < j → getD s (sampleAt s k i) 0 ≡ 0) → ¬ (getD s (sampleAt s k j) 0 ≡ 0)
       → Row s 9 (sampleAt s k j)

@@ -1,4 +1,4 @@
--- # Theorem 5: the starred lines of document 01's "Samples at the edges"
+-- # The starred lines of document 01's "Samples at the edges"
 --
 -- Each line is computed by the rules themselves.
 use mathlib.Core.Path.{_≡_, refl}
@@ -12,7 +12,7 @@ use Rattle.value.specs.Writing.{isNormal, writePair}
 use Rattle.value.specs.declared.Written.the-variants.{Word, Refused}
 use Rattle.sample_theorems.specs.Starred.{Starred, beyond}
 
--- THEOREM 5. The starred lines, as a group.
+-- THEOREM. The starred lines, as a group.
 pub starred : Starred
 unfolding bytesAt twosIn twos oddPart first isNormal
 starred =
@@ -28,7 +28,7 @@ starred =
       bits-16 = (refl, refl);
     }
 
--- The line without a star: e -255, m 1 fits code 4; e -256 doesn't.
+-- THEOREM. The line without a star: e -255, m 1 fits code 4; e -256 doesn't.
 pub least-gain : (writePair 4 (record { e = negsuc 254; m = pos 1 }) ≡ Word 0x00FF_0001) × (writePair 4 (record { e = negsuc 255; m = pos 1 }) ≡ Refused 14)
 unfolding first
 least-gain = (refl, refl)

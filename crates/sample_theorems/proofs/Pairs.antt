@@ -1,4 +1,4 @@
--- # Theorems 1 and 2: what a pair says
+-- # What a pair says
 --
 -- `Bytes` says that each byte of a list is a number below 256.
 use mathlib.Core.Path.{_≡_, refl, sym, ap, ap₂, _∙_}
@@ -39,7 +39,7 @@ use Rattle.sample.specs.declared.Sample.the-variants.{Taken, Refused}
 
 -- ## A canonical pair and its value determine each other
 
--- The pair of a value has that value.
+-- THEOREM. The pair of a value has that value.
 pub pair-value : (v : ℤ) → valueOf (pairOf v) ≡ v
 pair-value = value-pair
 
@@ -49,7 +49,7 @@ unshift e k h = sym (+ℤ-negℤ-cancel e (pos denominatorPower)) ∙ ap (λ (z 
 eta : (p : Pair) (e m : ℤ) → p .e ≡ e → p .m ≡ m → p ≡ record { e = e; m = m }
 eta p e m h l = rw (sym h, sym l)
 
--- A canonical pair is the pair of its value.
+-- THEOREM. A canonical pair is the pair of its value.
 pub value-pair-back : (p : Pair) → isCanonical p ≡ true → pairOf (valueOf p) ≡ p
 value-pair-back p h = go (eqb (natAbs (p .e)) 0 && eqb (natAbs (p .m)) 0) refl
   where
@@ -69,7 +69,7 @@ value-pair-back p h = go (eqb (natAbs (p .e)) 0 && eqb (natAbs (p .m)) 0) refl
         ap₂ (λ (x y : ℤ). x *ℤ pos (2 ^ natAbs y)) (sym (signed-back (p .m))) (k .1 .is) ∙ signed-mul (isNegative (p .m)) a (2 ^ k .0) in
         rw (v, pair-at (isNegative (p .m)) a (k .0) (eqb-true (a % 2) 1 (d .1))) (sym (eta p _ _ (unshift (p .e) (k .0) (k .1 .is)) (sym (signed-back (p .m)))))
 
--- THEOREM 2, pairs and values. Two canonical pairs are the same exactly when their values are.
+-- THEOREM. Two canonical pairs are the same exactly when their values are.
 pub pairs-by-value : (p q : Pair) → isCanonical p ≡ true → isCanonical q ≡ true → Iff (p ≡ q) (valueOf p ≡ valueOf q)
 pairs-by-value p q h l = (λ e. ap valueOf e, λ e. sym (value-pair-back p h) ∙ ap pairOf e ∙ value-pair-back q l)
 
@@ -105,7 +105,7 @@ fit p h = go (eqb (natAbs (p .e)) 0 && eqb (natAbs (p .m)) 0) refl
         let y = mag-abs (p .m) (2 ^ (mantissaBits - 1) - 1) (leb-true _ _ (d .0)) in
         record { e = exponent-mag (p .e) (r .0); m = omega arith }
 
--- THEOREM 2, pairs and bytes. The pair of a canonical pair's six bytes is that pair.
+-- THEOREM. The pair of a canonical pair's six bytes is that pair.
 pub bytes-pair : (p : Pair) → isCanonical p ≡ true → pairIn (pairBytes (p .e) (p .m)) ≡ p
 unfolding bytesAt
 bytes-pair p h =
@@ -114,7 +114,8 @@ bytes-pair p h =
     let y = ap (signedOf mantissaBits) (number-bytes 4 (bitsOf mantissaBits (p .m)) (bits-lt mantissaBits (p .m) (omega arith) (f .m))) ∙ signed-bits mantissaBits (p .m) (omega arith) (f .m) in
     sym (eta p _ _ (sym x) (sym y))
 
--- And the bytes of the pair of six bytes are those bytes, whether or not it is canonical: so no two lists of six bytes give one pair.
+-- THEOREM. And the bytes of the pair of six bytes are those bytes, whether or not it is canonical: so no two lists of six bytes give one
+-- pair.
 pub pair-bytes : (b : List ℕ) → length b ≡ 6 → Bytes b → pairBytes (pairIn b .e) (pairIn b .m) ≡ b
 pair-bytes b n h =
     let x = bits-signed 16 (number (bytesAt b 0 2)) (omega arith) (number-at b h 0 2) in
@@ -224,15 +225,16 @@ taken-is code w e m h = go (isCode code) (badGain code w) h
         sym (eta (pairOf v) e m x y)
     go false t q = absurd (let z : _≡_ {A = ℕ} 0 1 = cc in omega arith)
 
--- THEOREM 1. The pair that reading gives has exactly the word's value V, under each code,
+-- THEOREM. The pair that reading gives has exactly the word's value V, under each code.
 pub reading-value : (code : ℕ) (w : List ℕ) (e m : ℤ) → readWord code w ≡ Taken e m → valueOf (record { e = e; m = m }) ≡ exactValue code w
 reading-value code w e m h = ap valueOf (taken-is code w e m h) ∙ pair-value (exactValue code w)
 
--- it is canonical,
+-- THEOREM. The pair that reading gives is canonical.
 pub reading-canonical : (code : ℕ) (w : List ℕ) (e m : ℤ) → Bytes w → readWord code w ≡ Taken e m → isCanonical (record { e = e; m = m }) ≡ true
 reading-canonical code w e m b h = ap isCanonical (taken-is code w e m h) ∙ value-canonical code w b
 
--- and two words, each under any code, give the same pair exactly when their values are equal.
+-- THEOREM. Document 01: "The four codes share one fact about pairs, shown for all of them." Two words, each under any code, give the same
+-- pair exactly when their values are equal.
 pub reading-same : (c₁ c₂ : ℕ) (w₁ w₂ : List ℕ) (e₁ m₁ e₂ m₂ : ℤ) → readWord c₁ w₁ ≡ Taken e₁ m₁ → readWord c₂ w₂ ≡ Taken e₂ m₂
     → Iff ((e₁ ≡ e₂) × (m₁ ≡ m₂)) (exactValue c₁ w₁ ≡ exactValue c₂ w₂)
 reading-same c₁ c₂ w₁ w₂ e₁ m₁ e₂ m₂ h l = (there, back)
@@ -245,7 +247,7 @@ reading-same c₁ c₂ w₁ w₂ e₁ m₁ e₂ m₂ h l = (there, back)
         let x = taken-is c₁ w₁ e₁ m₁ h ∙ ap pairOf q ∙ sym (taken-is c₂ w₂ e₂ m₂ l) in
         (ap (λ (p : Pair). p .e) x, ap (λ (p : Pair). p .m) x)
 
--- Reading refuses no word under codes 1 to 4 but a gain word whose first byte isn't 00.
+-- THEOREM. Reading refuses no word under codes 1 to 4 but a gain word whose first byte isn't 00.
 pub reading-takes : (code : ℕ) (w : List ℕ) → isCode code ≡ true → badGain code w ≡ false
     → readWord code w ≡ Taken (pairOf (exactValue code w) .e) (pairOf (exactValue code w) .m)
 reading-takes code w h l = rw (h, l)

@@ -1,4 +1,4 @@
--- # Theorem 4: there and back
+-- # There and back
 use mathlib.Core.Path.{_≡_, refl, sym, ap, _∙_}
 use mathlib.Core.List.{List, []}
 use Prim.Native.Nat.{ℕ}
@@ -24,7 +24,7 @@ use Rattle.sample_theorems.specs.Statements.{Back}
 use Rattle.sample_theorems.proofs.Pairs.{bytes-pair, pair-bytes, taken-code, value-pair-back, reading-value, reading-canonical, reading-takes}
 use Rattle.sample_theorems.proofs.Words.{writing-sound, writing-complete, writing-normal}
 
--- THEOREM 4. A pair that is written under a code, and the word read under that code, give the pair again.
+-- THEOREM. A pair that is written under a code, and the word read under that code, give the pair again.
 pub write-read : (code : ℕ) (p : Pair) (n : ℕ) → writePair code p ≡ Word n → readWord code (bytesOf 4 n) ≡ Taken (p .e) (p .m)
 write-read code p n h =
     let t = written-is code p n h in
@@ -32,7 +32,8 @@ write-read code p n h =
     let same : pairOf (exactValue code (bytesOf 4 n)) ≡ p = ap pairOf (s .value) ∙ value-pair-back p (t .1) in
     reading-takes code (bytesOf 4 n) (t .0) (s .good) ∙ ap (λ (q : Pair). Taken (q .e) (q .m)) same
 
--- A word that is read is never refused when its pair is written under the same code.
+-- THEOREM. A word that is read is never refused when its pair is written under the same code, and a word of the same value is written,
+-- under code 1 the normal one.
 pub read-write : (code : ℕ) (w : List ℕ) (e m : ℤ) → Bytes w → readWord code w ≡ Taken e m → (n : ℕ) × Back code w (record { e = e; m = m }) n
 read-write code w e m b t =
     let p : Pair = record { e = e; m = m } in
@@ -47,7 +48,7 @@ read-write code w e m b t =
 
 -- ## The two calls, by the bytes that they hand out
 
--- Six bytes that are written, and the word read under the same code, give the six bytes again.
+-- THEOREM. Six bytes that are written, and the word read under the same code, give the six bytes again.
 pub calls-write-read : (code : ℕ) (b : List ℕ) → length b ≡ 6 → Bytes b → pairOutcome code b .said ≡ taken []
     → wordOutcome code (pairOutcome code b .bytes) ≡ record { said = taken []; bytes = b }
 calls-write-read code b k h t = go (writePair code (pairIn b)) refl t
@@ -59,13 +60,18 @@ calls-write-read code b k h t = go (writePair code (pairIn b)) refl t
         outcome l = record { said = taken []; bytes = l }
     go (Refused n) e q = absurd (let z : _≡_ {A = ℕ} 0 1 = cc in omega arith)
 
--- A word that is read is not refused when the six bytes are written under the same code.
-pub calls-read-write : (code : ℕ) (w : List ℕ) → Bytes w → wordOutcome code w .said ≡ taken [] → pairOutcome code (wordOutcome code w .bytes) .said ≡ taken []
+-- THEOREM. A word that is read is not refused when the six bytes are written under the same code, and the word that was written is read as
+-- the same six bytes again.
+pub calls-read-write : (code : ℕ) (w : List ℕ) → Bytes w → wordOutcome code w .said ≡ taken []
+    → (pairOutcome code (wordOutcome code w .bytes) .said ≡ taken []) × (wordOutcome code (pairOutcome code (wordOutcome code w .bytes) .bytes) ≡ wordOutcome code w)
 calls-read-write code w h t = go (readWord code w) refl t
   where
-    go : (r : Sample) → readWord code w ≡ r → readSaid r .said ≡ taken [] → pairOutcome code (readSaid r .bytes) .said ≡ taken []
+    go : (r : Sample) → readWord code w ≡ r → readSaid r .said ≡ taken []
+        → (pairOutcome code (readSaid r .bytes) .said ≡ taken []) × (wordOutcome code (pairOutcome code (readSaid r .bytes) .bytes) ≡ readSaid r)
     go (sample.Taken e m) x q =
         let p : Pair = record { e = e; m = m } in
         let y = read-write code w e m h x in
-        ap (λ (b : Pair). writeSaid (writePair code b) .said) (bytes-pair p (reading-canonical code w e m h x)) ∙ ap (λ (r : Written). writeSaid r .said) (y .1 .word)
+        let again : pairOutcome code (readSaid (Taken e m) .bytes) ≡ writeSaid (Word (y .0)) =
+        ap (λ (b : Pair). writeSaid (writePair code b)) (bytes-pair p (reading-canonical code w e m h x)) ∙ ap writeSaid (y .1 .word) in
+        (ap (λ (o : Outcome). o .said) again, ap (λ (o : Outcome). wordOutcome code (o .bytes)) again ∙ ap readSaid (write-read code p (y .0) (y .1 .word)))
     go (sample.Refused n) x q = absurd (let z : _≡_ {A = ℕ} 0 1 = cc in omega arith)

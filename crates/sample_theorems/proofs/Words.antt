@@ -1,4 +1,4 @@
--- # Theorem 3: what writing gives
+-- # What writing gives
 --
 -- A pair that is written becomes a word of 32 bits, whose four bytes are `bytesOf 4 n`.
 use mathlib.Core.Path.{_≡_, refl, sym, ap, _∙_, subst}
@@ -76,7 +76,7 @@ says-4 v n e =
       value = rw (t .is, gain-byte g d (t .gain) (t .bits), gain-half g d (t .gain) (t .bits)) (t .value);
     }
 
--- THEOREM 3, sound. The word that is written has the pair's value under the code, and is one that reading takes.
+-- THEOREM. The word that is written has the pair's value under the code, and is one that reading takes.
 pub writing-sound : (code : ℕ) (p : Pair) (n : ℕ) → writePair code p ≡ Word n → Says code (valueOf p) n
 writing-sound code p n h = let t = written-is code p n h in go code (code-is code (t .0)) (t .2)
   where
@@ -91,7 +91,7 @@ writing-sound code p n h = let t = written-is code p n h in go code (code-is cod
 
 -- ## Complete
 
--- THEOREM 3, complete. Where any word of the code has the pair's value, a word is written: 14 means that no word has it.
+-- THEOREM. Where any word of the code has the pair's value, a word is written: 14 means that no word has it.
 pub writing-complete : (code : ℕ) (p : Pair) (w : List ℕ) → isCode code ≡ true → isCanonical p ≡ true → Bytes w → exactValue code w ≡ valueOf p → Writes (writePair code p)
 writing-complete code p w h c b e =
     rw (h, c) (subst (λ (v : ℤ). Writes (wordOf code v)) e (go code (code-is code h)))
@@ -108,25 +108,25 @@ writing-complete code p w h c b e =
 pub normal-is : (n : ℕ) → Iff (isNormal n ≡ true) ((ibmValue n ≡ pos 0 → n ≡ 0) × ((ibmValue n ≡ pos 0 → ⊥) → (firstDigit n ≡ 0 → ⊥) ⊎ (characteristic n ≡ 0)))
 normal-is n = normal-means n
 
--- THEOREM 3, code 1. A normal word is the word that is written of its value.
+-- THEOREM. Code 1: a normal word is the word that is written of its value.
 pub normal-word : (n : ℕ) → n < 2 ^ 32 → Iff (isNormal n ≡ true) (ibmWord (ibmValue n) ≡ Word n)
 normal-word n h = (normal-again n h, λ e. normal-written (ibmValue n) n e .normal)
 
--- No two normal words have the same value.
+-- THEOREM. No two normal words have the same value.
 pub normal-only : (n₁ n₂ : ℕ) → n₁ < 2 ^ 32 → n₂ < 2 ^ 32 → isNormal n₁ ≡ true → isNormal n₂ ≡ true → ibmValue n₁ ≡ ibmValue n₂ → n₁ ≡ n₂
 normal-only = normal-same
 
--- And the word that is written is normal.
+-- THEOREM. The word that is written under code 1 is normal.
 pub writing-normal : (p : Pair) (n : ℕ) → writePair 1 p ≡ Word n → isNormal n ≡ true
 writing-normal p n h = normal-written (valueOf p) n (written-is 1 p n h .2) .normal
 
--- So any normal word of the pair's value is the word that is written.
+-- THEOREM. So any normal word of the pair's value is the word that is written.
 pub writing-only : (p : Pair) (n k : ℕ) → writePair 1 p ≡ Word n → k < 2 ^ 32 → isNormal k ≡ true → ibmValue k ≡ valueOf p → k ≡ n
 writing-only p n k h b t e =
     let x = normal-written (valueOf p) n (written-is 1 p n h .2) in
     normal-only k n b (x .fit) t (x .normal) (e ∙ sym (x .value))
 
--- THEOREM 3, code 4. No gain below that of the word that is written has a number of 16 bits with the value.
+-- THEOREM. Code 4: no gain below that of the word that is written has a number of 16 bits with the value.
 pub writing-least : (p : Pair) (n g d : ℕ) → writePair 4 p ≡ Word n → d < 2 ^ 16 → gainValue g (signedOf 16 d) ≡ valueOf p → getD (bytesOf 4 n) 1 0 ≤ g
 writing-least p n g d h b e =
     let v = valueOf p in
@@ -136,13 +136,14 @@ writing-least p n g d h b e =
     let is : getD (bytesOf 4 n) 1 0 ≡ x .0 = ap (λ (k : ℕ). getD (bytesOf 4 k) 1 0) (t .is) ∙ gain-byte (x .0) (x .1) (t .gain) (t .bits) in
     rw is (⊎-elim (λ (l : g < x .0). absurd (subst T (sym serves ∙ t .least g l) tt)) (λ (l : x .0 ≤ g). l) (below-or g (x .0)))
 
--- THEOREM 3, codes 2 and 3. No other number of 32 bits, nor of 16, has the value of the word that is written: it is the number itself.
+-- THEOREM. Code 2: no other number of 32 bits has the value of the word that is written: it is the number itself.
 pub writing-32 : (p : Pair) (n k : ℕ) → writePair 2 p ≡ Word n → k < 2 ^ 32 → wholeValue (signedOf 32 k) ≡ valueOf p → k ≡ n
 writing-32 p n k h b e =
     let s = writing-sound 2 p n h in
     held-only 32 (2 ^ denominatorPower) k n (omega arith) (pow-pos denominatorPower) b (s .fit) (e ∙ sym (s .value) ∙ ap (λ (x : ℕ). wholeValue (signedOf 32 x)) (word-number n (s .fit)))
 
--- Under code 3 that number is the word's first two bytes, and the last two are 00.
+-- THEOREM. Code 3: a number of 16 bits that has the value is the first two bytes of the word that is written, and the last two are 00; so
+-- no other number has it.
 pub writing-16 : (p : Pair) (n k : ℕ) → writePair 3 p ≡ Word n → k < 2 ^ 16 → wholeValue (signedOf 16 k) ≡ valueOf p → bytesOf 4 n ≡ bytesOf 2 k ++ (0 ∷ 0 ∷ [])
 writing-16 p n k h b e =
     let t = whole-is 16 (2 ^ 16) (valueOf p) n (written-is 3 p n h .2) in

@@ -17,6 +17,10 @@ use Rattle.write_reel.specs.Reel.{reelOf, reelLength}
 abbrev pub reelLengthOf : List ℕ → ℕ → ℕ
 reelLengthOf s code = reelLength code (heldCount s (heldSamples s)) (heldSamples s)
 
+-- The numbers that writing returns: T and N as the record holds them, and the reel's length.
+abbrev pub writtenNumbers : List ℕ → ℕ → List ℕ
+writtenNumbers s code = heldCount s (heldSamples s) ∷ heldSamples s ∷ reelLengthOf s code ∷ []
+
 -- 11; the record front to back by 12 and 13; 14; then 10: the output is too short.
 abbrev pub writeCauses : List ℕ → ℕ → ℕ → Check
 writeCauses s code room = then (targetCauses s code) (refuseIf (ltb room (reelLengthOf s code)) 10 (reelLengthOf s code))
@@ -26,7 +30,7 @@ writeCauses s code room = then (targetCauses s code) (refuseIf (ltb room (reelLe
 abbrev pub writeEnd : List ℕ → ℕ → List ℕ → Check → Outcome
 writeEnd s code out check.Fine =
     record {
-      said = taken (heldCount s (heldSamples s) ∷ heldSamples s ∷ reelLengthOf s code ∷ []);
+      said = taken (writtenNumbers s code);
       bytes = reelOf code (heldBy s) ++ drop (reelLengthOf s code) out;
     }
 writeEnd s code out (check.Refused number place) = record { said = refused number (placeNo place); bytes = out }
