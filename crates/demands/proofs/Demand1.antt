@@ -74,7 +74,7 @@ use Rattle.demands.proofs.WriteRefusals.{exact-writing}
 use Rattle.demands.proofs.WrittenSize.{reel-size}
 use Rattle.demands.specs.Words.{HasWord}
 use Rattle.demands.specs.Tables.{WriteRow, ReadRow, LookUpRow, no-trace, no-field, WordRow, bad-code, bad-gain, PairRow}
-use Rattle.demands.specs.Results.{example, LookedUp}
+use Rattle.demands.specs.Results.{example, AssignedNumber}
 
 -- ## Reading a reel
 
@@ -275,17 +275,17 @@ module _ (s : List ℕ) (k : ℕ) (b : ByteNo) where
   -- assigned field of that header begins at the byte number, and the number is that field's.
   -- Rules out a look-up that gives one fixed number, one that takes the first trace's number for the rest, and filling field 115 only for
   -- the first trace.
-  pub look-up-number : lookUpOutcome s k b .said ≡ taken [] → LookedUp s k b (lookUpOutcome s k b .number)
+  pub look-up-number : lookUpOutcome s k b .said ≡ taken [] → AssignedNumber s k b (lookUpOutcome s k b .number)
   unfolding lookUpOutcome
   look-up-number e = go (lookUpCauses s k b) refl e
     where
-      at : (x : Found) → fieldAt k b ≡ x → isNone x ≡ false → LookedUp s k b (foundNumber s k (fieldAt k b))
+      at : (x : Found) → fieldAt k b ≡ x → isNone x ≡ false → AssignedNumber s k b (foundNumber s k (fieldAt k b))
       at (found f) q n =
           record { field = f; assigned = q; begins = found-begins (byteNo b) (headerFields k) f q; number = ap (foundNumber s k) q }
       at none q n = absurd (apart (sym n))
 
       go : (c : Check) → lookUpCauses s k b ≡ c → numberSaid c (foundNumber s k (fieldAt k b)) .said ≡ taken []
-          → LookedUp s k b (numberSaid c (foundNumber s k (fieldAt k b)) .number)
+          → AssignedNumber s k b (numberSaid c (foundNumber s k (fieldAt k b)) .number)
       go Fine q e =
           let a = then-fine (causesOf s) (fieldCauses (tracesOf s) k (isNone (fieldAt k b))) q in
           let d = then-fine (refuseIf (ltb (tracesOf s) k) 15 0) _ (a .1) in

@@ -127,7 +127,7 @@ pub record OwnCode (s : List ℕ) (t n : ℕ) (r : List ℕ) : Type 0 where
 -- ## Looking up a field
 
 -- z is the number of an assigned field of header k that begins at byte number b.
-pub record LookedUp (s : List ℕ) (k : ℕ) (b : ByteNo) (z : ℤ) : Type 0 where
+pub record AssignedNumber (s : List ℕ) (k : ℕ) (b : ByteNo) (z : ℤ) : Type 0 where
   pub field : Field
   pub assigned : fieldAt k b ≡ found field
   pub begins : field .begins ≡ byteNo b

@@ -17,19 +17,19 @@ use Rattle.record.specs.Held.{heldValue}
 use Rattle.read_reel.specs.Reading.{recordLengthOf}
 use Rattle.write_reel.specs.Reel.{reelLength}
 use Rattle.look_up.specs.LookUp.{headerFields}
-use Rattle.reel_theorems.specs.ReelTable.{Row}
+use Rattle.reel_theorems.specs.ReelTable.{ReelRow}
 use Rattle.demands.specs.ValidRecord.{Stands, CanonicalAt, tracePlace, headerPlace, pairPlace, CardsRight, HeaderRight, TraceNext, EndNext, RecordRight}
 use Rattle.demands.specs.Words.{HasWord}
 
 -- ## Reading
 
--- "Reading: 1 to 6 in that order; then trace by trace 7, 8, 9 (first such word); then 10." The rows of 1 to 9 are `Row`, in `ReelTable` of
+-- "Reading: 1 to 6 in that order; then trace by trace 7, 8, 9 (first such word); then 10." The rows of 1 to 9 are `ReelRow`, in `ReelTable` of
 -- `reel_theorems`; the output has `room` bytes.
 pub data ReadRow (s : List ℕ) (room : ℕ) : ℕ → ℕ → Type 0 where
   -- 1 to 9: a row of their table applies to the reel
-  by-reel : {number place : ℕ} → Row s number place → ReadRow s room number place
+  by-reel : {number place : ℕ} → ReelRow s number place → ReadRow s room number place
   -- 10: none of them applies, and the output is too short for the record, with the record's length, 3273 + T × (186 + 6N)
-  short-output : ((number place : ℕ) → ¬ (Row s number place)) → room < recordLengthOf s → ReadRow s room 10 (recordLengthOf s)
+  short-output : ((number place : ℕ) → ¬ (ReelRow s number place)) → room < recordLengthOf s → ReadRow s room 10 (recordLengthOf s)
 
 -- ## The form of a record
 
@@ -126,8 +126,8 @@ NoField k b = All (λ f. ¬ (f .begins ≡ byteNo b)) (headerFields k)
 -- then 16." The trace number is k, the byte number b.
 pub data LookUpRow (s : List ℕ) (k : ℕ) (b : ByteNo) : ℕ → ℕ → Type 0 where
   -- 1 to 9: a row of their table applies to the reel
-  by-reel : {number place : ℕ} → Row s number place → LookUpRow s k b number place
+  by-reel : {number place : ℕ} → ReelRow s number place → LookUpRow s k b number place
   -- 15: the reel has no trace k
-  no-trace : ((number place : ℕ) → ¬ (Row s number place)) → tracesOf s < k → LookUpRow s k b 15 0
+  no-trace : ((number place : ℕ) → ¬ (ReelRow s number place)) → tracesOf s < k → LookUpRow s k b 15 0
   -- 16: no assigned field of that header begins at b
-  no-field : ((number place : ℕ) → ¬ (Row s number place)) → k ≤ tracesOf s → NoField k b → LookUpRow s k b 16 0
+  no-field : ((number place : ℕ) → ¬ (ReelRow s number place)) → k ≤ tracesOf s → NoField k b → LookUpRow s k b 16 0

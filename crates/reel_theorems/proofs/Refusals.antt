@@ -22,7 +22,7 @@ use Rattle.numbers.proofs.RowLaws.{Tests, then-row, then-first, then-second, fi
 use Rattle.value.specs.Value.{isCode}
 use Rattle.reel.specs.Layout.{firstTrace, traceHeader, number16, samplesOf, intervalOf, codeOf, sampleBytes, strideOf, overIn, tracesOf}
 use Rattle.reel.specs.Causes.{mostSamples, mostTraces, mostInterval, within, neither, limitCauses, sizeCauses, wordCause, traceCauses, behindCauses, causesOf}
-use Rattle.reel_theorems.specs.ReelTable.{traceAt, sampleAt, Headed, Whole, Passed, Until, Row, short-reel, bad-code, bad-samples, bad-interval, left-over, many, bad-115, bad-117, bad-gain}
+use Rattle.reel_theorems.specs.ReelTable.{traceAt, sampleAt, Headed, Whole, Passed, Until, ReelRow, short-reel, bad-code, bad-samples, bad-interval, left-over, many, bad-115, bad-117, bad-gain}
 
 -- ## Headers and size
 
@@ -165,7 +165,7 @@ module _ (s : List ℕ) where
       (first-of (causesAt s) (strideOf s) (tracesOf s) firstTrace n p (record { j = k; below = h .trace; before = λ i l. from-passed s i (h .before i l); here = e })))
 
   -- Each row is the answer where it applies: all that comes before it finds nothing, and its own test refuses.
-  from-row : {n p : ℕ} → Row s n p → causesOf s ≡ Refused n (atPlace p)
+  from-row : {n p : ℕ} → ReelRow s n p → causesOf s ≡ Refused n (atPlace p)
   unfolding causesOf traceCauses
   from-row (short-reel h) = refused-then (long-test s) _ (too-short (length s) 3600 h)
   from-row (bad-code l h) = fine-then (long-test s) l (then-first _ _ (refused-then (code-test s) _ h))
@@ -186,41 +186,41 @@ module _ (s : List ℕ) where
 
 module _ (s : List ℕ) {n p : ℕ} where
   -- What 2 to 4 refuse has its row.
-  to-header : 3600 ≤ length s → limitCauses (codeOf s) (samplesOf s) (intervalOf s) ≡ Refused n (atPlace p) → Row s n p
+  to-header : 3600 ≤ length s → limitCauses (codeOf s) (samplesOf s) (intervalOf s) ≡ Refused n (atPlace p) → ReelRow s n p
   to-header l =
-      row-then (code-test s) (Row s) (bad-code l)
-      (λ c. row-then (samples-test s) (Row s) (bad-samples l c) (λ m. row-then (interval-test s) (Row s) (bad-interval l c m) (λ i. no-row (Row s))))
+      row-then (code-test s) (ReelRow s) (bad-code l)
+      (λ c. row-then (samples-test s) (ReelRow s) (bad-samples l c) (λ m. row-then (interval-test s) (ReelRow s) (bad-interval l c m) (λ i. no-row (ReelRow s))))
 
   -- What 5 or 6 refuses has its row.
-  to-size : Headed s → sizes s ≡ Refused n (atPlace p) → Row s n p
+  to-size : Headed s → sizes s ≡ Refused n (atPlace p) → ReelRow s n p
   to-size h =
-      row-then (over-test s (h .long)) (Row s) (λ m. left-over h (not-enough (traceAt s (tracesOf s)) (length s) m))
-      (λ w. row-then (few-test s) (Row s) (λ m. many h w (not-enough 100000 (tracesOf s) m)) (λ f. no-row (Row s)))
+      row-then (over-test s (h .long)) (ReelRow s) (λ m. left-over h (not-enough (traceAt s (tracesOf s)) (length s) m))
+      (λ w. row-then (few-test s) (ReelRow s) (λ m. many h w (not-enough 100000 (tracesOf s) m)) (λ f. no-row (ReelRow s)))
 
   -- What is refused in trace k has its row, where nothing applies before it.
-  to-trace : (k : ℕ) → Until s k → causesAt s (traceAt s k) ≡ Refused n (atPlace p) → Row s n p
+  to-trace : (k : ℕ) → Until s k → causesAt s (traceAt s k) ≡ Refused n (atPlace p) → ReelRow s n p
   unfolding traceCauses
   to-trace k u =
-      row-then (count-test s k) (Row s) (bad-115 k u)
-      (λ c. row-then (own-test s k) (Row s) (bad-117 k u c)
-      (λ q. walk-row (λ j. codeOf s ≡ 4 → getD s (sampleAt s k j) 0 ≡ 0) 9 (wordCause s (codeOf s)) (sampleBytes (codeOf s)) (samplesOf s) (traceAt s k + traceHeader) (sampleAt s k) (gain-tests s k) (Row s)
+      row-then (count-test s k) (ReelRow s) (bad-115 k u)
+      (λ c. row-then (own-test s k) (ReelRow s) (bad-117 k u c)
+      (λ q. walk-row (λ j. codeOf s ≡ 4 → getD s (sampleAt s k j) 0 ≡ 0) 9 (wordCause s (codeOf s)) (sampleBytes (codeOf s)) (samplesOf s) (traceAt s k + traceHeader) (sampleAt s k) (gain-tests s k) (ReelRow s)
       (λ j l b h. let g = gain-code (codeOf s) (getD s (sampleAt s k j) 0) h in bad-gain k j u c q g l (λ i m. b i m g) (λ z. h (λ x. z)))))
 
   -- What is refused has its row: the first that applies.
-  to-row : causesOf s ≡ Refused n (atPlace p) → Row s n p
+  to-row : causesOf s ≡ Refused n (atPlace p) → ReelRow s n p
   unfolding causesOf behindCauses
   to-row =
-      row-then (long-test s) (Row s) (λ m. short-reel (not-enough (length s) 3600 m))
-      (λ l. then-row (Row s) (limitCauses (codeOf s) (samplesOf s) (intervalOf s)) _ (to-header l)
+      row-then (long-test s) (ReelRow s) (λ m. short-reel (not-enough (length s) 3600 m))
+      (λ l. then-row (ReelRow s) (limitCauses (codeOf s) (samplesOf s) (intervalOf s)) _ (to-header l)
       (λ q. let h = to-headed s l q in
-      then-row (Row s) (sizes s) _ (to-size h)
+      then-row (ReelRow s) (sizes s) _ (to-size h)
       (λ z y. let r = first-is (causesAt s) (strideOf s) (tracesOf s) firstTrace n p y in
       to-trace (r .j) (record { reel = to-whole s h z; trace = r .below; before = λ i m. to-passed s i (r .before i m) }) (r .here))))
 
 -- THEOREM. A reel has a cause of 1 to 9, with what stands beside it, exactly when that row of the table applies.
-pub exact-causes : (s : List ℕ) (number place : ℕ) → Iff (causesOf s ≡ Refused number (atPlace place)) (Row s number place)
+pub exact-causes : (s : List ℕ) (number place : ℕ) → Iff (causesOf s ≡ Refused number (atPlace place)) (ReelRow s number place)
 exact-causes s number place = (to-row s, from-row s)
 
 -- THEOREM. No cause of 1 to 9 applies to a reel exactly when no row of the table does.
-pub no-cause : (s : List ℕ) → Iff (causesOf s ≡ Fine) ((number place : ℕ) → ¬ (Row s number place))
-no-cause s = fine-none (Row s) (causesOf s) (exact-causes s)
+pub no-cause : (s : List ℕ) → Iff (causesOf s ≡ Fine) ((number place : ℕ) → ¬ (ReelRow s number place))
+no-cause s = fine-none (ReelRow s) (causesOf s) (exact-causes s)

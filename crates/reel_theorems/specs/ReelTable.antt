@@ -46,25 +46,25 @@ pub record Until (s : List ℕ) (k : ℕ) : Type 0 where
 -- ## The table
 
 -- The rows: in which case each applies, its number, and what stands beside it. Traces k and samples j are counted from 0.
-pub data Row (s : List ℕ) : ℕ → ℕ → Type 0 where
+pub data ReelRow (s : List ℕ) : ℕ → ℕ → Type 0 where
   -- 1: the reel is under 3,600 bytes, with its length
-  short-reel : length s < 3600 → Row s 1 (length s)
+  short-reel : length s < 3600 → ReelRow s 1 (length s)
   -- 2: the format code is not 1 to 4
-  bad-code : 3600 ≤ length s → ¬ (Between 1 4 (codeOf s)) → Row s 2 3224
+  bad-code : 3600 ≤ length s → ¬ (Between 1 4 (codeOf s)) → ReelRow s 2 3224
   -- 3: N is not 1 to 8,000
-  bad-samples : 3600 ≤ length s → Between 1 4 (codeOf s) → ¬ (Between 1 8000 (samplesOf s)) → Row s 3 3220
+  bad-samples : 3600 ≤ length s → Between 1 4 (codeOf s) → ¬ (Between 1 8000 (samplesOf s)) → ReelRow s 3 3220
   -- 4: the interval is not 1 to 32,767
-  bad-interval : 3600 ≤ length s → Between 1 4 (codeOf s) → Between 1 8000 (samplesOf s) → ¬ (Between 1 32767 (intervalOf s)) → Row s 4 3216
+  bad-interval : 3600 ≤ length s → Between 1 4 (codeOf s) → Between 1 8000 (samplesOf s) → ¬ (Between 1 32767 (intervalOf s)) → ReelRow s 4 3216
   -- 5: bytes come after the last whole trace, at the first of them
-  left-over : Headed s → traceAt s (tracesOf s) < length s → Row s 5 (traceAt s (tracesOf s))
+  left-over : Headed s → traceAt s (tracesOf s) < length s → ReelRow s 5 (traceAt s (tracesOf s))
   -- 6: there are more than 100,000 traces, at trace 100,001
-  many : Headed s → length s ≤ traceAt s (tracesOf s) → 100000 < tracesOf s → Row s 6 (traceAt s 100000)
+  many : Headed s → length s ≤ traceAt s (tracesOf s) → 100000 < tracesOf s → ReelRow s 6 (traceAt s 100000)
   -- 7: field 115 of trace k is neither 0 nor N
-  bad-115 : (k : ℕ) → Until s k → ¬ (ZeroOr (samplesOf s) (number16 s (bytePlace (traceAt s k) 115))) → Row s 7 (bytePlace (traceAt s k) 115)
+  bad-115 : (k : ℕ) → Until s k → ¬ (ZeroOr (samplesOf s) (number16 s (bytePlace (traceAt s k) 115))) → ReelRow s 7 (bytePlace (traceAt s k) 115)
   -- 8: its field 117 is neither 0 nor the reel's interval
   bad-117 : (k : ℕ) → Until s k → ZeroOr (samplesOf s) (number16 s (bytePlace (traceAt s k) 115)) → ¬ (ZeroOr (intervalOf s) (number16 s (bytePlace (traceAt s k) 117)))
-      → Row s 8 (bytePlace (traceAt s k) 117)
+      → ReelRow s 8 (bytePlace (traceAt s k) 117)
   -- 9: the first byte of one of its gain words is not 00, the first such word
   bad-gain : (k j : ℕ) → Until s k → ZeroOr (samplesOf s) (number16 s (bytePlace (traceAt s k) 115)) → ZeroOr (intervalOf s) (number16 s (bytePlace (traceAt s k) 117))
       → codeOf s ≡ 4 → j < samplesOf s → ((i : ℕ) → i < j → getD s (sampleAt s k i) 0 ≡ 0) → ¬ (getD s (sampleAt s k j) 0 ≡ 0)
-      → Row s 9 (sampleAt s k j)
+      → ReelRow s 9 (sampleAt s k j)
