@@ -6,8 +6,8 @@ top=$(cd "$(dirname "$0")/.." && pwd)
 room=$(mktemp -d)
 trap 'rm -rf "$room"' EXIT
 mkdir -p "$room/crates/caller/src"
-cp -R "$top/crates/numbers" "$room/crates/"
-printf 'numbers:\ncaller: numbers\n' >"$room/crates.txt"
+cp -R "$top/crates/numbers" "$top/crates/places" "$room/crates/"
+printf 'numbers:\nplaces: numbers\ncaller: places numbers\n' >"$room/crates.txt"
 
 compile() { # LINE
     cat >"$room/crates/caller/src/lib.rt" <<CALLER
@@ -22,12 +22,12 @@ CALLER
     (cd "$room" && rt check caller) >"$room/log" 2>&1
 }
 
-compile 'numbers::place_of(header, count)' || {
+compile 'places::place_of(header, count)' || {
     echo 'byte_number_for_place: the right line was refused:'
     cat "$room/log"
     exit 1
 }
-for wrong in 'numbers::place_of(count, count)' 'Located::At(count)'; do
+for wrong in 'places::place_of(count, count)' 'Located::At(count)'; do
     if compile "$wrong"; then
         echo "byte_number_for_place: compiled: $wrong"
         exit 1
