@@ -43,7 +43,7 @@ fieldAnswer (taken (more ∷ rest)) z = lost
 fieldAnswer (refused number beside) z = handed (record { number = number; value = z; beside = beside })
 
 abbrev pub fieldHanded : NumberOutcome → Handed FieldAnswer
-fieldHanded o = fieldAnswer (o .said) (o .number)
+fieldHanded o = fieldAnswer (o .said) (o .value)
 
 -- What a single-sample call says, in numbers.
 abbrev pub sampleAnswer : Said → Handed SampleAnswer

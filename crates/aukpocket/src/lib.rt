@@ -85,9 +85,9 @@ pub extern "C" fn aukpocket_look_up(reel: &[u8], trace: usize, byte: u32) -> Fie
     ensures { λ r. ⌜ handed r ≡ fieldHanded (lookUpOutcome (now (reel .entry)) trace (record { 0 = byte })) ⌝ }
 {
     match look_up::look_up(reel, trace, ByteNo(byte)) {
-        look_up::Answer::Taken { number } => FieldAnswer {
+        look_up::Answer::Taken { value } => FieldAnswer {
             number: 0,
-            value: number,
+            value,
             beside: 0,
         },
         look_up::Answer::Refused { number, place } => FieldAnswer {

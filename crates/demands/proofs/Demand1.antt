@@ -275,7 +275,7 @@ module _ (s : List ℕ) (k : ℕ) (b : ByteNo) where
   -- assigned field of that header begins at the byte number, and the number is that field's.
   -- Rules out a look-up that gives one fixed number, one that takes the first trace's number for the rest, and filling field 115 only for
   -- the first trace.
-  pub look-up-number : lookUpOutcome s k b .said ≡ taken [] → AssignedNumber s k b (lookUpOutcome s k b .number)
+  pub look-up-number : lookUpOutcome s k b .said ≡ taken [] → AssignedNumber s k b (lookUpOutcome s k b .value)
   unfolding lookUpOutcome
   look-up-number e = go (lookUpCauses s k b) refl e
     where
@@ -285,7 +285,7 @@ module _ (s : List ℕ) (k : ℕ) (b : ByteNo) where
       at none q n = absurd (apart (sym n))
 
       go : (c : Check) → lookUpCauses s k b ≡ c → numberSaid c (foundNumber s k (fieldAt k b)) .said ≡ taken []
-          → AssignedNumber s k b (numberSaid c (foundNumber s k (fieldAt k b)) .number)
+          → AssignedNumber s k b (numberSaid c (foundNumber s k (fieldAt k b)) .value)
       go Fine q e =
           let a = then-fine (causesOf s) (fieldCauses (tracesOf s) k (isNone (fieldAt k b))) q in
           let d = then-fine (refuseIf (ltb (tracesOf s) k) 15 0) _ (a .1) in
@@ -294,10 +294,10 @@ module _ (s : List ℕ) (k : ℕ) (b : ByteNo) where
 
   -- THEOREM. Document 01: "beside a refusal the number is 0."
   -- Alone it rules out none of the list.
-  pub look-up-zero : (number place : ℕ) → lookUpOutcome s k b .said ≡ refused number place → lookUpOutcome s k b .number ≡ pos 0
+  pub look-up-zero : (number place : ℕ) → lookUpOutcome s k b .said ≡ refused number place → lookUpOutcome s k b .value ≡ pos 0
   unfolding lookUpOutcome
   look-up-zero number place e =
-      ap (λ (c : Check). numberSaid c (foundNumber s k (fieldAt k b)) .number)
+      ap (λ (c : Check). numberSaid c (foundNumber s k (fieldAt k b)) .value)
       (says-refused lookUpSays [] refl (λ n p. refl) (lookUpCauses s k b) number place .0 e)
 
 -- ## Single samples

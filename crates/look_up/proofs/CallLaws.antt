@@ -1,6 +1,6 @@
 -- What the parts of the call have to do with its outcome. Assumes nothing.
 use mathlib.Core.Path.{_≡_, sym, ap, _∙_}
-use mathlib.Core.List.{List, [], _∷_}
+use mathlib.Core.List.{List}
 use mathlib.Core.Bool.{Bool, true, false}
 use Prim.Native.Nat.{ℕ, suc, _+_, _-_, _*_, _^_, _≤_, _<_}
 use native.Mathlib.Nat.{mul-le-mul, le-refl}
@@ -8,10 +8,10 @@ use native.Mathlib.Omega.{arith}
 use borrow.Author.Tests.{eq-eqb, ne-eqb, eqb-false}
 use lib.Dec.{ltb, eqb}
 use lib.IntN.{ℤ, pos, negsuc, natAbs}
-use lib.ListN.{length, getD}
+use lib.ListN.{length}
 use mir.Syntax.{w16, w32}
 use mir.Val.{SFits, ofZ}
-use Rattle.numbers.specs.Walk.{pick, bytesAt}
+use Rattle.numbers.specs.Walk.{pick}
 use Rattle.numbers.specs.Places.{byteNo}
 use Rattle.numbers.specs.Cause.{refuseIf}
 use Rattle.numbers.specs.declared.Check.{Check}

@@ -8,16 +8,13 @@ use Prim.Native.Nat.{ℕ, zero, suc, _+_, _%_, _≤_, _<_}
 use native.Mathlib.Nat.{eq-or-lt-of-le}
 use native.Mathlib.Omega.{arith}
 use borrow.Author.Tests.{leb-true, eqb-true, lt-leb, lt-ltb, le-ltb, ne-eqb}
-use lib.Dec.{T, leb, ltb, eqb}
+use lib.Dec.{leb, ltb, eqb}
 use Rattle.numbers.specs.Walk.{pick}
 use Rattle.numbers.proofs.SignLaws.{below-or}
 use Rattle.reel.specs.Layout.{Field, binaryWidths, binaryFields, traceWidths, traceFields}
 use Rattle.look_up.specs.LookUp.{Found, found, none, fieldIn, isNone}
+use Rattle.numbers.proofs.BoolLaws.{and-true}
 use Rattle.look_up.specs.Parts.{inRow, widthOf, theField}
-
-both : (a b : Bool) → (a && b) ≡ true → (a ≡ true) × (b ≡ true)
-both true b e = (refl, e)
-both false b e = absurd (subst T (sym e) tt)
 
 -- ## A test of each field
 
@@ -35,10 +32,10 @@ liesIn lo hi f =
 
 lies-true : (lo hi : ℕ) (f : Field) → liesIn lo hi f ≡ true → Lies lo hi (f .begins) (f .width)
 lies-true lo hi f e =
-    let p = both (leb lo (f .begins)) _ e in
-    let q = both (leb (f .begins + f .width) hi) _ (p .1) in
-    let r = both (leb 2 (f .width)) _ (q .1) in
-    let s = both (leb (f .width) 4) _ (r .1) in
+    let p = and-true (leb lo (f .begins)) _ e in
+    let q = and-true (leb (f .begins + f .width) hi) _ (p .1) in
+    let r = and-true (leb 2 (f .width)) _ (q .1) in
+    let s = and-true (leb (f .width) 4) _ (r .1) in
     record {
       low = leb-true _ _ (p .0);
       high = leb-true _ _ (q .0);
@@ -60,7 +57,7 @@ found-at : (lo hi : ℕ) (fs : List Field) → eachLies lo hi fs ≡ true → (b
 unfolding fieldIn FoundAt
 found-at lo hi [] e b = tt
 found-at lo hi (f ∷ fs) e b =
-    let p = both (liesIn lo hi f) (eachLies lo hi fs) e in
+    let p = and-true (liesIn lo hi f) (eachLies lo hi fs) e in
     go (eqb (f .begins) b) refl (lies-true lo hi f (p .0)) (found-at lo hi fs (p .1) b)
   where
     go : (t : Bool) → eqb (f .begins) b ≡ t → Lies lo hi (f .begins) (f .width) → FoundAt lo hi b (fieldIn b fs)
@@ -104,7 +101,7 @@ each t zero a e k l h = absurd (past l h)
     past : a ≤ k → k < a + 0 → ⊥
     past l h = omega arith
 each t (suc n) a e k l h =
-    let p = both (t a) (every t n (suc a)) e in
+    let p = and-true (t a) (every t n (suc a)) e in
     ⊎-elim (λ (q : a ≡ k). sym (ap t q) ∙ p .0) (λ (q : a < k). each t n (suc a) (p .1) k q (omega arith)) (eq-or-lt-of-le l)
 
 -- at a byte number before the header's first or behind its last nothing begins

@@ -69,12 +69,12 @@ lookUpCauses s k b = then (causesOf s) (fieldCauses (tracesOf s) k (isNone (fiel
 -- The complete outcome: what the call says, and the number.
 pub record NumberOutcome : Type 0 where
   pub said : Said
-  pub number : ℤ
+  pub value : ℤ
 
 -- Beside a refusal the number is 0.
 abbrev pub numberSaid : Check → ℤ → NumberOutcome
-numberSaid Fine z = record { said = taken []; number = z }
-numberSaid (Refused number place) z = record { said = refused number (placeNo place); number = pos 0 }
+numberSaid Fine z = record { said = taken []; value = z }
+numberSaid (Refused number place) z = record { said = refused number (placeNo place); value = pos 0 }
 
 -- The outcome for a reel s, header k and byte number b.
 unfoldable pub lookUpOutcome : List ℕ → ℕ → ByteNo → NumberOutcome
@@ -83,5 +83,5 @@ lookUpOutcome s k b = numberSaid (lookUpCauses s k b) (foundNumber s k (fieldAt 
 -- Document 01's number and values for each case of the answer: taken with the signed number; or refused with the number and what stands
 -- beside it, and then the looked-up number is 0.
 abbrev pub lookedUp : Answer → NumberOutcome
-lookedUp (answer.Taken z) = record { said = taken []; number = z }
-lookedUp (answer.Refused number place) = record { said = refused number (placeNo place); number = pos 0 }
+lookedUp (answer.Taken z) = record { said = taken []; value = z }
+lookedUp (answer.Refused number place) = record { said = refused number (placeNo place); value = pos 0 }

@@ -19,7 +19,7 @@ use reel::Judged;
 
 // What looking up answers: the signed number, or refused with number and place.
 pub enum Answer {
-    Taken { number: i32 },
+    Taken { value: i32 },
     Refused { number: u8, place: Place },
 }
 
@@ -216,7 +216,7 @@ fn look(
     match c {
         Check::Refused { number, place } => Answer::Refused { number, place },
         Check::Fine => Answer::Taken {
-            number: header_number(reel, samples, interval, stride, trace, b, width),
+            value: header_number(reel, samples, interval, stride, trace, b, width),
         },
     }
 }

@@ -4,13 +4,13 @@ use mathlib.Core.List.{List, [], _∷_, _++_}
 use Prim.Native.Nat.{ℕ, zero, suc, _+_, _*_, _/_, _%_, _^_, _<_}
 use native.Mathlib.Nat.{mod-one, mul-one, add-zero, pow-suc, one-le-pow, zero-lt-suc, mul-assoc, mul-comm, add-assoc, mod-eq-of-lt, zero-mul, zero-add, add-mul, mul-add-div-right, mul-add-mod-self-right}
 use native.Mathlib.Omega.{arith}
-use lib.Arith.{mod-mul, digits-div, digits-mod, digits-lt}
+use lib.Arith.{mod-mul, digits-div, digits-lt}
 use lib.ListN.{length, getD}
 use lib.Pow.{pow-add}
 use Rattle.numbers.proofs.WalkLaws.{all-at, cons-eq, size-bytes}
 use Rattle.numbers.specs.Walk.{walk, bytesAt}
 use Rattle.numbers.specs.BigEndian.{numberAfter, number, bytesOf}
-use Rattle.numbers.specs.Terms.{Bytes, All}
+use Rattle.numbers.specs.Terms.{Bytes}
 
 -- The bytes of a number are bytes.
 pub bytes-of : (k n : ℕ) → Bytes (bytesOf k n)

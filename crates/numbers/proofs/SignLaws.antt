@@ -1,6 +1,6 @@
 -- Two's complement at every width: bits and signed numbers determine each other, and -1 - z has z's bits turned over. Assumes nothing.
 use mathlib.Core.Path.{_≡_, refl, sym, ap, _∙_, subst}
-use mathlib.Core.Bool.{Bool, true, false}
+use mathlib.Core.Bool.{true, false}
 use mathlib.Core.Logic.{_⊎_, inl, inr, ⊎-elim}
 use Prim.Native.Nat.{ℕ, zero, suc, _+_, _-_, _^_, _≤_, _<_}
 use native.Mathlib.Nat.{zero-add, pow-suc}
@@ -13,7 +13,7 @@ use lib.Signed.{ltZ, nonNeg, mag}
 use mir.Syntax.{Width, w8, w16, w32, w64, w128}
 use mir.Val.{Fits, SFits, bits, hbits, ofZ, toZ}
 use mir.ValLaws.{pow-bits}
-use mir.Facts.{toZ-pos, toZ-ofZ, sfits-toZ}
+use mir.Facts.{toZ-pos}
 use Rattle.numbers.specs.TwosComplement.{signedOf, bitsOf}
 
 -- one of two numbers is below the other, or not

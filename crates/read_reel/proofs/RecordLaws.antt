@@ -8,7 +8,7 @@ use native.Mathlib.Omega.{arith}
 use borrow.Author.Tests.{eqb-true, le-leb, ne-eqb}
 use lib.Dec.{eqb}
 use lib.ListN.{length, length-append}
-use lib.IntN.{ℤ, pos, negsuc, natAbs}
+use lib.IntN.{pos, natAbs}
 use Rattle.numbers.specs.Terms.{Bytes}
 use Rattle.numbers.specs.Walk.{pick, walk, flat, bytesAt, overwritten}
 use Rattle.numbers.specs.Places.{bytePlace}
@@ -20,7 +20,7 @@ use Rattle.numbers.proofs.WalkLaws.{size-walk, size-bytes}
 use Rattle.numbers.proofs.Filling.{over-part, over-bytes}
 use Rattle.numbers.proofs.CauseLaws.{passed, then-fine}
 use Rattle.numbers.proofs.ByteLaws.{number-at, bytes-append}
-use Rattle.numbers.proofs.SignLaws.{bits-signed}
+use Rattle.numbers.proofs.SignLaws.{abs-zero, bits-signed}
 use Rattle.value.specs.Value.{isCode, exactValue}
 use Rattle.sample.specs.Reading.{badGain}
 use Rattle.reel.specs.Layout.{cardBytes, fieldsFrom, traceWidths, traceFields, fieldNumber, firstTrace, traceHeader, number16, samplesOf, intervalOf, codeOf, sampleBytes, strideOf, tracesOf}
@@ -62,13 +62,6 @@ head-is s h =
     ∙ sym (ap₂ (λ (x y : List ℕ). x ++ y) (field-is 1 cardBytes (cardText s) (size-cards s)) (field-is 2 binarySize binary (size-binary s h 0 0)))
 
 -- ## A trace header
-
-abs-zero : (z : ℤ) → natAbs z ≡ 0 → z ≡ pos 0
-abs-zero (pos n) e = ap pos e
-abs-zero (negsuc n) e = absurd (no e)
-  where
-    no : suc n ≡ 0 → ⊥
-    no e = omega arith
 
 -- a number that is filled in, by its bits
 fill-bits : (own v : ℕ) → v < 2 ^ 16 → bitsOf 16 (filled own (signedOf 16 v)) ≡ ownOr own v

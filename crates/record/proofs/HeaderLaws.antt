@@ -1,10 +1,10 @@
 -- The headers around the fields that a record changes: the binary header around its format code, a trace header around 115 and 117.
 -- Assumes nothing.
 use mathlib.Core.Path.{_≡_, refl}
-use mathlib.Core.List.{List, [], _∷_, _++_, map}
-use Prim.Native.Nat.{ℕ, _+_}
+use mathlib.Core.List.{List, _∷_, _++_, map}
+use Prim.Native.Nat.{ℕ}
 use lib.ListN.{length, replicate, length-map}
-use lib.IntN.{ℤ, pos}
+use lib.IntN.{pos}
 use Rattle.numbers.proofs.WalkLaws.{size-bytes}
 use Rattle.reel.specs.Layout.{Field, fieldsFrom, binaryWidths, binaryFields, traceWidths, traceFields, fieldNumber}
 use Rattle.reel.specs.Meaning.{cardText, binaryNumbers, filled, traceNumber}

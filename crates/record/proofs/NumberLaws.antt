@@ -1,21 +1,19 @@
 -- Header numbers and their bytes: the numbers of a header's fields, written again, are the header's bytes. Assumes nothing.
 use mathlib.Core.Path.{_≡_, refl, sym, ap, ap₂, _∙_}
 use mathlib.Core.List.{List, [], _∷_, _++_, map, append-assoc}
-use mathlib.Core.Bool.{Bool, true, false}
-use Prim.Native.Nat.{ℕ, zero, suc, _+_, _-_, _*_, _/_, _%_, _^_, _≤_, _<_}
-use native.Mathlib.Nat.{zero-add, add-zero, pow-suc, mul-suc, mul-zero}
+use Prim.Native.Nat.{ℕ, zero, suc, _+_, _-_, _*_, _^_, _≤_, _<_}
+use native.Mathlib.Nat.{pow-suc, mul-suc}
 use native.Mathlib.Omega.{arith}
 use lib.Pow.{pow-add}
-use lib.ListN.{length, getD, take, drop}
-use lib.IntN.{ℤ, pos}
+use lib.ListN.{length}
+use lib.IntN.{ℤ}
 use Rattle.numbers.specs.Terms.{Bytes}
-use Rattle.numbers.specs.Walk.{walk, bytesAt}
+use Rattle.numbers.specs.Walk.{bytesAt}
 use Rattle.numbers.specs.BigEndian.{number, bytesOf}
 use Rattle.numbers.specs.TwosComplement.{signedOf, bitsOf}
-use Rattle.numbers.proofs.WalkLaws.{size-bytes}
 use Rattle.numbers.proofs.ByteLaws.{number-at, bytes-again, bytes-append}
 use Rattle.numbers.proofs.SignLaws.{bits-signed}
-use Rattle.reel.specs.Layout.{Field, fieldsFrom, fieldNumber}
+use Rattle.reel.specs.Layout.{fieldsFrom, fieldNumber}
 use Rattle.record.specs.Record.{numberBytes}
 
 -- ## One number

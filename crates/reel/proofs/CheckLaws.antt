@@ -1,27 +1,23 @@
 -- What a reel's checks find, and what follows where they find nothing. Assumes nothing.
 use mathlib.Core.Path.{_≡_, refl, sym, ap, _∙_, subst}
-use mathlib.Core.Logic.{⊎-elim}
-use mathlib.Core.List.{List, [], _∷_}
+use mathlib.Core.List.{List}
 use mathlib.Core.Bool.{Bool, true, false, not, _&&_}
-use Prim.Native.Nat.{ℕ, zero, suc, _+_, _-_, _*_, _/_, _%_, _^_, _≤_, _<_}
+use Prim.Native.Nat.{ℕ, zero, suc, _+_, _-_, _*_, _≤_}
 use native.Mathlib.Nat.{mul-le-mul, div-mul-le-self}
 use native.Mathlib.Omega.{arith}
-use borrow.Author.Tests.{lt-ltb, lt-leb, le-leb, leb-true, ne-eqb, ltb-false}
+use borrow.Author.Tests.{leb-true, ne-eqb, ltb-false}
 use lib.Dec.{T, leb, ltb, eqb}
-use lib.ListN.{length, getD}
-use Rattle.numbers.specs.Walk.{pick, walk, bytesAt}
-use Rattle.numbers.specs.Cause.{refuseIf, then, firstOf}
-use Rattle.numbers.specs.declared.Check.{Check}
+use lib.ListN.{length}
+use Rattle.numbers.specs.Walk.{pick, walk}
+use Rattle.numbers.specs.Cause.{refuseIf, firstOf}
 use Rattle.numbers.specs.declared.Check.the-variants.{Fine, Refused}
-use Rattle.numbers.specs.declared.Place.{Place}
 use Rattle.numbers.proofs.CauseLaws.{passed, then-fine}
 use Rattle.value.specs.Value.{isCode, exactValue}
 use Rattle.sample.specs.Reading.{badGain, readWord, pairTaken}
-use Rattle.sample.specs.declared.Sample.{Sample}
 use Rattle.sample.specs.declared.Sample.the-variants as sample
-use Rattle.reel.specs.Layout.{firstTrace, number16, samplesOf, codeOf, intervalOf, sampleBytes, stride, strideOf, overIn, tracesOf}
+use Rattle.reel.specs.Layout.{firstTrace, samplesOf, codeOf, intervalOf, sampleBytes, stride, strideOf, overIn, tracesOf}
 use Rattle.reel.specs.Parts.{wordRefused}
-use Rattle.reel.specs.Causes.{mostSamples, mostTraces, within, neither, limitCauses, sizeCauses, wordCause, traceCauses, behindCauses, causesOf}
+use Rattle.reel.specs.Causes.{mostSamples, mostTraces, within, limitCauses, sizeCauses, wordCause, traceCauses, behindCauses, causesOf}
 
 -- ## Rows
 

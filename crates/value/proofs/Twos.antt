@@ -1,6 +1,6 @@
 -- The twos of a number: every number other than 0 is an odd number times a power of two, in one way. Assumes nothing.
 use mathlib.Core.Path.{_≡_, refl, sym, ap, _∙_, subst}
-use Prim.Native.Nat.{ℕ, zero, suc, _-_, _*_, _/_, _%_, _^_, _≤_, _<_}
+use Prim.Native.Nat.{ℕ, zero, suc, _*_, _/_, _%_, _^_, _≤_, _<_}
 use native.Mathlib.Nat.{mul-one, mul-assoc, pow-suc, mul-mod-left, mul-div-cancel, zero-lt-suc, le-of-suc-le-suc, lt-of-lt-of-le, mul-le-mul-right, one-mul}
 use native.Mathlib.Omega.{arith}
 use native.Mathlib.Decide.{decLt}

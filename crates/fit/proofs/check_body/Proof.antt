@@ -1,7 +1,7 @@
 -- `fit::check_body` meets its contract. Assumes nothing.
 use Rattle.fit.proofs.FitLaws.{trace-fine, fit-end, body-more, body-stop}
 use Rattle.record.proofs.FormLaws.{isMore, more-few, form-room, form-end}
-use Rattle.record.specs.Form.{tracesPlace, traceForm}
+use Rattle.record.specs.Form.{tracesPlace}
 use Rattle.fit.specs.Parts.{traceCheck, fitFrom}
 use Rattle.record.specs.Parts.{formFrom}
 use Rattle.reel.specs.Causes.{mostTraces}
@@ -9,7 +9,7 @@ use Rattle.numbers.proofs.CauseLaws.{then-last}
 use Rattle.numbers.specs.Cause.{then}
 use Rattle.numbers.specs.declared.Check.the-variants.{Fine}
 use lib.ListN.{length}
-use mathlib.Core.Bool.{true, false}
+use mathlib.Core.Bool.{true}
 use Prim.Native.Nat.{_+_, _-_, _*_, _≤_, _<_}
 use mathlib.Core.Path.{_≡_, refl, sym, ap, ap₂, _∙_}
 use native.Mathlib.Omega.{arith}

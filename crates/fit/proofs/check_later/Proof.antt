@@ -1,8 +1,6 @@
 -- `fit::check_later` meets its contract. Assumes nothing.
-use Rattle.record.specs.Parts.{formFrom}
-use Rattle.reel.specs.Causes.{mostTraces}
 use Rattle.numbers.proofs.CauseLaws.{then-stop, then-next}
-use mathlib.Core.Path.{_≡_, sym, _∙_}
+use mathlib.Core.Path.{sym, _∙_}
 use Rattle.fit.proofs.check_later.Statement.{statement}
 use Rattle.fit.proofs.check_later.Tie as tie
 

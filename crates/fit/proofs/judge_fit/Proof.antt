@@ -4,7 +4,7 @@ use Rattle.record.proofs.FormLaws.{numbers-held}
 use Rattle.record.specs.Form.{recordFound}
 use Rattle.record.specs.declared.Numbers.{Numbers}
 use Rattle.record.specs.declared.Judged.the-variants as judged
-use mathlib.Core.Path.{_≡_, sym, ap, _∙_}
+use mathlib.Core.Path.{sym, ap, _∙_}
 use Rattle.fit.proofs.judge_fit.Statement.{statement}
 use Rattle.fit.proofs.judge_fit.Tie as tie
 

@@ -1,7 +1,7 @@
 -- `line::put_digits` meets its contract: a digit below ten by `decimal-one`, any other number by `decimal-more`. The measure is n. Assumes nothing.
 use mathlib.Core.Path.{ap, _∙_}
 use mathlib.Core.List.{List, [], _∷_}
-use Prim.Native.Nat.{ℕ, _+_, _/_, _%_, _<_}
+use Prim.Native.Nat.{ℕ, _/_, _%_, _<_}
 use native.Mathlib.Omega.{arith}
 use lib.ListN.{set, length-append}
 use lib.Seq.{sets}

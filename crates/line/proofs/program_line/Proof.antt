@@ -3,7 +3,7 @@ use Rattle.line.specs.Line.{mostInput, lineOf, padded}
 use Rattle.numbers.specs.Outcome.{Outcome}
 use lib.ListN.{length}
 use borrow.Author.Tests.{lt-ltb, le-ltb}
-use mathlib.Core.Path.{_≡_, ap, _∙_}
+use mathlib.Core.Path.{ap, _∙_}
 use borrow.Author.Needs.{needs}
 use Rattle.line.proofs.program_line.Statement.{statement}
 use Rattle.line.proofs.program_line.Tie as tie

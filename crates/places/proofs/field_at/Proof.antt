@@ -1,6 +1,6 @@
 -- `places::field_at` meets its contract. Assumes nothing.
 use Rattle.numbers.specs.Places.{placeOr}
-use mathlib.Core.Path.{_≡_, sym, ap, _∙_}
+use mathlib.Core.Path.{sym, ap, _∙_}
 use borrow.Author.Needs.{needs}
 use Rattle.places.proofs.field_at.Statement.{statement}
 use Rattle.places.proofs.field_at.Tie as tie

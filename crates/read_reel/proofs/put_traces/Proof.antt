@@ -7,7 +7,7 @@ use Rattle.numbers.proofs.Filling.{Filling, start as begin, finish, part-put}
 use Rattle.numbers.proofs.WalkLaws.{times-more, flat-none}
 use Rattle.numbers.specs.Walk.{flat}
 use lib.ListN.{length}
-use Prim.Native.Nat.{ℕ, _+_, _-_, _*_, _≤_}
+use Prim.Native.Nat.{ℕ, _+_, _*_, _≤_}
 use mathlib.Core.List.{map}
 use mathlib.Core.Path.{_≡_, refl, sym, ap, _∙_}
 use native.Mathlib.Omega.{arith}

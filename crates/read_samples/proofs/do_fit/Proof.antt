@@ -4,7 +4,7 @@ use Rattle.reel.specs.Layout.{sampleBytes}
 use borrow.Author.Tests.{not-true, not-false}
 use lib.Dec.{leb}
 use Prim.Native.Nat.{ℕ, _+_, _*_}
-use mathlib.Core.Bool.{Bool, true, false}
+use mathlib.Core.Bool.{true, false}
 use mathlib.Core.Path.{_≡_, sym, ap, _∙_}
 use Rattle.read_samples.proofs.do_fit.Statement.{statement}
 use Rattle.read_samples.proofs.do_fit.Tie as tie

@@ -1,10 +1,9 @@
 -- `read_samples::read_samples` meets its contract. Assumes nothing.
 use Rattle.read_samples.specs.Samples.{samplesFit}
-use Rattle.read_samples.proofs.SampleLaws.{they-fit, fit-read, unfit-kept, size-samples}
+use Rattle.read_samples.proofs.SampleLaws.{they-fit, fit-read, unfit-kept}
 use borrow.Author.Tests.{not-true, not-false}
-use lib.ListN.{length}
-use mathlib.Core.Bool.{true, false}
-use mathlib.Core.Path.{_≡_, sym, ap, _∙_}
+use mathlib.Core.Bool.{true}
+use mathlib.Core.Path.{_≡_, sym, _∙_}
 use Rattle.read_samples.proofs.read_samples.Statement.{statement}
 use Rattle.read_samples.proofs.read_samples.Tie as tie
 

@@ -1,6 +1,5 @@
 -- `record::check_card_bytes` meets its contract. Assumes nothing.
 use Rattle.numbers.proofs.CauseLaws.{first-none, first-more, first-stop}
-use Rattle.numbers.proofs.WalkLaws.{times-more}
 use Rattle.numbers.specs.Cause.{firstOf}
 use Rattle.numbers.specs.Walk.{walk}
 use Rattle.record.specs.Form.{cardCause}

@@ -1,6 +1,6 @@
 -- `record::check_field` meets its contract. Assumes nothing.
 use Rattle.reel.specs.Layout.{number16}
-use borrow.Author.Tests.{leb-true, le-leb, eq-eqb, ne-eqb, not-true, not-false}
+use borrow.Author.Tests.{leb-true, eq-eqb, ne-eqb, not-true, not-false}
 use lib.Dec.{leb}
 use lib.ListN.{length, getD}
 use Prim.Native.Nat.{_+_, _≤_}

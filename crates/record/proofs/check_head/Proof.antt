@@ -1,19 +1,16 @@
 -- `record::check_head` meets its contract. Assumes nothing.
 use Rattle.record.proofs.FormLaws.{head-form, field-room}
 use Rattle.record.specs.Form.{fieldCause}
-use Rattle.record.specs.Parts.{headForm}
 use Rattle.reel.specs.Layout.{number16}
 use Rattle.numbers.proofs.CauseLaws.{then-stop, then-next}
 use Rattle.numbers.specs.Cause.{refuseIf}
 use Rattle.numbers.specs.Places.{placeNo, bytePlace}
-use Rattle.numbers.specs.declared.Check.{Check}
 use Rattle.numbers.specs.declared.Check.the-variants.{Fine}
 use lib.Dec.{eqb}
-use mathlib.Core.List.{List}
 use lib.ListN.{length}
 use mathlib.Core.Bool.{not}
-use Prim.Native.Nat.{ℕ, _+_, _*_, _≤_}
-use mathlib.Core.Path.{_≡_, sym, ap, _∙_}
+use Prim.Native.Nat.{_+_, _≤_}
+use mathlib.Core.Path.{_≡_, sym, _∙_}
 use native.Mathlib.Omega.{arith}
 use borrow.Author.Needs.{needs}
 use Rattle.record.proofs.check_head.Statement.{statement}

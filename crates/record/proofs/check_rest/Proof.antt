@@ -7,7 +7,7 @@ use Rattle.numbers.proofs.CauseLaws.{then-stop}
 use Rattle.numbers.specs.Cause.{then}
 use Rattle.numbers.specs.declared.Check.the-variants.{Fine}
 use lib.ListN.{length}
-use mathlib.Core.Bool.{true, false}
+use mathlib.Core.Bool.{true}
 use Prim.Native.Nat.{_+_, _-_, _*_, _≤_, _<_}
 use mathlib.Core.Path.{_≡_, refl, sym, ap, _∙_}
 use native.Mathlib.Omega.{arith}

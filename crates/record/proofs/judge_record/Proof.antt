@@ -3,7 +3,7 @@ use Rattle.record.proofs.FormLaws.{numbers-held}
 use Rattle.record.specs.Form.{recordFound}
 use Rattle.record.specs.declared.Numbers.{Numbers}
 use Rattle.record.specs.declared.Judged.the-variants as judged
-use mathlib.Core.Path.{_≡_, sym, ap, _∙_}
+use mathlib.Core.Path.{sym, ap, _∙_}
 use Rattle.record.proofs.judge_record.Statement.{statement}
 use Rattle.record.proofs.judge_record.Tie as tie
 

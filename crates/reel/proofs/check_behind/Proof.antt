@@ -5,7 +5,7 @@ use Rattle.reel.specs.Layout.{firstTrace}
 use Rattle.numbers.proofs.CauseLaws.{then-stop, then-next}
 use lib.ListN.{length}
 use native.Mathlib.Nat.{mod-le, div-mul-le-self}
-use mathlib.Core.Path.{_≡_, sym, _∙_}
+use mathlib.Core.Path.{sym, _∙_}
 use native.Mathlib.Omega.{arith}
 use borrow.Author.Needs.{needs}
 use Rattle.reel.proofs.check_behind.Statement.{statement}

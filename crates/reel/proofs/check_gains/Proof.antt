@@ -9,8 +9,8 @@ use Rattle.numbers.specs.Cause.{firstOf}
 use Rattle.numbers.specs.Walk.{walk}
 use lib.ListN.{length, getD}
 use mathlib.Core.List.{[], _∷_}
-use Prim.Native.Nat.{ℕ, _+_, _-_, _*_, _≤_, _<_}
-use mathlib.Core.Path.{_≡_, refl, sym, ap, _∙_}
+use Prim.Native.Nat.{_+_, _*_, _≤_}
+use mathlib.Core.Path.{_≡_, sym, ap, _∙_}
 use borrow.Author.Needs.{needs}
 use native.Mathlib.Omega.{arith}
 use Rattle.reel.proofs.check_gains.Statement.{statement}

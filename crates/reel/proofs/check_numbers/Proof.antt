@@ -5,7 +5,7 @@ use Rattle.reel.specs.Layout.{stride}
 use Rattle.numbers.proofs.CauseLaws.{then-stop, then-next}
 use native.Mathlib.Nat.{mul-le-mul}
 use Prim.Native.Nat.{ℕ, _*_, _≤_}
-use mathlib.Core.Path.{_≡_, refl, sym, ap, _∙_}
+use mathlib.Core.Path.{refl, sym, ap, _∙_}
 use native.Mathlib.Omega.{arith}
 use borrow.Author.Needs.{needs}
 use Rattle.reel.proofs.check_numbers.Statement.{statement}

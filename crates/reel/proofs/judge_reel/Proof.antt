@@ -1,6 +1,6 @@
 -- `reel::judge_reel` meets its contract. Assumes nothing.
 use Rattle.reel.specs.Causes.{reelFound}
-use mathlib.Core.Path.{_≡_, sym, ap, _∙_}
+use mathlib.Core.Path.{sym, ap, _∙_}
 use borrow.Author.Needs.{needs}
 use Rattle.reel.proofs.judge_reel.Statement.{statement}
 use Rattle.reel.proofs.judge_reel.Tie as tie

@@ -3,9 +3,8 @@ use Rattle.write_samples.specs.Samples.{samplesChecked}
 use Rattle.write_samples.proofs.WordLaws.{samples-checked}
 use Rattle.value.specs.Value.{isCode}
 use borrow.Author.Tests.{not-true, not-false, leb-true}
-use lib.Dec.{leb}
 use lib.ListN.{length}
-use mathlib.Core.Bool.{true, false}
+use mathlib.Core.Bool.{true}
 use mathlib.Core.Path.{_≡_, sym, _∙_}
 use Prim.Native.Nat.{_+_, _*_, _≤_}
 use Rattle.write_samples.proofs.check_samples.Statement.{statement}

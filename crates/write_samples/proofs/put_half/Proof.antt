@@ -5,7 +5,7 @@ use lib.Dec.{lit<}
 use lib.ListN.{length, getD, take}
 use lib.Seq.{lt-length-sets}
 use mathlib.Core.List.{[], _∷_}
-use mathlib.Core.Path.{_≡_, sym, ap, _∙_}
+use mathlib.Core.Path.{sym, ap, _∙_}
 use native.Mathlib.Omega.{arith}
 use Rattle.write_samples.proofs.put_half.Statement.{statement}
 use Rattle.write_samples.proofs.put_half.Tie as tie
