@@ -1,9 +1,9 @@
 -- Two reels mean the same exactly when they agree number by number. Assumes of the reels only that each byte is below 256, and that only to
 -- tell N from its field.
-use mathlib.Core.Path.{_≡_, refl, sym, ap, ap₂, _∙_}
+use mathlib.Core.Path.{_≡_, sym, ap, ap₂, _∙_}
 use mathlib.Core.List.{List, [], _∷_, map}
 use mathlib.Core.Bool.{Bool, false}
-use Prim.Native.Nat.{ℕ, zero, suc, _+_, _-_, _*_, _<_}
+use Prim.Native.Nat.{ℕ, suc, _+_, _-_, _*_, _<_}
 use native.Mathlib.Omega.{arith}
 use borrow.Author.Tests.{ne-eqb}
 use lib.Dec.{eqb}
@@ -11,7 +11,8 @@ use lib.ListN.{getD, drop}
 use lib.IntN.{ℤ}
 use Rattle.numbers.specs.Walk.{pick, walk, bytesAt}
 use Rattle.numbers.specs.Terms.{All, Bytes}
-use Rattle.numbers.proofs.WalkLaws.{cons-eq, at-zero, at-suc, walk-each, map-walk}
+use Rattle.numbers.proofs.WalkLaws.{walk-each, walk-same, map-walk}
+use Rattle.numbers.proofs.AllLaws.{map-same}
 use Rattle.value.specs.Value.{exactValue}
 use Rattle.reel.specs.Layout.{Field, cardBytes, firstTrace, traceHeader, binaryFields, traceFields, fieldNumber, intervalOf, samplesOf, codeOf, sampleBytes, strideOf, tracesOf}
 use Rattle.reel.specs.Meaning.{blank, cardText, otherThan, binaryNumbers, traceNumber, Trace, traceMeaning, meaningOf, MeanTheSame}
@@ -21,22 +22,10 @@ use Rattle.demands.specs.Results.{sampleValue, Agree}
 
 -- ## Lists
 
--- Two walks of k steps are the same where each step of the one gives what that step of the other gives.
-walk-same : {A : Type 0} (f g : ℕ → A) (w v k a b : ℕ) → ((j : ℕ) → j < k → f (a + j * w) ≡ g (b + j * v)) → walk f w k a ≡ walk g v k b
-walk-same f g w v zero a b h = refl
-walk-same f g w v (suc k) a b h =
-    cons-eq (ap f (sym (at-zero a w)) ∙ h 0 (omega arith) ∙ ap g (at-zero b v))
-    (walk-same f g w v k (a + w) (b + v) (λ j l. ap f (sym (at-suc a w j)) ∙ h (suc j) (omega arith) ∙ ap g (at-suc b v j)))
-
--- Two functions give the same of each element of a list where they give the same list,
+-- Two functions give the same of each element of a list where they give the same list; `map-same` is the other way.
 each-same : {A B : Type 0} (f g : A → B) (l : List A) → map f l ≡ map g l → All (λ x. f x ≡ g x) l
 each-same f g [] e = tt
 each-same f g (x ∷ l) e = let h : f x ≡ g x = cc in (h, each-same f g l (ap (drop 1) e))
-
--- and the other way.
-list-same : {A B : Type 0} (f g : A → B) (l : List A) → All (λ x. f x ≡ g x) l → map f l ≡ map g l
-list-same f g [] h = refl
-list-same f g (x ∷ l) h = cons-eq (h .0) (list-same f g l (h .1))
 
 -- ## Cards
 
@@ -124,7 +113,7 @@ module _ (s₁ s₂ : List ℕ) where
   numbers-all : Agree s₁ s₂ → walk (traceNumbers s₁) (strideOf s₁) (tracesOf s₁) firstTrace ≡ walk (traceNumbers s₂) (strideOf s₂) (tracesOf s₂) firstTrace
   numbers-all a =
       walk-same (traceNumbers s₁) (traceNumbers s₂) (strideOf s₁) (strideOf s₂) (tracesOf s₁) firstTrace firstTrace (λ k l.
-      sym (looked-up s₁ k) ∙ list-same (headerNumber s₁ (suc k)) (headerNumber s₂ (suc k)) traceFields (a .numbers k l) ∙ looked-up s₂ k)
+      sym (looked-up s₁ k) ∙ map-same (headerNumber s₁ (suc k)) (headerNumber s₂ (suc k)) traceFields (a .numbers k l) ∙ looked-up s₂ k)
       ∙ ap (λ (t : ℕ). walk (traceNumbers s₂) (strideOf s₂) t firstTrace) (a .count)
 
   values-all : samplesOf s₁ ≡ samplesOf s₂ → Agree s₁ s₂
@@ -146,7 +135,7 @@ module _ (s₁ s₂ : List ℕ) where
   pub agree-means : Bytes s₁ → Bytes s₂ → Agree s₁ s₂ → MeanTheSame s₁ s₂
   unfolding cardText binaryNumbers
   agree-means h₁ h₂ a =
-      let b = list-same (fieldNumber s₁ 0) (fieldNumber s₂ 0) (otherThan 3225 binaryFields) (a .binary) in
+      let b = map-same (fieldNumber s₁ 0) (fieldNumber s₂ 0) (otherThan 3225 binaryFields) (a .binary) in
       record {
         cards = bytes-same s₁ s₂ cardBytes (a .cards);
         binary = b;

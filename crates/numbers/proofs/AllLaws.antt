@@ -1,12 +1,12 @@
 -- What holds of each element of a list, of lists joined and mapped, and along a walk. Assumes nothing.
-use mathlib.Core.Path.{subst}
+use mathlib.Core.Path.{_≡_, refl, subst}
 use mathlib.Core.List.{List, [], _∷_, _++_, map}
 use Prim.Native.Nat.{ℕ, zero, suc, _+_, _*_, _<_}
 use native.Mathlib.Omega.{arith}
 use lib.ListN.{replicate}
 use Rattle.numbers.specs.Walk.{walk, flat}
 use Rattle.numbers.specs.Terms.{All, Bytes}
-use Rattle.numbers.proofs.WalkLaws.{at-zero, at-suc}
+use Rattle.numbers.proofs.WalkLaws.{cons-eq, at-zero, at-suc}
 
 -- ## Lists
 
@@ -19,6 +19,11 @@ all-append P (a ∷ x) y p q = (p .0, all-append P x y (p .1) q)
 pub all-map : {A B : Type 0} (P : A → Type 0) (Q : B → Type 0) (f : A → B) → ((a : A) → P a → Q (f a)) → (l : List A) → All P l → All Q (map f l)
 all-map P Q f h [] p = tt
 all-map P Q f h (x ∷ l) p = (h x (p .0), all-map P Q f h l (p .1))
+
+-- Two functions that give the same of each element of a list give the same list.
+pub map-same : {A B : Type 0} (f g : A → B) (l : List A) → All (λ x. f x ≡ g x) l → map f l ≡ map g l
+map-same f g [] h = refl
+map-same f g (x ∷ l) h = cons-eq (h .0) (map-same f g l (h .1))
 
 -- Where two things that hold of an element show a third, the first two of each element of a list show the third of each.
 pub all-with : {A : Type 0} (P Q R : A → Type 0) → ((a : A) → P a → Q a → R a) → (l : List A) → All P l → All Q l → All R l

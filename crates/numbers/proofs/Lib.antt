@@ -10,3 +10,4 @@ pub mod ByteLaws
 pub mod SignLaws
 pub mod FirstLaws
 pub mod PlaceLaws
+pub mod TableLaws

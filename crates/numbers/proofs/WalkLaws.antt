@@ -20,6 +20,10 @@ pub times-more : (k m : ℕ) → 0 < k → k * m ≡ m + (k - 1) * m
 times-more zero m h = absurd (not-suc-le-zero h)
 times-more (suc k) m h = rw (less-one, suc-mul) (omega arith)
 
+-- Lists with the same first element and the same rest are the same.
+pub cons-eq : {A : Type 0} {x y : A} {l k : List A} → x ≡ y → l ≡ k → x ∷ l ≡ y ∷ k
+cons-eq p q = cc
+
 -- ## Walks
 
 -- A walk of k steps has k elements.
@@ -49,6 +53,19 @@ walk-each f g w v (suc k) (suc m) a b e zero l =
 walk-each f g w v (suc k) (suc m) a b e (suc j) l =
     let t : walk f w k (a + w) ≡ walk g v m (b + v) = cc in
     ap f (at-suc a w j) ∙ walk-each f g w v k m (a + w) (b + v) t j (omega arith) ∙ sym (ap g (at-suc b v j))
+
+-- Two walks of k steps are the same where each step of the one gives what that step of the other gives.
+pub walk-same : {A : Type 0} (f g : ℕ → A) (w v k a b : ℕ) → ((j : ℕ) → j < k → f (a + j * w) ≡ g (b + j * v)) → walk f w k a ≡ walk g v k b
+walk-same f g w v zero a b h = refl
+walk-same f g w v (suc k) a b h =
+    cons-eq (ap f (sym (at-zero a w)) ∙ h 0 (omega arith) ∙ ap g (at-zero b v))
+    (walk-same f g w v k (a + w) (b + v) (λ j l. ap f (sym (at-suc a w j)) ∙ h (suc j) (omega arith) ∙ ap g (at-suc b v j)))
+
+-- Element j of a walk of numbers is what step j gives.
+pub walk-at : (f : ℕ → ℕ) (w k a j : ℕ) → j < k → getD (walk f w k a) j 0 ≡ f (a + j * w)
+walk-at f w zero a j l = absurd (not-suc-le-zero l)
+walk-at f w (suc k) a zero l = ap f (sym (at-zero a w))
+walk-at f w (suc k) a (suc j) l = walk-at f w k (a + w) j (omega arith) ∙ ap f (sym (at-suc a w j))
 
 -- A function of each thing that a walk gives is a walk.
 pub map-walk : {A B : Type 0} (h : A → B) (f : ℕ → A) (w k a : ℕ) → map h (walk f w k a) ≡ walk (λ x. h (f x)) w k a
@@ -103,10 +120,6 @@ split s₁ s₂ t₁ t₂ n e = (
   sym (take-at s₁ t₁ (length s₁) refl) ∙ ap (take (length s₁)) e ∙ take-at s₂ t₂ (length s₁) (sym n),
   sym (drop-at s₁ t₁ (length s₁) refl) ∙ ap (drop (length s₁)) e ∙ drop-at s₂ t₂ (length s₁) (sym n),
 )
-
--- Lists with the same first element and the same rest are the same.
-pub cons-eq : {A : Type 0} {x y : A} {l k : List A} → x ≡ y → l ≡ k → x ∷ l ≡ y ∷ k
-cons-eq p q = cc
 
 -- Values, of which P holds, each encoded by g in m elements, and the encodings joined.
 module _ {A B : Type 0} (g : A → List B) (P : A → Type 0) (m : ℕ) (size : (a : A) → P a → length (g a) ≡ m) where

@@ -1,0 +1,2 @@
+-- The laws of code page 037.
+pub mod PageLaws

@@ -1,0 +1,2 @@
+-- Code pages, and code page 037.
+pub mod Page

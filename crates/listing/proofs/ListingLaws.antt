@@ -1,0 +1,135 @@
+-- The lengths of a listing and of its text, and the table of card bytes that the way back uses. Assumes nothing.
+use mathlib.Core.Path.{_≡_, refl, sym, ap, ap₂, _∙_}
+use mathlib.Core.List.{List, [], _∷_, _++_, map}
+use mathlib.Core.Bool.{Bool, true, false}
+use Prim.Native.Nat.{ℕ, zero, suc, _+_, _-_, _*_, _≤_, _<_}
+use native.Mathlib.Nat.{not-suc-le-zero}
+use native.Mathlib.Omega.{arith}
+use borrow.Author.Tests.{eq-eqb, ne-eqb}
+use lib.Dec.{eqb}
+use lib.ListN.{length, getD, set, take, drop, length-append, length-map, length-drop}
+use lib.Seq.{take-all}
+use Rattle.numbers.specs.Walk.{walk, flat, bytesAt, overwritten}
+use Rattle.numbers.specs.First.{first}
+use Rattle.numbers.specs.Terms.{All, Bytes}
+use Rattle.numbers.proofs.WalkLaws.{cons-eq, walk-same, walk-at, map-walk, size-walk, flat-length, size-bytes, bytes-part}
+use Rattle.numbers.proofs.AllLaws.{map-same, all-with}
+use Rattle.numbers.proofs.ByteLaws.{bytes-at}
+use Rattle.numbers.proofs.FirstLaws.{found}
+use Rattle.numbers.proofs.Filling.{Filling, start}
+use Rattle.reel.specs.Layout.{cardBytes}
+use Rattle.reel.specs.Meaning.{blank}
+use Rattle.record.specs.Form.{fieldHead, binaryPlace}
+use Rattle.code_page.specs.Page.{charOf, codeIn, inverse}
+use Rattle.listing.specs.Listing.{cardCount, cardLength, lineLength, listingLength, lineFeed, cardStarts, lineStarts, lineOf, listingOf, cardByte, cardOf, textOf, withText}
+use Rattle.listing.specs.Parts.{cardBytesOf, cardBy, textBy}
+
+-- ## Lengths
+
+-- A line has 81 bytes, and a listing 3,240.
+pub size-line : (t text : List ℕ) (p : ℕ) → length (lineOf t text p) ≡ lineLength
+unfolding lineOf
+size-line t text p = simp (length-append, length-map, size-bytes text p cardLength) (omega arith)
+
+pub size-listing : (t text : List ℕ) → length (listingOf t text) ≡ listingLength
+unfolding listingOf
+size-listing t text = flat-length (lineOf t text) (λ p. p) lineLength (size-line t text) cardLength cardCount 0
+
+-- A card has 80 bytes, and a text 3,200.
+pub size-card : (b listing : List ℕ) (p : ℕ) → length (cardBy b listing p) ≡ cardLength
+size-card b listing p = length-map (bytesAt listing p cardLength) (charOf b) ∙ size-bytes listing p cardLength
+
+pub size-text : (b listing : List ℕ) → length (textBy b listing) ≡ cardBytes
+unfolding textBy
+size-text b listing = flat-length (cardBy b listing) (λ p. p) cardLength (size-card b listing) lineLength cardCount 0
+
+-- A record with another text, part by part: tag 01 and its length, the text, and all that stands behind it.
+pub text-parts : (r text : List ℕ) → binaryPlace ≤ length r → length text ≡ cardBytes
+    → withText r text ≡ bytesAt r 0 fieldHead ++ (text ++ bytesAt r binaryPlace (length r - binaryPlace))
+unfolding overwritten
+text-parts r text h n =
+    let front : take fieldHead r ≡ bytesAt r 0 fieldHead = bytes-part r 0 fieldHead (omega arith) in
+    let k : length (drop binaryPlace r) ≤ length r - binaryPlace = rw length-drop (omega arith) in
+    let behind : drop binaryPlace r ≡ bytesAt r binaryPlace (length r - binaryPlace) =
+    sym (take-all (length r - binaryPlace) (drop binaryPlace r) k) ∙ bytes-part r binaryPlace (length r - binaryPlace) (omega arith) in
+    let at : fieldHead + length text ≡ binaryPlace = omega arith in
+    ap₂ (λ (x y : List ℕ). x ++ (text ++ y)) front (ap (λ (p : ℕ). drop p r) at ∙ behind)
+
+-- Nothing of a listing is written, or nothing of a text: all its parts are left.
+pub listing-begun : (t text out : List ℕ) → length out ≡ listingLength → Filling (listingOf t text) out 0 (flat (map (lineOf t text) cardStarts))
+unfolding listingOf
+listing-begun t text out h = start (listingOf t text) out (h ∙ sym (size-listing t text))
+
+pub text-begun : (b listing out : List ℕ) → length out ≡ cardBytes → Filling (textBy b listing) out 0 (flat (map (cardBy b listing) lineStarts))
+unfolding textBy
+text-begun b listing out h = start (textBy b listing) out (h ∙ sym (size-text b listing))
+
+-- ## The table of card bytes
+
+-- A walk of step 1 with another number at element i.
+set-walk : (f g : ℕ → ℕ) (v k a i : ℕ) → i < k → g (a + i) ≡ v → ((x : ℕ) → ¬ (x ≡ a + i) → f x ≡ g x) → set (walk f 1 k a) i v ≡ walk g 1 k a
+set-walk f g v zero a i l e h = absurd (not-suc-le-zero l)
+set-walk f g v (suc k) a zero l e h =
+    let z : a + 0 ≡ a = omega arith in
+    cons-eq (sym e ∙ ap g z) (walk-same f g 1 1 k (a + 1) (a + 1) (λ j m. h (a + 1 + j * 1) (λ q. past j q)))
+  where
+    past : (j : ℕ) → a + 1 + j * 1 ≡ a + 0 → ⊥
+    past j q = omega arith
+set-walk f g v (suc k) a (suc i) l e h =
+    let z : a + 1 + i ≡ a + suc i = omega arith in
+    cons-eq (h a (λ q. before q)) (set-walk f g v k (a + 1) i (omega arith) (ap g z ∙ e) (λ x n. h x (λ q. n (q ∙ sym z))))
+  where
+    before : a ≡ a + suc i → ⊥
+    before q = omega arith
+
+-- The character of the code 00 is the one whose code is 00.
+code-zero : (t : List ℕ) (c : ℕ) → charOf t 0 ≡ c → codeIn t c ≡ 0
+unfolding first
+code-zero t c e = rw (eq-eqb (charOf t 0) c e)
+
+code-other : (t : List ℕ) (c : ℕ) → ¬ (c ≡ charOf t 0) → 0 < codeIn t c
+unfolding first
+code-other t c n = rw (ne-eqb (charOf t 0) c (λ e. n (sym e))) (omega (arith, found (λ b. eqb (charOf t b) c) 255 1 .from))
+
+-- A card byte other than 00 is taken as it is.
+kept : (b : ℕ) → 0 < b → b ≡ blank b
+kept b h = rw (ne-eqb b 0 (λ e. some e))
+  where
+    some : b ≡ 0 → ⊥
+    some e = omega arith
+
+-- The inverse of a table, with 40 for the character of the code 00, is the table of card bytes.
+pub blanked : (t : List ℕ) → charOf t 0 < 256 → set (inverse t) (charOf t 0) 0x40 ≡ cardBytesOf t
+unfolding inverse cardBytesOf
+blanked t h =
+    let z : 0 + charOf t 0 ≡ charOf t 0 = omega arith in
+    set-walk (codeIn t) (cardByte t) 0x40 256 0 (charOf t 0) h (ap (cardByte t) z ∙ ap blank (code-zero t (charOf t 0) refl))
+    (λ c n. kept (codeIn t c) (code-other t c (λ q. n (q ∙ sym z))))
+    ∙ sym (map-walk blank (codeIn t) 1 256 0)
+
+-- Its entry for a character is that character's card byte.
+entry-is : (t : List ℕ) (c : ℕ) → c < 256 → charOf (cardBytesOf t) c ≡ cardByte t c
+unfolding inverse cardBytesOf
+entry-is t c h =
+    let z : 0 + c * 1 ≡ c = omega arith in
+    ap (λ (l : List ℕ). getD l c 0) (map-walk blank (codeIn t) 1 256 0) ∙ walk-at (cardByte t) 1 256 0 c h ∙ ap (cardByte t) z
+
+pub size-entries : (t : List ℕ) → length (cardBytesOf t) ≡ 256
+unfolding inverse cardBytesOf
+size-entries t = length-map (walk (codeIn t) 1 256 0) blank ∙ size-walk (codeIn t) 1 256 0
+
+-- The text of a listing by that table is its text by the table t.
+pub text-by : (t listing : List ℕ) → Bytes listing → textBy (cardBytesOf t) listing ≡ textOf t listing
+unfolding textBy textOf cardOf
+text-by t listing b =
+    ap flat
+    (map-walk (cardBy (cardBytesOf t) listing) (λ p. p) lineLength cardCount 0
+    ∙ walk-same (cardBy (cardBytesOf t) listing) (cardOf t listing) lineLength lineLength cardCount 0 0 (λ j l. same (0 + j * lineLength))
+    ∙ sym (map-walk (cardOf t listing) (λ p. p) lineLength cardCount 0))
+  where
+    same : (p : ℕ) → cardBy (cardBytesOf t) listing p ≡ cardOf t listing p
+    same p = map-same (charOf (cardBytesOf t)) (cardByte t) (bytesAt listing p cardLength) (each (bytesAt listing p cardLength) (bytes-at listing b p cardLength))
+      where
+        each : (l : List ℕ) → Bytes l → All (λ c. charOf (cardBytesOf t) c ≡ cardByte t c) l
+        each [] h = tt
+        each (c ∷ l) h = (entry-is t c (h .0), each l (h .1))

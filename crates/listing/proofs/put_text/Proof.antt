@@ -1,0 +1,69 @@
+-- `listing::put_text` meets its contract. Assumes nothing.
+use Rattle.numbers.proofs.Filling.{Filling, finish, part-put}
+use Rattle.numbers.proofs.WalkLaws.{flat-none, bytes-between}
+use Rattle.numbers.specs.Walk.{walk, flat}
+use Rattle.code_page.specs.Page.{charOf}
+use Rattle.listing.specs.Listing.{cardLength, lineLength}
+use Rattle.listing.specs.Parts.{cardBy, textBy}
+use Rattle.listing.proofs.ListingLaws.{size-card, text-begun}
+use lib.ListN.{length}
+use Prim.Native.Nat.{ℕ, _+_, _*_}
+use mathlib.Core.List.{List, map}
+use mathlib.Core.Path.{_≡_, refl, sym, ap, _∙_}
+use native.Mathlib.Omega.{arith}
+use borrow.Author.Needs.{needs}
+use Rattle.listing.proofs.put_text.Statement.{statement}
+use Rattle.listing.proofs.put_text.Tie as tie
+
+abbrev Inv-loop : tie.InvT-loop
+Inv-loop bytes listing out₀ at₀ o₀ left₀ out at o left =
+    (length bytes ≡ 256) × (length listing ≡ 3240) × (length out ≡ 3200) × (at + left * 81 ≡ 3240) × (o + left * 80 ≡ 3200)
+    × Filling (textBy bytes listing) out o (flat (map (cardBy bytes listing) (walk (λ p. p) lineLength left at)))
+
+abbrev μ-loop : tie.MeasureT-loop
+μ-loop bytes listing out₀ at₀ o₀ left₀ out at o left = left
+
+loop-holds : tie.Need-loop-holds Inv-loop μ-loop
+loop-holds c =
+    let s = c .before .before .before in
+    let a = s .args in
+    (s .pre .0, s .pre .1, s .pre .2, refl, refl, text-begun (a .bytes .now) (a .listing .now) (a .out .now) (s .pre .2))
+
+loop-again : tie.Need-loop-again Inv-loop μ-loop
+loop-again c =
+    let a = c .before .before .before .before .before .before .before .before .before .before .args in
+    let l = c .before .before .before .before .before .before .loop in
+    let some = c .before .before .before .before .before .loop-test .taken in
+    let put = part-put (cardBy (a .bytes .now) (a .listing .now)) (λ p. p) lineLength cardLength (size-card (a .bytes .now) (a .listing .now)) (l .left) (l .at) (l .o) (l .o + 80) some refl (l .inv .5) (c .before .before .put-entries .ensures ∙ ap (λ (x : List ℕ). map (charOf (a .bytes .now)) x) (bytes-between (a .listing .now) (l .at) (l .at + cardLength) cardLength (omega (arith, l .inv .1, l .inv .3, some)) refl)) in
+    (l .inv .0, l .inv .1, put .size ∙ sym (l .inv .5 .size) ∙ l .inv .2, omega (arith, l .inv .3, some), omega (arith, l .inv .4, some), put)
+
+same-length : tie.Need-same-length Inv-loop μ-loop
+same-length c = c .before .loop .inv .2 ∙ sym (c .before .before .before .before .before .pre .2)
+
+returns : tie.Need-returns Inv-loop μ-loop
+returns c =
+    let a = c .before .before .before .before .before .args in
+    finish (c .before .loop .inv .5) (flat-none (cardBy (a .bytes .now) (a .listing .now)) (λ p. p) lineLength (c .before .loop .left) (c .before .loop .at) (c .loop-test .left))
+
+pub put-text-spec : {M : Type 1} → statement M
+put-text-spec =
+    tie.close
+    (tie.spec
+    Inv-loop
+    μ-loop
+    loop-holds
+    (λ c. search needs)
+    (λ c. search needs)
+    (λ c. search needs)
+    (λ c. search needs)
+    (λ c. search needs)
+    (λ c. search needs)
+    (λ c. search needs)
+    (λ c. search needs)
+    (λ c κs. search needs)
+    (λ c. search needs)
+    (λ c. search needs)
+    (λ c. search needs)
+    loop-again
+    same-length
+    returns)
