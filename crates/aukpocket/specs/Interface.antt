@@ -35,6 +35,17 @@ reelIn answer out = record { answer = handed answer; bytes = out }
 abbrev pub reelHanded : Outcome → ReelHanded
 reelHanded o = record { answer = reelAnswer (o .said); bytes = o .bytes }
 
+-- What listing a record's cards says, in numbers: number 0 and the listing's length where it is taken; else the number of the cause and what
+-- stands beside it. The other members are 0.
+abbrev pub listingAnswer : Said → Handed ReelAnswer
+listingAnswer (taken []) = lost
+listingAnswer (taken (l ∷ [])) = handed (record { number = 0; traces = 0; samples = 0; length = l; beside = 0 })
+listingAnswer (taken (l ∷ more ∷ rest)) = lost
+listingAnswer (refused number beside) = handed (record { number = number; traces = 0; samples = 0; length = 0; beside = beside })
+
+abbrev pub listingHanded : Outcome → ReelHanded
+listingHanded o = record { answer = listingAnswer (o .said); bytes = o .bytes }
+
 -- What looking up a field says, in numbers: number 0 and the field's number where it is taken; else the number of the cause and what
 -- stands beside it, and 0 for the field's.
 abbrev pub fieldAnswer : Said → ℤ → Handed FieldAnswer

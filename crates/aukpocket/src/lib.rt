@@ -7,7 +7,10 @@ ghost use Rattle.record.specs.Answer.{saidBy};
 ghost use Rattle.read_reel.specs.Reading.{readOutcome};
 ghost use Rattle.write_reel.specs.Writing.{writeOutcome};
 ghost use Rattle.look_up.specs.LookUp.{lookedUp, lookUpOutcome};
-ghost use Rattle.aukpocket.specs.Interface.{handed, reelAnswer, reelIn, reelHanded, fieldHanded, sampleAnswer, sampleIn, sampleHanded};
+ghost use Rattle.code_page.specs.Page.{latin};
+ghost use Rattle.listing.specs.Calls as calls;
+ghost use Rattle.aukpocket.specs.Interface.{handed, reelAnswer, reelIn, reelHanded, listingAnswer, listingHanded, fieldHanded, sampleAnswer, sampleIn, sampleHanded};
+use listing::Listed;
 use numbers::ByteNo;
 use record::Answer;
 
@@ -77,6 +80,44 @@ pub extern "C" fn aukpocket_write_reel(record: &[u8], code: u32, out: &mut [u8])
     ensures { λ r. ⌜ reelIn r (now (out .exit)) ≡ reelHanded (writeOutcome (now («record» .entry)) code (now (out .entry))) ⌝ }
 {
     reel_answer(write_reel::write_reel(record, code, out))
+}
+
+// What listing a record's cards answers, in numbers.
+fn listing_answer(answer: Listed) -> ReelAnswer
+    ensures { λ r. ⌜ handed r ≡ listingAnswer (calls.saidBy answer) ⌝ }
+{
+    match answer {
+        Listed::Taken { length } => ReelAnswer {
+            number: 0,
+            traces: 0,
+            samples: 0,
+            length: length as u64,
+            beside: 0,
+        },
+        Listed::Refused { number, place } => ReelAnswer {
+            number: number as u64,
+            traces: 0,
+            samples: 0,
+            length: 0,
+            beside: place.0 as u64,
+        },
+    }
+}
+
+// Lists the cards of a record, by code page 037, into the front of an output.
+#[no_mangle]
+pub extern "C" fn aukpocket_list_cards(record: &[u8], out: &mut [u8]) -> ReelAnswer
+    ensures { λ r. ⌜ reelIn r (now (out .exit)) ≡ listingHanded (calls.listOutcome latin (now («record» .entry)) (now (out .entry))) ⌝ }
+{
+    listing_answer(listing::list_cards(record, out))
+}
+
+// Takes a corrected listing back, by code page 037: the record with its text, into the front of an output.
+#[no_mangle]
+pub extern "C" fn aukpocket_take_cards(record: &[u8], listing: &[u8], out: &mut [u8]) -> ReelAnswer
+    ensures { λ r. ⌜ reelIn r (now (out .exit)) ≡ reelHanded (calls.takeOutcome latin (now («record» .entry)) (now (listing .entry)) (now (out .entry))) ⌝ }
+{
+    reel_answer(listing::take_cards(record, listing, out))
 }
 
 // Looks up the field that begins at a byte number, of the binary header for trace 0, else of that trace.

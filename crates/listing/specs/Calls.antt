@@ -50,12 +50,16 @@ listOutcome t r out = listEnd t r out (listCauses r (length out))
 abbrev pub takeCauses : List ℕ → List ℕ → ℕ → Check
 takeCauses r listing room = then (formCauses r) (then (listingCauses listing) (refuseIf (ltb room (length r)) 10 (length r)))
 
--- Taken, with T and N as the record holds them and its length, the record with the text x stands at the output's front, and the rest keeps
+-- The numbers that taking back returns: T and N as the record holds them, and its length.
+abbrev pub takenNumbers : List ℕ → List ℕ
+takenNumbers r = heldCount r (heldSamples r) ∷ heldSamples r ∷ length r ∷ []
+
+-- Taken, the record with the text x stands at the output's front, and the rest keeps
 -- its content; refused, the output is left as it was.
 abbrev pub takeEnd : List ℕ → List ℕ → List ℕ → Check → Outcome
 takeEnd r x out check.Fine =
     record {
-      said = taken (heldCount r (heldSamples r) ∷ heldSamples r ∷ length r ∷ []);
+      said = taken (takenNumbers r);
       bytes = withText r x ++ drop (length r) out;
     }
 takeEnd r x out (check.Refused number place) = record { said = refused number (placeNo place); bytes = out }

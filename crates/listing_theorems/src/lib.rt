@@ -1,0 +1,1 @@
+// Theorems about the listing of cards. They stand in proofs/; this crate has no code.
