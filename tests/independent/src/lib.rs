@@ -1,9 +1,11 @@
-//! SEG-Y revision 0 reels and their canonical records: the five calls of document 01 in plain Rust,
-//! written from the paper alone. The differential test compares the library with them.
+//! SEG-Y revision 0 reels and their canonical records: the five calls of document 01 and the two of
+//! document 02's CR 1 in plain Rust, written from the papers alone. The differential test compares the
+//! library with them.
 //!
 //! A refused call changes no byte of its output. So each call on a whole reel or record makes two
 //! passes: the first looks for causes to refuse, the second writes.
 
+mod page;
 #[cfg(test)]
 mod tests;
 
@@ -41,6 +43,12 @@ const PAIR_BYTES: usize = 6;
 
 const EBCDIC_BLANK: u8 = 0x40;
 
+/// A card has as many characters, and so has a line of a listing before its line feed.
+const COLUMNS: usize = 80;
+const LINE_BYTES: usize = COLUMNS + 1;
+const LISTING_BYTES: usize = CARD_BYTES / COLUMNS * LINE_BYTES;
+const LINE_FEED: u8 = 0x0A;
+
 /// What a taken call on a reel or a record answers. The length is that of what was written.
 #[derive(Clone, Copy, Debug, PartialEq, Eq)]
 pub struct Taken {
@@ -49,7 +57,8 @@ pub struct Taken {
     pub length: u64,
 }
 
-/// The number of the cause, and what stands beside it in document 01's table.
+/// The number of the cause, and what stands beside it in document 01's table, or beside number 17 in
+/// document 02.
 #[derive(Clone, Copy, Debug, PartialEq, Eq)]
 pub struct Refused {
     pub number: u64,
@@ -195,6 +204,51 @@ pub fn look_up(reel: &[u8], trace: usize, byte: u32) -> Result<i32, Refused> {
             (_, number) => number,
         },
     )
+}
+
+/// Writes the card text of a record to the front of the output as a listing, and gives its length.
+pub fn list_cards(record: &[u8], out: &mut [u8]) -> Result<u64, Refused> {
+    check_record(record, None)?;
+    let Some(listing) = out.get_mut(..LISTING_BYTES) else {
+        return refused(10, LISTING_BYTES);
+    };
+
+    let cards = record[FIELD_HEAD..][..CARD_BYTES].chunks_exact(COLUMNS);
+    for (line, card) in listing.chunks_exact_mut(LINE_BYTES).zip(cards) {
+        for (character, &code) in line.iter_mut().zip(card) {
+            *character = page::CHARACTERS[code as usize];
+        }
+        line[COLUMNS] = LINE_FEED;
+    }
+    Ok(LISTING_BYTES as u64)
+}
+
+/// Writes the record with the text of the listing to the front of the output.
+pub fn take_cards(record: &[u8], listing: &[u8], out: &mut [u8]) -> Result<Taken, Refused> {
+    let shape = check_record(record, None)?;
+    if listing.len() != LISTING_BYTES {
+        return refused(17, listing.len());
+    }
+    let lines = listing.chunks_exact(LINE_BYTES);
+    if let Some(line) = lines.clone().position(|line| line[COLUMNS] != LINE_FEED) {
+        return refused(17, line * LINE_BYTES + COLUMNS);
+    }
+    let length = record.len();
+    let Some(corrected) = out.get_mut(..length) else {
+        return refused(10, length);
+    };
+
+    corrected.copy_from_slice(record);
+    let cards = corrected[FIELD_HEAD..][..CARD_BYTES].chunks_exact_mut(COLUMNS);
+    for (card, line) in cards.zip(lines) {
+        for (byte, &character) in card.iter_mut().zip(line) {
+            *byte = match page::CODES[character as usize] {
+                0 => EBCDIC_BLANK,
+                code => code,
+            };
+        }
+    }
+    Ok(shape.taken(length))
 }
 
 /// The bytes of the binary header's field that begins at a byte number.
