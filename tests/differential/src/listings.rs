@@ -6,6 +6,7 @@ use crate::records::{damage_in_place, damage_length, Record, DAMAGES_IN_PLACE, D
 use crate::reels::Shape;
 use crate::samples::pair;
 
+/// The card bytes of a record, the lines of a listing, and the bytes of it.
 const CARDS: usize = 3200;
 const LINES: usize = 40;
 const LISTING: usize = 3240;
@@ -40,8 +41,8 @@ fn any_listing(random: &mut Random) -> Vec<u8> {
     listing_of(&characters)
 }
 
-/// A valid record of code 3's pairs.
-fn small_record(random: &mut Random, samples: usize, traces: usize) -> Vec<u8> {
+/// A valid record, whose pairs fit code 3.
+fn valid_record(random: &mut Random, samples: usize, traces: usize) -> Vec<u8> {
     Record::valid(random, Shape::new(3, samples, traces), true).bytes
 }
 
@@ -111,7 +112,7 @@ fn damage_listing(random: &mut Random, listing: &mut Vec<u8>) {
             }
         }
         5 => {
-            // A character too many, or too few, in a line; the length may come out right.
+            // A byte stands elsewhere: a line has one too few, another one too many.
             if place < listing.len() {
                 let removed = listing.remove(place);
                 listing.insert(random.below(listing.len() + 1), removed);
@@ -121,11 +122,12 @@ fn damage_listing(random: &mut Random, listing: &mut Vec<u8>) {
     }
 }
 
+/// Every code, every character, every length, and every byte changed.
 pub fn listings(compare: &mut Comparison) {
     let mut random = Random::seeded(9);
 
     compare.stage("every code at every card byte");
-    let mut record = small_record(&mut random, 2, 1);
+    let mut record = valid_record(&mut random, 2, 1);
     for start in 0..255 {
         for card in 0..CARDS {
             record[3 + card] = 1 + ((start + card) % 255) as u8;
@@ -141,7 +143,7 @@ pub fn listings(compare: &mut Comparison) {
 
     compare.stage("small records cut at every place, listed and taken");
     for (samples, traces) in [(1, 0), (2, 2)] {
-        let record = small_record(&mut random, samples, traces);
+        let record = valid_record(&mut random, samples, traces);
         let listing = any_listing(&mut random);
         for length in 0..=record.len() {
             compare.list_cards(&record[..length], LISTING);
@@ -150,7 +152,7 @@ pub fn listings(compare: &mut Comparison) {
     }
 
     compare.stage("a small record with every byte changed, listed and taken");
-    let record = small_record(&mut random, 2, 2);
+    let record = valid_record(&mut random, 2, 2);
     let listing = any_listing(&mut random);
     let mut changed = record.clone();
     for place in 0..record.len() {
@@ -209,7 +211,7 @@ pub fn listings(compare: &mut Comparison) {
 
     compare.stage("every length of the output, listed and taken");
     for traces in [0, 1] {
-        let record = small_record(&mut random, 2, traces);
+        let record = valid_record(&mut random, 2, traces);
         for room in 0..=LISTING + 20 {
             compare.list_cards(&record, room);
         }
@@ -219,11 +221,11 @@ pub fn listings(compare: &mut Comparison) {
     }
 }
 
-/// Records, listings and outputs of which any may have a cause, each with each.
+/// Records, listings and outputs of which any may have a cause: chosen ones each with each, then any.
 pub fn causes_of_listings(compare: &mut Comparison) {
     let mut random = Random::seeded(10);
     compare.stage("several causes at once, listed and taken");
-    let valid = small_record(&mut random, 3, 2);
+    let valid = valid_record(&mut random, 3, 2);
     let with = |place: usize, bytes: &[u8]| {
         let mut record = valid.clone();
         record[place..place + bytes.len()].copy_from_slice(bytes);
@@ -233,7 +235,7 @@ pub fn causes_of_listings(compare: &mut Comparison) {
     let records = [
         valid.clone(),
         with(3266 + 186, &pair(251, 3)),
-        small_record(&mut random, 1, 0),
+        valid_record(&mut random, 1, 0),
         Vec::new(),
         valid[..3203].to_vec(),
         with(0, &[0x02]),
@@ -323,14 +325,14 @@ pub fn causes_of_listings(compare: &mut Comparison) {
 pub fn long_listings(compare: &mut Comparison) {
     let mut random = Random::seeded(11);
     compare.stage("records of 8,000 samples, listed and taken");
-    let record = small_record(&mut random, 8000, 3);
+    let record = valid_record(&mut random, 8000, 3);
     let listing = any_listing(&mut random);
     list_and_take_again(compare, &record, LISTING + 1);
     take_and_list_again(compare, &record, &listing, record.len());
     compare.take_cards(&record, &listing, record.len() - 1);
 
     compare.stage("records of 100,000 traces and more, listed and taken");
-    let mut record = small_record(&mut random, 1, 100_000);
+    let mut record = valid_record(&mut random, 1, 100_000);
     let count = record.len() - 7;
     list_and_take_again(compare, &record, LISTING);
     take_and_list_again(compare, &record, &listing, record.len());

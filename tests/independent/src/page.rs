@@ -22,10 +22,8 @@ pub const CHARACTERS: [u8; 256] = [
     0x30, 0x31, 0x32, 0x33, 0x34, 0x35, 0x36, 0x37, 0x38, 0x39, 0xB3, 0xDB, 0xDC, 0xD9, 0xDA, 0x9F, // F_
 ];
 
-/// The code of each character.
-pub const CODES: [u8; 256] = inverse();
-
-const fn inverse() -> [u8; 256] {
+/// The code of each character: the inverse.
+pub const CODES: [u8; 256] = {
     let mut codes = [0; 256];
     let mut code = 0;
     while code < 256 {
@@ -33,4 +31,4 @@ const fn inverse() -> [u8; 256] {
         code += 1;
     }
     codes
-}
+};
