@@ -1,6 +1,6 @@
 #!/bin/sh
-# Compares the library's C interface with an independent implementation of document 01, from any current directory. Makes the library
-# first where it is missing or older than its sources.
+# Compares the library's C interface with an independent implementation of documents 01 and 02, from any current directory. Makes the
+# library first where it is missing or older than its sources.
 set -eu
 cd "$(dirname "$0")/.."
 

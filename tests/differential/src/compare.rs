@@ -4,7 +4,7 @@
 use crate::library::{self, sample_answer, FieldAnswer, ReelAnswer, SampleAnswer};
 use crate::random::Random;
 use std::fmt::Debug;
-use std::process;
+use std::{array, process};
 
 /// Bytes before and after each output, which must stay as they are.
 const GUARD: usize = 32;
@@ -13,37 +13,46 @@ const ALIGNMENTS: usize = 16;
 /// The longest output that a call is lent.
 const MOST_ROOM: usize = 26_000_000;
 
-const CALLS: [&str; 5] = [
+const CALLS: [&str; 7] = [
     "read_word",
     "write_pair",
     "read_reel",
     "write_reel",
     "look_up",
+    "list_cards",
+    "take_cards",
 ];
 const READ_WORD: usize = 0;
 const WRITE_PAIR: usize = 1;
 const READ_REEL: usize = 2;
 const WRITE_REEL: usize = 3;
 const LOOK_UP: usize = 4;
+const LIST_CARDS: usize = 5;
+const TAKE_CARDS: usize = 6;
 
+/// The largest number of a cause.
+const MOST_NUMBER: usize = 17;
 /// The causes of each call.
-const CAUSES: [&[usize]; 5] = [
+const CAUSES: [&[usize]; CALLS.len()] = [
     &[2, 9],
     &[11, 13, 14],
     &[1, 2, 3, 4, 5, 6, 7, 8, 9, 10],
     &[10, 11, 12, 13, 14],
     &[1, 2, 3, 4, 5, 6, 7, 8, 9, 15, 16],
+    &[10, 12, 13],
+    &[10, 12, 13, 17],
 ];
 
 pub struct Comparison {
     /// For each call, how often it was taken (at 0) and refused by each number.
-    counts: [[u64; 17]; 5],
+    counts: [[u64; MOST_NUMBER + 1]; CALLS.len()],
     /// What an output holds before the call: a part of these random bytes.
     pattern: Vec<u8>,
     random: Random,
     theirs: Vec<u8>,
     ours: Vec<u8>,
-    input: Vec<u8>,
+    /// What a call is lent: a record and a listing at most.
+    inputs: [Vec<u8>; 2],
     /// Where the latest output begins.
     front: usize,
     stage: &'static str,
@@ -56,12 +65,12 @@ impl Comparison {
         let mut pattern = vec![0; MOST_ROOM + 2 * GUARD + ALIGNMENTS + 256];
         random.fill(&mut pattern);
         Comparison {
-            counts: [[0; 17]; 5],
+            counts: [[0; MOST_NUMBER + 1]; CALLS.len()],
             pattern,
             random,
             theirs: Vec::new(),
             ours: Vec::new(),
-            input: Vec::new(),
+            inputs: [Vec::new(), Vec::new()],
             front: GUARD,
             stage: "",
             stage_calls: 0,
@@ -86,7 +95,7 @@ impl Comparison {
     /// one that isn't its own.
     pub fn report(&self) -> bool {
         let mut complete = true;
-        for number in 0..=16 {
+        for number in 0..=MOST_NUMBER {
             let name = if number == 0 {
                 "taken".to_string()
             } else {
@@ -178,12 +187,12 @@ impl Comparison {
         self.reel_call(
             READ_REEL,
             "read_reel".to_string(),
-            reel,
+            [reel],
             room,
-            |input, theirs, ours| {
+            |[reel], theirs, ours| {
                 (
-                    library::read_reel(input, theirs),
-                    independent::read_reel(input, ours).into(),
+                    library::read_reel(reel, theirs),
+                    independent::read_reel(reel, ours).into(),
                 )
             },
         )
@@ -192,12 +201,53 @@ impl Comparison {
     /// Writes a record with both under a code into an output of `room` bytes, and gives the answer.
     pub fn write_reel(&mut self, record: &[u8], code: u32, room: usize) -> ReelAnswer {
         let name = format!("write_reel, code {code}");
-        self.reel_call(WRITE_REEL, name, record, room, |input, theirs, ours| {
-            (
-                library::write_reel(input, code, theirs),
-                independent::write_reel(input, code, ours).into(),
-            )
-        })
+        self.reel_call(
+            WRITE_REEL,
+            name,
+            [record],
+            room,
+            |[record], theirs, ours| {
+                (
+                    library::write_reel(record, code, theirs),
+                    independent::write_reel(record, code, ours).into(),
+                )
+            },
+        )
+    }
+
+    /// Lists a record's cards with both into an output of `room` bytes, and gives the answer.
+    pub fn list_cards(&mut self, record: &[u8], room: usize) -> ReelAnswer {
+        let name = "list_cards".to_string();
+        self.reel_call(
+            LIST_CARDS,
+            name,
+            [record],
+            room,
+            |[record], theirs, ours| {
+                (
+                    library::list_cards(record, theirs),
+                    independent::list_cards(record, ours).into(),
+                )
+            },
+        )
+    }
+
+    /// Takes a listing back with both into an output of `room` bytes, and gives the answer.
+    pub fn take_cards(&mut self, record: &[u8], listing: &[u8], room: usize) -> ReelAnswer {
+        let name = "take_cards".to_string();
+        let inputs = [record, listing];
+        self.reel_call(
+            TAKE_CARDS,
+            name,
+            inputs,
+            room,
+            |[record, listing], theirs, ours| {
+                (
+                    library::take_cards(record, listing, theirs),
+                    independent::take_cards(record, listing, ours).into(),
+                )
+            },
+        )
     }
 
     /// The bytes that the latest taken call on a reel or record wrote.
@@ -205,30 +255,33 @@ impl Comparison {
         &self.theirs[self.front..][..answer.length as usize]
     }
 
-    fn reel_call(
+    fn reel_call<const I: usize>(
         &mut self,
         call: usize,
         name: String,
-        input: &[u8],
+        inputs: [&[u8]; I],
         room: usize,
-        both: impl Fn(&[u8], &mut [u8], &mut [u8]) -> (ReelAnswer, ReelAnswer),
+        both: impl Fn([&[u8]; I], &mut [u8], &mut [u8]) -> (ReelAnswer, ReelAnswer),
     ) -> ReelAnswer {
-        let shift = self.random.below(ALIGNMENTS);
+        let shifts: [usize; I] = array::from_fn(|_| self.random.below(ALIGNMENTS));
         self.front = GUARD + self.random.below(ALIGNMENTS);
         let whole = self.front + room + GUARD;
         let start = self.random.below(self.pattern.len() - whole);
         let before = &self.pattern[start..start + whole];
-        self.input.clear();
-        self.input.resize(shift, 0);
-        self.input.extend_from_slice(input);
+        for ((copy, input), shift) in self.inputs.iter_mut().zip(inputs).zip(shifts) {
+            copy.clear();
+            copy.resize(shift, 0);
+            copy.extend_from_slice(input);
+        }
         self.theirs.clear();
         self.theirs.extend_from_slice(before);
         self.ours.clear();
         self.ours.extend_from_slice(before);
 
         let lent = self.front..self.front + room;
+        let copies: [&[u8]; I] = array::from_fn(|index| &self.inputs[index][shifts[index]..]);
         let (theirs, ours) = both(
-            &self.input[shift..],
+            copies,
             &mut self.theirs[lent.clone()],
             &mut self.ours[lent.clone()],
         );
@@ -237,8 +290,8 @@ impl Comparison {
         let kept = self.front + ours.length as usize;
         let fault = if theirs != ours {
             Some("the answers differ")
-        } else if self.input[shift..] != *input {
-            Some("the library changed its input")
+        } else if copies != inputs {
+            Some("the library changed an input")
         } else if self.theirs[..lent.start] != before[..lent.start] {
             Some("the library changed bytes before its output")
         } else if self.theirs[lent.end..] != before[lent.end..] {
@@ -251,8 +304,9 @@ impl Comparison {
             None
         };
         if let Some(fault) = fault {
+            let lengths = inputs.map(<[u8]>::len);
             self.differs(
-                &format!("{name}, input {} bytes, output {room} bytes", input.len()),
+                &format!("{name}, inputs of {lengths:?} bytes, output {room} bytes"),
                 || {
                     println!("{fault}");
                     print_answers(theirs, ours);
@@ -264,7 +318,9 @@ impl Comparison {
                         place - lent.start, self.theirs[place], self.ours[place], before[place]
                     );
                     }
-                    print_input(input, &[theirs.beside, ours.beside]);
+                    for input in inputs {
+                        print_input(input, &[theirs.beside, ours.beside]);
+                    }
                 },
             );
         }

@@ -41,6 +41,20 @@ extern "C" {
         reel: *mut u8,
         reel_length: usize,
     ) -> ReelAnswer;
+    fn aukpocket_list_cards(
+        record: *const u8,
+        record_length: usize,
+        listing: *mut u8,
+        listing_length: usize,
+    ) -> ReelAnswer;
+    fn aukpocket_take_cards(
+        record: *const u8,
+        record_length: usize,
+        listing: *const u8,
+        listing_length: usize,
+        out: *mut u8,
+        out_length: usize,
+    ) -> ReelAnswer;
     fn aukpocket_look_up(
         reel: *const u8,
         reel_length: usize,
@@ -61,6 +75,23 @@ pub fn write_reel(record: &[u8], code: u32, out: &mut [u8]) -> ReelAnswer {
             record.as_ptr(),
             record.len(),
             code,
+            out.as_mut_ptr(),
+            out.len(),
+        )
+    }
+}
+
+pub fn list_cards(record: &[u8], out: &mut [u8]) -> ReelAnswer {
+    unsafe { aukpocket_list_cards(record.as_ptr(), record.len(), out.as_mut_ptr(), out.len()) }
+}
+
+pub fn take_cards(record: &[u8], listing: &[u8], out: &mut [u8]) -> ReelAnswer {
+    unsafe {
+        aukpocket_take_cards(
+            record.as_ptr(),
+            record.len(),
+            listing.as_ptr(),
+            listing.len(),
             out.as_mut_ptr(),
             out.len(),
         )
@@ -101,6 +132,19 @@ impl From<Result<Taken, Refused>> for ReelAnswer {
                 beside,
             },
         }
+    }
+}
+
+/// A listing has a length only.
+impl From<Result<u64, Refused>> for ReelAnswer {
+    fn from(result: Result<u64, Refused>) -> ReelAnswer {
+        result
+            .map(|length| Taken {
+                traces: 0,
+                samples: 0,
+                length,
+            })
+            .into()
     }
 }
 

@@ -1,8 +1,9 @@
-//! Compares the library's C interface with an independent implementation of document 01: the same
-//! calls, whose answers and whose every output byte, before and after, must agree.
+//! Compares the library's C interface with an independent implementation of documents 01 and 02: the
+//! same calls, whose answers and whose every output byte, before and after, must agree.
 
 mod compare;
 mod library;
+mod listings;
 mod random;
 mod records;
 mod reels;
@@ -15,8 +16,11 @@ fn main() {
     reels::reels(&mut compare);
     reels::look_ups(&mut compare);
     records::records(&mut compare);
+    listings::listings(&mut compare);
+    listings::causes_of_listings(&mut compare);
     reels::long_reels(&mut compare);
     records::long_records(&mut compare);
+    listings::long_listings(&mut compare);
 
     compare.stage("the whole run");
     if !compare.report() {

@@ -8,8 +8,8 @@ use crate::samples::{
 };
 
 /// A record made field by field. The places of its tags are kept, for damage.
-struct Record {
-    bytes: Vec<u8>,
+pub struct Record {
+    pub bytes: Vec<u8>,
     tags: Vec<usize>,
 }
 
@@ -22,7 +22,7 @@ impl Record {
     }
 
     /// A valid record. Its pairs fit the shape's code, or are any canonical ones.
-    fn valid(random: &mut Random, shape: Shape, fitting: bool) -> Record {
+    pub fn valid(random: &mut Random, shape: Shape, fitting: bool) -> Record {
         let mut record = Record {
             bytes: Vec::new(),
             tags: Vec::new(),
@@ -93,9 +93,9 @@ fn fitting_pair(random: &mut Random, code: u32) -> [u8; 6] {
 
 /// Damages that change bytes where they stand: numbers that no record has, and fields of a wrong
 /// form.
-const DAMAGES_IN_PLACE: usize = 12;
+pub const DAMAGES_IN_PLACE: usize = 12;
 
-fn damage_in_place(random: &mut Random, kind: usize, shape: Shape, record: &mut Record) {
+pub fn damage_in_place(random: &mut Random, kind: usize, shape: Shape, record: &mut Record) {
     let tag = record.tags[random.below(record.tags.len())];
     let header = (shape.traces > 0).then(|| record.tags[2 + 2 * random.below(shape.traces)]);
     let pair_place = record.any_pair(random, shape);
@@ -184,9 +184,9 @@ fn damage_in_place(random: &mut Random, kind: usize, shape: Shape, record: &mut 
 }
 
 /// Damages that change the record's length.
-const DAMAGES_OF_LENGTH: usize = 6;
+pub const DAMAGES_OF_LENGTH: usize = 6;
 
-fn damage_length(random: &mut Random, kind: usize, record: &mut Record) {
+pub fn damage_length(random: &mut Random, kind: usize, record: &mut Record) {
     let index = random.below(record.tags.len());
     let (start, end) = (record.tags[index], record.end(index));
     let bytes = &mut record.bytes;

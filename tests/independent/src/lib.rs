@@ -1,9 +1,11 @@
-//! SEG-Y revision 0 reels and their canonical records: the five calls of document 01 in plain Rust,
-//! written from the paper alone. The differential test compares the library with them.
+//! SEG-Y revision 0 reels and their canonical records: the five calls of document 01 and the two of
+//! document 02's CR 1 in plain Rust, written from the papers alone. The differential test compares the
+//! library with them.
 //!
 //! A refused call changes no byte of its output. So each call on a whole reel or record makes two
 //! passes: the first looks for causes to refuse, the second writes.
 
+mod page;
 #[cfg(test)]
 mod tests;
 
@@ -41,6 +43,12 @@ const PAIR_BYTES: usize = 6;
 
 const EBCDIC_BLANK: u8 = 0x40;
 
+/// A card has as many characters, and so has a line of a listing before its line feed.
+const COLUMNS: usize = 80;
+const LINE_BYTES: usize = COLUMNS + 1;
+const LISTING_BYTES: usize = CARD_BYTES / COLUMNS * LINE_BYTES;
+const LINE_FEED: u8 = 0x0A;
+
 /// What a taken call on a reel or a record answers. The length is that of what was written.
 #[derive(Clone, Copy, Debug, PartialEq, Eq)]
 pub struct Taken {
@@ -49,7 +57,8 @@ pub struct Taken {
     pub length: u64,
 }
 
-/// The number of the cause, and what stands beside it in document 01's table.
+/// The number of the cause, and what stands beside it in document 01's table, or beside number 17 in
+/// document 02.
 #[derive(Clone, Copy, Debug, PartialEq, Eq)]
 pub struct Refused {
     pub number: u64,
@@ -98,7 +107,7 @@ pub fn write_pair(code: u32, pair: [u8; 6]) -> Result<[u8; 4], Refused> {
 
 /// Reads a reel and writes its record to the front of the output.
 pub fn read_reel(reel: &[u8], out: &mut [u8]) -> Result<Taken, Refused> {
-    let shape = check_reel(reel)?;
+    let (code, shape) = check_reel(reel)?;
     let length = shape.record_length();
     let Some(mut room) = out.get_mut(..length) else {
         return refused(10, length);
@@ -113,7 +122,7 @@ pub fn read_reel(reel: &[u8], out: &mut [u8]) -> Result<Taken, Refused> {
     binary.copy_from_slice(&reel[CARD_BYTES..][..BINARY_FIELDS]);
     put_number(binary, CODE, 0);
 
-    for trace in reel[REEL_HEADERS..].chunks_exact(shape.trace_length()) {
+    for trace in reel[REEL_HEADERS..].chunks_exact(shape.trace_length(code)) {
         let (header, words) = trace.split_at(TRACE_HEADER);
         let fields = put_field(&mut room, TAG_TRACE, TRACE_FIELDS);
         fields.copy_from_slice(&header[..TRACE_FIELDS]);
@@ -121,7 +130,7 @@ pub fn read_reel(reel: &[u8], out: &mut [u8]) -> Result<Taken, Refused> {
         put_number(fields, TRACE_INTERVAL, shape.interval);
 
         let pairs = put_field(&mut room, TAG_SAMPLES, PAIR_BYTES * shape.samples as usize);
-        match shape.code {
+        match code {
             Code::Ibm => put_pairs(words, pairs, Pair::of_ibm),
             Code::Whole32 => put_pairs(words, pairs, Pair::of_whole32),
             Code::Whole16 => put_pairs(words, pairs, Pair::of_whole16),
@@ -139,8 +148,8 @@ pub fn write_reel(record: &[u8], code: u32, out: &mut [u8]) -> Result<Taken, Ref
     let Some(code) = Code::numbered(code) else {
         return refused(11, 0);
     };
-    let shape = check_record(record, code)?;
-    let length = shape.reel_length();
+    let shape = check_record(record, Some(code))?;
+    let length = shape.reel_length(code);
     let Some(reel) = out.get_mut(..length) else {
         return refused(10, length);
     };
@@ -154,7 +163,7 @@ pub fn write_reel(record: &[u8], code: u32, out: &mut [u8]) -> Result<Taken, Ref
     unassigned.fill(0);
 
     let held = record[TRACES_PLACE..].chunks_exact(shape.held_length());
-    for (trace, held) in traces.chunks_exact_mut(shape.trace_length()).zip(held) {
+    for (trace, held) in traces.chunks_exact_mut(shape.trace_length(code)).zip(held) {
         let (header, words) = trace.split_at_mut(TRACE_HEADER);
         let (fields, unassigned) = header.split_at_mut(TRACE_FIELDS);
         fields.copy_from_slice(&held[FIELD_HEAD..][..TRACE_FIELDS]);
@@ -174,7 +183,7 @@ pub fn write_reel(record: &[u8], code: u32, out: &mut [u8]) -> Result<Taken, Ref
 /// Looks up the assigned field that begins at a byte number: of the binary header for trace 0, of
 /// that trace's header from 1 on.
 pub fn look_up(reel: &[u8], trace: usize, byte: u32) -> Result<i32, Refused> {
-    let shape = check_reel(reel)?;
+    let (code, shape) = check_reel(reel)?;
     if trace > shape.traces {
         return refused(15, 0);
     }
@@ -187,7 +196,7 @@ pub fn look_up(reel: &[u8], trace: usize, byte: u32) -> Result<i32, Refused> {
     let Some(width) = trace_field(byte) else {
         return refused(16, 0);
     };
-    let header = REEL_HEADERS + (trace - 1) * shape.trace_length();
+    let header = REEL_HEADERS + (trace - 1) * shape.trace_length(code);
     Ok(
         match (byte, signed(&reel[header + byte as usize - 1..][..width])) {
             (115, 0) => i32::from(shape.samples),
@@ -195,6 +204,51 @@ pub fn look_up(reel: &[u8], trace: usize, byte: u32) -> Result<i32, Refused> {
             (_, number) => number,
         },
     )
+}
+
+/// Writes the card text of a record to the front of the output as a listing, and gives its length.
+pub fn list_cards(record: &[u8], out: &mut [u8]) -> Result<u64, Refused> {
+    check_record(record, None)?;
+    let Some(listing) = out.get_mut(..LISTING_BYTES) else {
+        return refused(10, LISTING_BYTES);
+    };
+
+    let cards = record[FIELD_HEAD..][..CARD_BYTES].chunks_exact(COLUMNS);
+    for (line, card) in listing.chunks_exact_mut(LINE_BYTES).zip(cards) {
+        for (character, &code) in line.iter_mut().zip(card) {
+            *character = page::CHARACTERS[code as usize];
+        }
+        line[COLUMNS] = LINE_FEED;
+    }
+    Ok(LISTING_BYTES as u64)
+}
+
+/// Writes the record with the text of the listing to the front of the output.
+pub fn take_cards(record: &[u8], listing: &[u8], out: &mut [u8]) -> Result<Taken, Refused> {
+    let shape = check_record(record, None)?;
+    if listing.len() != LISTING_BYTES {
+        return refused(17, listing.len());
+    }
+    let lines = listing.chunks_exact(LINE_BYTES);
+    if let Some(line) = lines.clone().position(|line| line[COLUMNS] != LINE_FEED) {
+        return refused(17, line * LINE_BYTES + COLUMNS);
+    }
+    let length = record.len();
+    let Some(corrected) = out.get_mut(..length) else {
+        return refused(10, length);
+    };
+
+    corrected.copy_from_slice(record);
+    let cards = corrected[FIELD_HEAD..][..CARD_BYTES].chunks_exact_mut(COLUMNS);
+    for (card, line) in cards.zip(lines) {
+        for (byte, &character) in card.iter_mut().zip(line) {
+            *byte = match page::CODES[character as usize] {
+                0 => EBCDIC_BLANK,
+                code => code,
+            };
+        }
+    }
+    Ok(shape.taken(length))
 }
 
 /// The bytes of the binary header's field that begins at a byte number.
@@ -253,9 +307,9 @@ impl Code {
     }
 }
 
-/// What the lengths of a reel and its record follow from, and the interval that fills field 117.
+/// What the lengths of a reel and its record follow from, and the interval that fills field 117. A
+/// reel's length follows from its code as well.
 struct Shape {
-    code: Code,
     samples: u16,
     interval: u16,
     traces: usize,
@@ -263,8 +317,8 @@ struct Shape {
 
 impl Shape {
     /// The bytes of a trace on a reel.
-    fn trace_length(&self) -> usize {
-        TRACE_HEADER + self.samples as usize * self.code.width()
+    fn trace_length(&self, code: Code) -> usize {
+        TRACE_HEADER + self.samples as usize * code.width()
     }
 
     /// The bytes of a trace in a record.
@@ -272,8 +326,8 @@ impl Shape {
         2 * FIELD_HEAD + TRACE_FIELDS + PAIR_BYTES * self.samples as usize
     }
 
-    fn reel_length(&self) -> usize {
-        REEL_HEADERS + self.traces * self.trace_length()
+    fn reel_length(&self, code: Code) -> usize {
+        REEL_HEADERS + self.traces * self.trace_length(code)
     }
 
     fn record_length(&self) -> usize {
@@ -290,7 +344,7 @@ impl Shape {
 }
 
 /// Looks for the causes 1 to 9.
-fn check_reel(reel: &[u8]) -> Result<Shape, Refused> {
+fn check_reel(reel: &[u8]) -> Result<(Code, Shape), Refused> {
     if reel.len() < REEL_HEADERS {
         return refused(1, reel.len());
     }
@@ -308,22 +362,22 @@ fn check_reel(reel: &[u8]) -> Result<Shape, Refused> {
     }
 
     let mut shape = Shape {
-        code,
         samples,
         interval,
         traces: 0,
     };
-    let traces = reel[REEL_HEADERS..].chunks_exact(shape.trace_length());
+    let trace_length = shape.trace_length(code);
+    let traces = reel[REEL_HEADERS..].chunks_exact(trace_length);
     shape.traces = traces.len();
     if !traces.remainder().is_empty() {
-        return refused(5, shape.reel_length());
+        return refused(5, shape.reel_length(code));
     }
     if shape.traces > MOST_TRACES {
-        return refused(6, REEL_HEADERS + MOST_TRACES * shape.trace_length());
+        return refused(6, REEL_HEADERS + MOST_TRACES * trace_length);
     }
 
     for (index, trace) in traces.enumerate() {
-        let place = REEL_HEADERS + index * shape.trace_length();
+        let place = REEL_HEADERS + index * trace_length;
         let (header, words) = trace.split_at(TRACE_HEADER);
         let trace_samples = number_at(header, TRACE_COUNT);
         if trace_samples != 0 && trace_samples != samples {
@@ -339,14 +393,15 @@ fn check_reel(reel: &[u8]) -> Result<Shape, Refused> {
             }
         }
     }
-    Ok(shape)
+    Ok((code, shape))
 }
 
 const BINARY_PLACE: usize = FIELD_HEAD + CARD_BYTES;
 const TRACES_PLACE: usize = BINARY_PLACE + FIELD_HEAD + BINARY_FIELDS;
 
-/// Looks for the causes 12 and 13, front to back, and for 14 where there is neither.
-fn check_record(record: &[u8], code: Code) -> Result<Shape, Refused> {
+/// Looks for the causes 12 and 13, front to back, and for 14 where there is neither. Without a target
+/// code there is no 14.
+fn check_record(record: &[u8], code: Option<Code>) -> Result<Shape, Refused> {
     let cards = field(record, 0, TAG_CARDS, CARD_BYTES)?;
     if let Some(card) = cards.iter().position(|&byte| byte == 0) {
         return refused(13, FIELD_HEAD + card);
@@ -366,7 +421,6 @@ fn check_record(record: &[u8], code: Code) -> Result<Shape, Refused> {
     }
 
     let mut shape = Shape {
-        code,
         samples,
         interval,
         traces: 0,
@@ -390,10 +444,11 @@ fn check_record(record: &[u8], code: Code) -> Result<Shape, Refused> {
             PAIR_BYTES * samples as usize,
         )?;
         let found = match code {
-            Code::Ibm => check_pairs(pairs, Pair::ibm),
-            Code::Whole32 => check_pairs(pairs, Pair::whole32),
-            Code::Whole16 => check_pairs(pairs, Pair::whole16),
-            Code::Gain => check_pairs(pairs, Pair::gain),
+            None => check_pairs(pairs, |pair| Some(pair.bytes())),
+            Some(Code::Ibm) => check_pairs(pairs, Pair::ibm),
+            Some(Code::Whole32) => check_pairs(pairs, Pair::whole32),
+            Some(Code::Whole16) => check_pairs(pairs, Pair::whole16),
+            Some(Code::Gain) => check_pairs(pairs, Pair::gain),
         };
         let pair_place = |pair| samples_place + FIELD_HEAD + PAIR_BYTES * pair;
         match found {

@@ -1,4 +1,4 @@
-//! Document 01's samples at the edges, and its example.
+//! Document 01's samples at the edges and its example, and what document 02's CR 1 makes of it.
 
 use super::*;
 
@@ -218,4 +218,204 @@ fn counts_of_assigned_fields() {
         (0..4000).filter_map(trace_field).sum::<usize>(),
         TRACE_FIELDS
     );
+}
+
+/// The listing of the example, whose cards are all blanks.
+fn blank_listing() -> Vec<u8> {
+    let mut listing = Vec::new();
+    for _ in 0..40 {
+        listing.resize(listing.len() + 80, 0x20);
+        listing.push(0x0A);
+    }
+    listing
+}
+
+/// Codes and characters, as Unicode's CP037.TXT pairs them: the ends of the rows of letters and
+/// digits, the signs that other EBCDIC pages have elsewhere, and controls.
+const PAIRED: [(u8, u8); 36] = [
+    (0xC1, b'A'),
+    (0xC9, b'I'),
+    (0xD1, b'J'),
+    (0xD9, b'R'),
+    (0xE2, b'S'),
+    (0xE9, b'Z'),
+    (0x81, b'a'),
+    (0x89, b'i'),
+    (0x91, b'j'),
+    (0x99, b'r'),
+    (0xA2, b's'),
+    (0xA9, b'z'),
+    (0xF0, b'0'),
+    (0xF9, b'9'),
+    (0x40, b' '),
+    (0x4B, b'.'),
+    (0x60, b'-'),
+    (0x61, b'/'),
+    (0x7A, b':'),
+    (0x4F, b'|'),
+    (0x5A, b'!'),
+    (0xB0, b'^'),
+    (0xBA, b'['),
+    (0xBB, b']'),
+    (0xE0, b'\\'),
+    (0x4A, 0xA2),
+    (0x5F, 0xAC),
+    (0x00, 0x00),
+    (0x05, 0x09),
+    (0x0D, 0x0D),
+    (0x15, 0x85),
+    (0x25, 0x0A),
+    (0x37, 0x04),
+    (0x3F, 0x1A),
+    (0x41, 0xA0),
+    (0xFF, 0x9F),
+];
+
+#[test]
+fn characters_of_the_page() {
+    for (code, character) in PAIRED {
+        assert_eq!(page::CHARACTERS[code as usize], character, "{code:02X}");
+        assert_eq!(page::CODES[character as usize], code, "{character:02X}");
+    }
+    for character in 0..=255 {
+        let entries = page::CHARACTERS.iter().filter(|&&entry| entry == character);
+        assert_eq!(entries.count(), 1, "{character:02X}");
+    }
+}
+
+#[test]
+fn example_is_listed() {
+    let mut out = [0xA5; 3300];
+    assert_eq!(list_cards(&example_record(), &mut out), Ok(3240));
+    assert_eq!(out[..3240], blank_listing());
+    assert!(out[3240..].iter().all(|&byte| byte == 0xA5));
+}
+
+/// The example with text at the front of card 1, the end of card 2 and the end of card 40. Card 2
+/// has a line feed, 25, and a next line, 15.
+fn written_record() -> Vec<u8> {
+    let mut record = example_record();
+    record[3..13].copy_from_slice(&[0xC3, 0x40, 0xF1, 0x40, 0xC3, 0xD3, 0xC9, 0xC5, 0xD5, 0xE3]);
+    record[159..163].copy_from_slice(&[0x25, 0x0D, 0x15, 0x5A]);
+    record[3200..3203].copy_from_slice(&[0xC5, 0xD5, 0xC4]);
+    record
+}
+
+/// Its listing: a line is one byte longer than a card, so card 2 ends at 160 and card 40 at 3238.
+fn written_listing() -> Vec<u8> {
+    let mut listing = blank_listing();
+    listing[..10].copy_from_slice(b"C 1 CLIENT");
+    listing[157..161].copy_from_slice(&[0x0A, 0x0D, 0x85, 0x21]);
+    listing[3236..3239].copy_from_slice(b"END");
+    listing
+}
+
+#[test]
+fn text_is_listed_and_taken_back() {
+    let mut out = [0xA5; 3240];
+    assert_eq!(list_cards(&written_record(), &mut out), Ok(3240));
+    assert_eq!(out[..], written_listing());
+
+    let mut out = [0xA5; 3500];
+    let taken = Taken {
+        traces: 1,
+        samples: 2,
+        length: 3471,
+    };
+    for record in [written_record(), example_record()] {
+        out.fill(0xA5);
+        assert_eq!(take_cards(&record, &written_listing(), &mut out), Ok(taken));
+        assert_eq!(out[..3471], written_record());
+        assert!(out[3471..].iter().all(|&byte| byte == 0xA5));
+    }
+    assert_eq!(
+        take_cards(&written_record(), &blank_listing(), &mut out[..3471]),
+        Ok(taken)
+    );
+    assert_eq!(out[..3471], example_record());
+}
+
+#[test]
+fn character_00_becomes_a_blank() {
+    let mut listing = written_listing();
+    listing[0] = 0x00;
+    listing[3238] = 0x00;
+    let mut record = written_record();
+    record[3] = 0x40;
+    record[3202] = 0x40;
+    let mut out = [0xA5; 3471];
+    assert!(take_cards(&example_record(), &listing, &mut out).is_ok());
+    assert_eq!(out[..], record);
+}
+
+#[test]
+fn listings_of_another_form() {
+    let (record, listing) = (written_record(), written_listing());
+    let mut longer = listing.clone();
+    longer.extend(&listing);
+    let mut out = [0xA5; 3500];
+    for length in [0, 1, 80, 81, 3159, 3239, 3241, 3321, 6480] {
+        assert_eq!(
+            take_cards(&record, &longer[..length], &mut out),
+            refused(17, length)
+        );
+    }
+    for (ends, first) in [
+        (&[80][..], 80),
+        (&[161], 161),
+        (&[3239], 3239),
+        (&[3239, 242, 1700], 242),
+    ] {
+        for other in [0x00, 0x0D, 0x15, 0x20, 0x25, 0x85, 0x8A] {
+            let mut wrong = listing.clone();
+            for &end in ends {
+                wrong[end] = other;
+            }
+            assert_eq!(take_cards(&record, &wrong, &mut out), refused(17, first));
+        }
+    }
+    assert!(out.iter().all(|&byte| byte == 0xA5));
+}
+
+#[test]
+fn causes_of_listings_in_order() {
+    let (record, listing) = (written_record(), written_listing());
+    let mut wrong_form = record.clone();
+    wrong_form[3203] = 0x03;
+    let mut wrong_number = record.clone();
+    wrong_number[3202] = 0x00;
+    let mut wrong_end = listing.clone();
+    wrong_end[80] = 0x0D;
+    let mut short_and_wrong = wrong_end.clone();
+    short_and_wrong.pop();
+
+    let mut out = [0xA5; 3470];
+    assert_eq!(list_cards(&wrong_form, &mut out[..0]), refused(12, 3203));
+    assert_eq!(list_cards(&wrong_number, &mut out[..0]), refused(13, 3202));
+    assert_eq!(list_cards(&record, &mut out[..0]), refused(10, 3240));
+    assert_eq!(list_cards(&record, &mut out[..3239]), refused(10, 3240));
+    for (record, listing, cause) in [
+        (&wrong_form, &short_and_wrong, refused(12, 3203)),
+        (&wrong_number, &wrong_end, refused(13, 3202)),
+        (&record, &short_and_wrong, refused(17, 3239)),
+        (&record, &wrong_end, refused(17, 80)),
+        (&record, &listing, refused(10, 3471)),
+    ] {
+        assert_eq!(take_cards(record, listing, &mut out), cause);
+        assert_eq!(take_cards(record, listing, &mut out[..0]), cause);
+    }
+    assert!(out.iter().all(|&byte| byte == 0xA5));
+}
+
+/// A valid record may hold a sample that fits no code: its pair is the last before tag 05.
+#[test]
+fn samples_need_not_fit_a_code() {
+    let mut record = written_record();
+    record[3458..3464].copy_from_slice(&pair(251, 3));
+    let mut out = [0xA5; 3471];
+    assert_eq!(list_cards(&record, &mut out), Ok(3240));
+    assert!(take_cards(&record, &written_listing(), &mut out).is_ok());
+    assert_eq!(out[..], record);
+    record[3458..3464].copy_from_slice(&pair(0, 2));
+    assert_eq!(list_cards(&record, &mut out), refused(13, 3458));
 }

@@ -1,0 +1,173 @@
+"""The card listing and its way back, worked out from document 02's CR 1 alone.
+
+    python3 tools/vectors/cards.py            checks this file on the paper's statements
+
+The rules are written here as literally as possible, so that they share
+nothing with the code they test. Code page 037 is Python's codec cp037, which
+follows Unicode's CP037.TXT. What is said of a record, and of a listing with
+it, is a tuple:
+    ("taken", length, listing)         by listing; the listing is bytes
+    ("taken", T, N, length, record)    by taking back; the record is bytes
+    ("refused", number, beside)        by either; beside is a place or a length
+"""
+
+import random
+import sys
+from pathlib import Path
+
+sys.path.insert(0, str(Path(__file__).resolve().parent))
+sys.dont_write_bytecode = True
+
+from records import (  # noqa: E402
+    TAG, counts, first_cause, make_record, some_cards, some_fields, some_traces, with_bytes,
+)
+from reels import CARDS, some_bytes  # noqa: E402
+from samples import pair_bytes  # noqa: E402
+
+LINES, COLUMNS = 40, 80
+LISTING = LINES * (COLUMNS + 1)
+LINE_FEED = 0x0A
+
+
+# --------------------------------------------------------------- the page
+
+
+def character_of(code):
+    """The ISO 8859-1 character of an EBCDIC code."""
+    return ord(bytes([code]).decode("cp037"))
+
+
+def code_of(character):
+    """The EBCDIC code of an ISO 8859-1 character."""
+    return chr(character).encode("cp037")[0]
+
+
+# ------------------------------------------------------------ the listing
+
+
+def place_of_line_end(line):
+    """The 81st byte of a line, from 1."""
+    return line * (COLUMNS + 1) - 1
+
+
+def listing_of(cards):
+    """The listing of 3,200 card bytes."""
+    lines = (cards[i : i + COLUMNS] for i in range(0, CARDS, COLUMNS))
+    return b"".join(bytes(map(character_of, line)) + bytes([LINE_FEED]) for line in lines)
+
+
+def cards_of(listing):
+    """The card bytes of a listing of the right form, 40 in place of 00."""
+    characters = (character for i, character in enumerate(listing) if i % (COLUMNS + 1) != COLUMNS)
+    return bytes(map(code_of, characters)).replace(b"\x00", b"\x40")
+
+
+def listing_cause(listing):
+    """The refusal by 17, or None for a listing of the right form."""
+    if len(listing) != LISTING:
+        return "refused", 17, len(listing)
+    for line in range(1, LINES + 1):
+        if listing[place_of_line_end(line)] != LINE_FEED:
+            return "refused", 17, place_of_line_end(line)
+    return None
+
+
+def list_cards(record, room):
+    """What listing says of any bytes when the output has that much room."""
+    cause = first_cause(record)
+    if cause:
+        return cause
+    if room < LISTING:
+        return "refused", 10, LISTING
+    return "taken", LISTING, listing_of(record[TAG : TAG + CARDS])
+
+
+def take_cards(record, listing, room):
+    """What taking back says of any bytes, and any listing, when the output has that much room."""
+    cause = first_cause(record) or listing_cause(listing)
+    if cause:
+        return cause
+    if room < len(record):
+        return "refused", 10, len(record)
+    return "taken", *counts(record), len(record), with_bytes(record, TAG, cards_of(listing))
+
+
+def after(said, output):
+    """The output's bytes after a call of which that is said."""
+    if said[0] == "refused":
+        return output
+    return said[-1] + output[len(said[-1]) :]
+
+
+# ------------------------------------------------------------- self-check
+
+
+def check_page():
+    assert sorted(map(character_of, range(256))) == list(range(256))
+    assert all(code_of(character_of(code)) == code for code in range(256))
+    for code, character in (
+        (0x00, 0x00), (0x0D, 0x0D), (0x15, 0x85), (0x25, 0x0A), (0x40, 0x20), (0xC1, 0x41), (0xF0, 0x30), (0xFF, 0x9F),
+    ):
+        assert character_of(code) == character
+
+
+def check_example():
+    record = make_record(2000, 2, [[pair_bytes(0, 1), pair_bytes(-3, -949)]])
+    blanks = (b" " * 80 + b"\n") * 40
+    assert len(blanks) == 3240
+    assert list_cards(record, 3240) == ("taken", 3240, blanks)
+    for room in (0, 3239):
+        assert list_cards(record, room) == ("refused", 10, 3240)
+    assert take_cards(record, blanks, 3471) == ("taken", 1, 2, 3471, record)
+    assert take_cards(record, blanks, 3470) == ("refused", 10, 3471)
+    text = with_bytes(blanks, 81, b"C 2 LINE\x0012")
+    corrected = with_bytes(record, 3 + 80, bytes.fromhex("C3 40 F2 40 D3 C9 D5 C5 40 F1 F2"))
+    assert take_cards(record, text, 3471) == ("taken", 1, 2, 3471, corrected)
+    assert after(take_cards(record, text, 3473), b"\xA5" * 3473) == corrected + b"\xA5\xA5"
+    assert after(take_cards(record, text, 3470), b"\xA5" * 3470) == b"\xA5" * 3470
+    assert [place_of_line_end(line) for line in (1, 2, 40)] == [80, 161, 3239]
+    for line in range(1, 41):
+        assert take_cards(record, with_bytes(text, place_of_line_end(line), b"\r"), 0) == ("refused", 17, 81 * line - 1)
+    for length in (0, 3239, 3241):
+        assert take_cards(record, (text + text)[:length], 0) == ("refused", 17, length)
+
+
+def check_there_and_back(rnd):
+    """A text that is listed and taken back gives itself, whichever valid record is lent."""
+    for t, n in ((0, 3), (1, 1), (2, 7)):
+        record, other = (b"".join(some_fields(rnd, some_traces(rnd, 1, n, t), n=n)) for _ in range(2))
+        _, length, listing = list_cards(record, LISTING)
+        assert length == len(listing) == LISTING and listing[COLUMNS :: COLUMNS + 1] == b"\n" * LINES
+        assert take_cards(record, listing, len(record)) == ("taken", t, n, len(record), record)
+        mixed = other[:3] + record[3:3203] + other[3203:]
+        assert take_cards(other, listing, len(other)) == ("taken", t, n, len(other), mixed)
+        any_text = listing_of(some_bytes(rnd, CARDS))
+        taken = take_cards(record, any_text, len(record))[-1]
+        assert list_cards(taken, LISTING)[-1] == any_text.replace(b"\x00", b" ")
+
+
+def check_order():
+    """12 and 13, then 17 by length, then by place, then 10."""
+    record, listing = make_record(), listing_of(some_cards(random.Random(1)))
+    wrong_end = with_bytes(listing, 161, b" ")
+    both = wrong_end[:-1]
+    assert take_cards(record[:-1], both, 0) == ("refused", 12, 3266)
+    assert take_cards(with_bytes(record, 100, b"\x00"), both, 0) == ("refused", 13, 100)
+    assert take_cards(record, both, 0) == ("refused", 17, 3239)
+    assert take_cards(record, wrong_end, 0) == ("refused", 17, 161)
+    assert take_cards(record, listing, 0) == ("refused", 10, 3273)
+    assert list_cards(record[:-1], 0) == ("refused", 12, 3266)
+    assert list_cards(with_bytes(record, 100, b"\x00"), 0) == ("refused", 13, 100)
+    assert list_cards(record, 0) == ("refused", 10, 3240)
+
+
+def main():
+    check_page()
+    check_example()
+    check_there_and_back(random.Random(1975))
+    check_order()
+    print("cards.py: the paper's statements hold")
+
+
+if __name__ == "__main__":
+    main()
