@@ -7,12 +7,18 @@ use Rattle.record.specs.Answer.{saidBy, outcome}
 use Rattle.record.specs.declared.Answer.{Answer}
 use Rattle.sample.specs.Calls as single
 use Rattle.sample.specs.declared.Answer as sample
-use Rattle.aukpocket.specs.Interface.{Handed, handed, reelAnswer, reelIn, reelHanded, sampleAnswer, sampleIn, sampleHanded}
+use Rattle.listing.specs.Calls as calls
+use Rattle.listing.specs.declared.Listed.{Listed}
+use Rattle.aukpocket.specs.Interface.{Handed, handed, reelAnswer, reelIn, reelHanded, listingAnswer, listingHanded, sampleAnswer, sampleIn, sampleHanded}
 use Rattle.aukpocket.specs.declared.ReelAnswer.{ReelAnswer}
 use Rattle.aukpocket.specs.declared.SampleAnswer.{SampleAnswer}
 
 pub reel-handed : (r : ReelAnswer) (answer : Answer) (out : List ℕ) (o : Outcome) → handed r ≡ reelAnswer (saidBy answer) → outcome answer out ≡ o → reelIn r out ≡ reelHanded o
 reel-handed r answer out o p q = ap (λ (a : Handed ReelAnswer). record { answer = a; bytes = out }) p ∙ ap reelHanded q
+
+pub listing-handed : (r : ReelAnswer) (answer : Listed) (out : List ℕ) (o : Outcome) → handed r ≡ listingAnswer (calls.saidBy answer) → calls.listed answer out ≡ o
+    → reelIn r out ≡ listingHanded o
+listing-handed r answer out o p q = ap (λ (a : Handed ReelAnswer). record { answer = a; bytes = out }) p ∙ ap listingHanded q
 
 pub sample-handed : (r : SampleAnswer) (answer : sample.Answer) (bytes : List ℕ) (o : Outcome) → handed r ≡ sampleAnswer (single.saidBy answer)
     → record { said = single.saidBy answer; bytes = bytes } ≡ o → sampleIn r bytes ≡ sampleHanded o

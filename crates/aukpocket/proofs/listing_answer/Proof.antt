@@ -1,0 +1,17 @@
+-- `aukpocket::listing_answer` meets its contract. Assumes nothing.
+use Rattle.aukpocket.specs.Interface.{listingAnswer}
+use Rattle.listing.specs.Calls.{saidBy}
+use mathlib.Core.Path.{ap, sym}
+use borrow.Author.Needs.{needs}
+use Rattle.aukpocket.proofs.listing_answer.Statement.{statement}
+use Rattle.aukpocket.proofs.listing_answer.Tie as tie
+
+returns : tie.Need-returns
+returns c = ap (λ x. listingAnswer (saidBy x)) (sym (c .before .answer .given .1))
+
+returns-2 : tie.Need-returns-2
+returns-2 c = ap (λ x. listingAnswer (saidBy x)) (sym (c .before .answer2 .given .1))
+
+pub listing-answer-spec : {M : Type 1} → statement M
+listing-answer-spec =
+    tie.close (tie.spec (λ c. search needs) (λ c. search needs) (λ c. search needs) returns returns-2)
