@@ -1059,12 +1059,12 @@ class Synced(Built):
 # Every call by its declaration in the header.
 EVERY_CALL = r"""
 #include <string.h>
-static unsigned char reel[3848], record[3471], again[3848];
+static unsigned char reel[3848], record[3471], again[3848], listing[3241], out[3472];
 int main(void)
 {
     const unsigned char word[4] = {0xC2, 0x76, 0xA0, 0x00}, pair[6] = {0xFF, 0xFD, 0xFF, 0xFF, 0xFC, 0x4B};
     unsigned char word_out[4], pair_out[6];
-    struct aukpocket_reel_answer read, written;
+    struct aukpocket_reel_answer read, written, listed, taken;
     struct aukpocket_field_answer field, none;
     struct aukpocket_sample_answer sample;
 
@@ -1093,7 +1093,24 @@ int main(void)
     if (sample.number != 0 || memcmp(word, word_out, 4) != 0)
         return 6;
     sample = aukpocket_write_pair(3, pair, word_out);
-    return sample.number == 14 && memcmp("\0\0\0", word_out, 4) == 0 ? 0 : 7;
+    if (sample.number != 14 || memcmp("\0\0\0", word_out, 4) != 0)
+        return 7;
+    listing[3240] = out[3471] = 0xEE;
+    listed = aukpocket_list_cards(record, 3471, listing, 3241);
+    if (listed.number != 0 || listed.traces != 0 || listed.samples != 0 || listed.length != 3240 || listed.beside != 0)
+        return 8;
+    if (listing[3238] != 0x20 || listing[3239] != 0x0A || listing[3240] != 0xEE)
+        return 9;
+    listing[81] = 'A';
+    taken = aukpocket_take_cards(record, 3471, (const unsigned char *)listing, 3240, out, 3472);
+    if (taken.number != 0 || taken.traces != 1 || taken.samples != 2 || taken.length != 3471 || taken.beside != 0)
+        return 10;
+    record[83] = 0xC1;
+    if (memcmp(record, out, 3471) != 0 || out[3471] != 0xEE)
+        return 11;
+    listing[161] = 'A';
+    taken = aukpocket_take_cards(record, 3471, listing, 3240, out, 3472);
+    return taken.number == 17 && taken.length == 0 && taken.beside == 161 ? 0 : 12;
 }
 """
 
