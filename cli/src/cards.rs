@@ -19,7 +19,7 @@ pub fn text(bytes: &[u8], cards: usize) -> String {
 }
 
 /// The lines of a listing, without the 0A that closes each.
-fn lines(listing: &[u8; LISTING_LENGTH]) -> impl Iterator<Item = &[u8]> {
+pub fn lines(listing: &[u8; LISTING_LENGTH]) -> impl Iterator<Item = &[u8]> {
     listing.chunks(COLUMNS + 1).map(|closed| &closed[..COLUMNS])
 }
 
@@ -36,11 +36,10 @@ fn listing_of(bytes: &[u8]) -> [u8; LISTING_LENGTH] {
     record[binary_place(3217) + 1] = 1;
     record[binary_place(3221) + 1] = 1;
     record[FIRST_TRACE..FIRST_TRACE + TAG].copy_from_slice(&[0x05, 0x00, 0x04]);
-    let mut listing = [0; LISTING_LENGTH];
-    list_cards(&record, &mut listing).expect("a record without traces is valid");
-    listing
+    list_cards(&record).expect("a record without traces is valid")
 }
 
+/// The character of a byte of a listing, with a dot for a control character.
 fn dotted(character: u8) -> char {
     let character = char::from(character);
     if character.is_control() {

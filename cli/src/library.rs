@@ -133,19 +133,24 @@ pub fn look_up(reel: &[u8], trace: usize, byte_number: u32) -> Result<i32, Refus
     }
 }
 
-/// Writes the listing of a record's cards to the front of the output, and tells its length.
-pub fn list_cards(record: &[u8], listing: &mut [u8]) -> Result<usize, Refusal> {
-    let room = listing.len();
+/// The listing of a record's cards.
+pub fn list_cards(record: &[u8]) -> Result<[u8; LISTING_LENGTH], Refusal> {
+    let mut listing = [0; LISTING_LENGTH];
     // SAFETY: each pointer is a slice's own, with its length.
     let answer = unsafe {
-        c::aukpocket_list_cards(record.as_ptr(), record.len(), listing.as_mut_ptr(), room)
+        c::aukpocket_list_cards(
+            record.as_ptr(),
+            record.len(),
+            listing.as_mut_ptr(),
+            LISTING_LENGTH,
+        )
     };
-    let taken = counts(answer, room)?;
+    let taken = counts(answer, LISTING_LENGTH)?;
     assert!(
-        taken.traces == 0 && taken.samples == 0,
-        "the library tells of traces beside a listing"
+        (taken.traces, taken.samples, taken.length) == (0, 0, LISTING_LENGTH),
+        "the library tells of other counts than a listing has"
     );
-    Ok(taken.length)
+    Ok(listing)
 }
 
 /// Writes a record with the text of a listing to the front of the output.
@@ -275,26 +280,30 @@ mod tests {
         let mut record = vec![0; 3471];
         read_reel(&example(), &mut record).unwrap();
         record[3..7].copy_from_slice(&[0xC3, 0x25, 0x15, 0xFF]);
-        let mut listing = vec![0xEE; LISTING_LENGTH + 5];
-        assert_eq!(list_cards(&record, &mut listing), Ok(LISTING_LENGTH));
+        let mut listing = list_cards(&record).unwrap();
         assert_eq!(listing[..5], [b'C', 0x0A, 0x85, 0x9F, b' ']);
-        assert_eq!(listing[3238..], [b' ', 0x0A, 0xEE, 0xEE, 0xEE, 0xEE, 0xEE]);
-        let refused = list_cards(&record, &mut listing[..3239]).unwrap_err();
-        assert_eq!((refused.number, refused.beside), (10, 3240));
+        assert_eq!(listing[3238..], [b' ', 0x0A]);
         listing[81] = b'A';
         listing[82] = 0;
         let mut out = vec![0xEE; 3471 + 5];
-        let taken = take_cards(&record, &listing[..LISTING_LENGTH], &mut out).unwrap();
+        let taken = take_cards(&record, &listing, &mut out).unwrap();
         assert_eq!((taken.traces, taken.samples, taken.length), (1, 2, 3471));
         record[83] = 0xC1;
         assert_eq!(out[..3471], record);
         assert_eq!(out[3471..], [0xEE; 5]);
+        let refused = take_cards(&record, &listing, &mut out[..3470]).unwrap_err();
+        assert_eq!((refused.number, refused.beside), (10, 3471));
         listing[161] = b' ';
-        let refused = take_cards(&record, &listing[..LISTING_LENGTH], &mut []).unwrap_err();
-        assert_eq!((refused.number, refused.beside), (17, 161));
         let refused = take_cards(&record, &listing, &mut []).unwrap_err();
-        assert_eq!((refused.number, refused.beside), (17, 3245));
-        let refused = take_cards(&[], &listing, &mut []).unwrap_err();
+        assert_eq!((refused.number, refused.beside), (17, 161));
+        let refused = take_cards(&record, &listing[..3239], &mut []).unwrap_err();
+        assert_eq!((refused.number, refused.beside), (17, 3239));
+        record[3] = 0;
+        let refused = take_cards(&record, &listing, &mut []).unwrap_err();
+        assert_eq!((refused.number, refused.beside), (13, 3));
+        let refused = list_cards(&record[..3470]).unwrap_err();
+        assert_eq!((refused.number, refused.beside), (13, 3));
+        let refused = list_cards(&[]).unwrap_err();
         assert_eq!((refused.number, refused.beside), (12, 0));
     }
 
