@@ -125,7 +125,8 @@ the locale (LC_ALL, LC_CTYPE or LANG) says so. Elsewhere it is printable ASCII, 
 character and a warning that says how many.
 
 With a listing that was edited: writes NEWRECORD, which has the cards of LISTING and all else as in RECORD,
-and says which cards differ. Any listing goes with any record.
+and says which cards differ. Any listing goes with any record. A record with other cards is no longer that
+of its reel, as verify says: keep both.
 
   --utf8     the listing is UTF-8, whatever the locale
   --latin1   the listing is ISO 8859-1, a byte a character, 3240 bytes; it is never printed on a terminal
