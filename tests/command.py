@@ -797,6 +797,15 @@ class Cards(Case):
                 if mark is not None:
                     both = "the byte order mark was dropped" + ("; " if mended else "") + mended
                     self.put(mark + text.encode(python), encoding, changed, fine, both)
+        # As many bytes as a listing has, and not the characters; and in ISO 8859-1, with the lines of another length.
+        accent = self.edited((2, "é".ljust(79)))
+        content = "".join(f"{line}\n" for line in accent).encode()
+        self.assertEqual((len(content), set(content[80::81])), (3240, {0x0A}))
+        self.put(content, "--utf8", accent, "card 2 differs", "line 2 was filled with blanks to column 80")
+        content = "".join(f"{line[: 78 + 2 * (i % 2)]}\r\n" for i, line in enumerate(self.lines)).encode()
+        self.assertEqual(len(content), 3240)
+        odd = ", ".join(map(str, range(1, 40, 2)))
+        self.put(content, "--latin1", self.lines, "no card differs", f"{returns}; lines {odd} were filled with blanks to column 80")
         only = self.edited((40, "C40 END"))
         self.put("".join(f"{line.ljust(80)}\n" for line in only).encode(), "--utf8", only, "card 40 differs")
 
@@ -881,6 +890,11 @@ class Cards(Case):
             self.refused(1, content.encode("latin-1"), "--latin1", (
                 f"line 40, column 5 is {said}, which isn't taken: --latin1 takes control characters from exactly 40 lines of 80 "
                 "characters alone, and --utf8 has a way to write them"))
+        content = text(7, self.lines[6][:79] + "\t").encode()
+        self.assertEqual(len(content), 3240)
+        self.refused(1, content, "--utf8", (
+            "line 7, column 80 is a tab (U+0009), which isn't taken: in UTF-8 a card's own control characters are written as the character "
+            "U+2400 plus number, this one as U+2409"))
         # CR LF at some lines, and CR alone.
         for content, at in ((text(3, self.lines[2] + "\r"), "line 3, column 81"), (text(3, "C 3", "\r"), "line 1, column 81")):
             said = self.trouble(1, "cards", self.path, self.file("a.txt", content.encode()), self.new, "--utf8")

@@ -87,7 +87,7 @@ fn named(character: char) -> String {
 
 /// Bytes of a listing in a sentence.
 pub fn quoted(bytes: &[u8]) -> String {
-    let text = bytes.iter().take(QUOTED).map(|&byte| shown(byte)).collect();
+    let text: String = bytes.iter().take(QUOTED).map(|&byte| shown(byte)).collect();
     let more = if bytes.len() > QUOTED { "..." } else { "" };
     format!("`{}`{more}", in_locale(text).0)
 }
@@ -194,7 +194,7 @@ fn bytes_of(text: &str, encoding: Encoding, mended: &mut Vec<String>) -> Result<
     let mut rows: Vec<&str> = text.split('\n').collect();
     let unclosed = rows.pop().filter(|row| !row.is_empty());
     let without_return: Option<Vec<&str>> = rows.iter().map(|row| row.strip_suffix('\r')).collect();
-    if let Some(without_return) = without_return.filter(|rows| !rows.is_empty()) {
+    if let Some(without_return) = without_return {
         rows = without_return;
         mended.push("CR LF was taken as the end of each line".to_string());
     }
