@@ -849,13 +849,17 @@ class Cards(Case):
             (self.edited((7, self.lines[6] + "+" + self.lines[7]))[:39],
              "a line has 161 columns, not 80 (place 566: line 7, column 81, `+C 8"),
             (self.lines[:39], "it has 39 lines, not 40 (3159 characters, not 3240)"),
+            # A card's own 0A ends no line.
+            (self.edited((2, "\u240a" * 80), (4, self.lines[3] + "X")),
+             "a line has 81 columns, not 80 (3241 characters, not 3240: line 4, column 81, `X`)"),
+            (self.edited((2, "\u240a" * 80))[:39], "it has 39 lines, not 40 (3159 characters, not 3240)"),
             (self.lines + [""], "it has 41 lines, not 40 (3321 characters, not 3240)"), (self.lines * 2, "it has 80 lines, not 40 (6480 "),
             ([], "it has 0 lines, not 40 (0 characters, not 3240)"),
         ):
             text = "".join(f"{line}\n" for line in lines)
             for ends in ("\n", "\r\n"):
                 for encoding in ("--utf8", "--latin1"):
-                    if encoding == "--latin1" and "\u2409" in text:
+                    if encoding == "--latin1" and not set(text).isdisjoint("\u2409\u240a"):
                         continue
                     content = text.replace("\n", ends).encode("utf-8" if encoding == "--utf8" else "latin-1")
                     listing = self.file("a.txt", content)
@@ -895,6 +899,10 @@ class Cards(Case):
         self.refused(1, content, "--utf8", (
             "line 7, column 80 is a tab (U+0009), which isn't taken: in UTF-8 a card's own control characters are written as the character "
             "U+2400 plus number, this one as U+2409"))
+        # Two lines joined by a character that the library would take for the end of the first.
+        joined = self.edited((7, f"{self.lines[6]}\u240a{self.lines[7]}"))
+        content = "".join(f"{line}\n" for line in joined[:7] + joined[8:]).encode()
+        self.refused(1, content, "--utf8", "line 7, column 81 is `\u240a` (U+240A), beyond column 80")
         # CR LF at some lines, and CR alone.
         for content, at in ((text(3, self.lines[2] + "\r"), "line 3, column 81"), (text(3, "C 3", "\r"), "line 1, column 81")):
             said = self.trouble(1, "cards", self.path, self.file("a.txt", content.encode()), self.new, "--utf8")

@@ -133,28 +133,37 @@ fn locale_is_utf8() -> bool {
     matches!(code_set, Some("utf-8" | "utf8"))
 }
 
-/// A listing that was edited: the bytes to be lent, and what was done to make them.
+/// A listing that was edited: its lines, and what was done to make them.
 pub struct Edited {
-    pub bytes: Vec<u8>,
+    pub lines: Vec<Vec<u8>>,
     pub mended: Vec<String>,
+}
+
+impl Edited {
+    /// The bytes to be lent: each line is closed by 0A.
+    pub fn bytes(&self) -> Vec<u8> {
+        let closed = |line: &Vec<u8>| [line, &b"\n"[..]].concat();
+        self.lines.iter().flat_map(closed).collect()
+    }
 }
 
 /// Takes the bytes of a file as a listing. What an editor does at the ends of lines is mended; a line of more than 80 columns, and another
 /// count of lines than 40, are left for the library to refuse. The error says where a character stands that can't be taken.
 pub fn edited(file: &[u8], encoding: Encoding) -> Result<Edited, String> {
     let mut mended = Vec::new();
-    let bytes = if encoding == Encoding::Latin1 && is_exact(file) {
-        file.to_vec()
-    } else {
-        let text = text_of(file, encoding, &mut mended)?;
-        bytes_of(&text, encoding, &mut mended)?
+    let lines = match exact(file).filter(|_| encoding == Encoding::Latin1) {
+        Some(listing) => lines(listing).map(<[u8]>::to_vec).collect(),
+        None => {
+            let text = text_of(file, encoding, &mut mended)?;
+            lines_of(&text, encoding, &mut mended)?
+        }
     };
-    match bytes.iter().filter(|&&byte| byte == 0x00).count() {
+    match lines.iter().flatten().filter(|&&byte| byte == 0x00).count() {
         0 => {}
         1 => mended.push("a character 00 became a blank".to_string()),
         nulls => mended.push(format!("{nulls} characters 00 became blanks")),
     }
-    Ok(Edited { bytes, mended })
+    Ok(Edited { lines, mended })
 }
 
 /// Whether a file is UTF-8 and not ASCII alone, which text in ISO 8859-1 hardly ever is.
@@ -162,9 +171,12 @@ pub fn is_utf8(file: &[u8]) -> bool {
     !file.is_ascii() && std::str::from_utf8(file).is_ok()
 }
 
-/// Whether these are 40 lines of 80 characters, each closed by 0A.
-fn is_exact(file: &[u8]) -> bool {
-    file.len() == LISTING_LENGTH && file.chunks(COLUMNS + 1).all(|line| line[COLUMNS] == b'\n')
+/// A file that is 40 lines of 80 characters, each closed by 0A.
+fn exact(file: &[u8]) -> Option<&[u8; LISTING_LENGTH]> {
+    let closed = file
+        .chunks(COLUMNS + 1)
+        .all(|line| line.get(COLUMNS) == Some(&b'\n'));
+    file.try_into().ok().filter(|_| closed)
 }
 
 /// The text of a file.
@@ -189,8 +201,12 @@ fn text_of(file: &[u8], encoding: Encoding, mended: &mut Vec<String>) -> Result<
     })
 }
 
-/// The bytes of a text's lines, at least 80 for each, and the 0A that closes it.
-fn bytes_of(text: &str, encoding: Encoding, mended: &mut Vec<String>) -> Result<Vec<u8>, String> {
+/// The lines of a text, of at least 80 columns each.
+fn lines_of(
+    text: &str,
+    encoding: Encoding,
+    mended: &mut Vec<String>,
+) -> Result<Vec<Vec<u8>>, String> {
     let mut rows: Vec<&str> = text.split('\n').collect();
     let unclosed = rows.pop().filter(|row| !row.is_empty());
     let without_return: Option<Vec<&str>> = rows.iter().map(|row| row.strip_suffix('\r')).collect();
@@ -202,37 +218,38 @@ fn bytes_of(text: &str, encoding: Encoding, mended: &mut Vec<String>) -> Result<
         mended.push("a line feed was put at the end".to_string());
     }
     rows.extend(unclosed);
-    let (mut bytes, mut filled, mut cut) = (Vec::new(), Vec::new(), Vec::new());
-    for (row, line) in rows.into_iter().zip(1..) {
-        let end = bytes.len() + COLUMNS;
-        for (character, column) in row.chars().zip(1..) {
-            bytes.push(
-                byte_of(character, encoding)
-                    .map_err(|wrong| format!("line {line}, column {column} is {wrong}"))?,
-            );
+    let (mut lines, mut filled, mut cut) = (Vec::new(), Vec::new(), Vec::new());
+    for (row, number) in rows.into_iter().zip(1..) {
+        let mut line = Vec::new();
+        for character in row.chars() {
+            let at = |wrong| format!("line {number}, column {} is {wrong}", line.len() + 1);
+            let byte = byte_of(character, encoding).map_err(at)?;
+            // There the library would take it for the end of the line.
+            if byte == b'\n' && line.len() >= COLUMNS {
+                return Err(at(format!("{}, beyond column 80", named(character))));
+            }
+            line.push(byte);
         }
-        if bytes.len() < end {
-            filled.push(line);
-            bytes.resize(end, b' ');
+        if line.len() < COLUMNS {
+            filled.push(number);
+            line.resize(COLUMNS, b' ');
         }
-        if bytes.len() > end && bytes[end..].iter().all(|&byte| byte == b' ') {
-            cut.push(line);
-            bytes.truncate(end);
+        if line.len() > COLUMNS && line[COLUMNS..].iter().all(|&byte| byte == b' ') {
+            cut.push(number);
+            line.truncate(COLUMNS);
         }
-        bytes.push(b'\n');
+        lines.push(line);
     }
-    for (lines, what) in [
+    for (numbers, what) in [
         (filled, "filled with blanks to column 80"),
         (cut, "cut after column 80, where blanks stood"),
     ] {
-        if !lines.is_empty() {
-            mended.push(format!(
-                "{} {what}",
-                numbered("line", &lines, ["was", "were"])
-            ));
+        if !numbers.is_empty() {
+            let were = numbered("line", &numbers, ["was", "were"]);
+            mended.push(format!("{were} {what}"));
         }
     }
-    Ok(bytes)
+    Ok(lines)
 }
 
 /// Lines or cards by their numbers, and the verb for one or for more of them: "lines 1 to 3, 7 were".

@@ -588,14 +588,15 @@ fn put_cards(words: &Words) -> Result<(), Trouble> {
         record.len() as u64,
     );
     let mut new = files::buffer(record.len() as u64, to.display())?;
-    let taken =
-        take_cards(&record, &listing.bytes, &mut new).map_err(|refusal| match refusal.number {
-            17 => Trouble::refused(
-                &listing_name,
-                wrong(refusals::of_listing(&listing.bytes, refusal)),
-            ),
-            _ => Trouble::refused(&name, refusals::of_record(&record, 1, refusal)),
-        })?;
+    let taken = take_cards(&record, &listing.bytes(), &mut new).map_err(|refusal| match refusal
+        .number
+    {
+        17 => Trouble::refused(
+            &listing_name,
+            wrong(refusals::of_listing(&listing.lines, refusal)),
+        ),
+        _ => Trouble::refused(&name, refusals::of_record(&record, 1, refusal)),
+    })?;
     target.put(&new[..taken.length])?;
     if !listing.mended.is_empty() {
         let _ = writeln!(

@@ -120,9 +120,8 @@ fn as_record(record: &[u8], code: u32, refusal: Refusal) -> String {
 }
 
 /// A listing's refusal, by 17. Each of its lines has 80 columns or more.
-pub fn of_listing(listing: &[u8], refusal: Refusal) -> String {
-    let lines: Vec<&[u8]> = listing.split(|&byte| byte == 0x0A).collect();
-    let beside = match listing.len() {
+pub fn of_listing(lines: &[Vec<u8>], refusal: Refusal) -> String {
+    let beside = match lines.iter().map(|line| line.len() + 1).sum() {
         LISTING_LENGTH => format!("place {}", refusal.beside),
         _ => format!("{} characters, not {LISTING_LENGTH}", refusal.beside),
     };
@@ -134,7 +133,7 @@ pub fn of_listing(listing: &[u8], refusal: Refusal) -> String {
             COLUMNS + 1,
             quoted(&lines[i][COLUMNS..])
         ),
-        None => format!("it has {} lines, not {COUNT} ({beside})", lines.len() - 1),
+        None => format!("it has {} lines, not {COUNT} ({beside})", lines.len()),
     };
     sentence(refusal, &what)
 }
