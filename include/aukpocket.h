@@ -9,7 +9,8 @@
  * output must not overlap an input.
  *
  * Every answer begins with `number`: 0 where the call was taken, else the number of the cause, with what stands beside it in `beside`.
- * Members that say nothing are 0. A place is an offset in the input, counted from 0; a byte number is the standard's, counted from 1.
+ * Members that say nothing are 0. A place is an offset in the input at fault, counted from 0; a byte number is the standard's, counted
+ * from 1.
  *
  *   number  cause                                                     beside
  *    1      the reel has under 3,600 bytes                            its length
@@ -27,8 +28,10 @@
  *   13      the record holds a number that no record has              place of its first byte
  *   14      a sample doesn't fit the target code                      place of its pair
  *   15      no such trace                                             0
- *   16      no assigned field of that header begins at that byte     0
+ *   16      no assigned field of that header begins at that byte      0
  *           number
+ *   17      the listing has another length than 3,240                 its length
+ *           or else not 0A at some 81st byte                          place of the first such byte
  *
  * For a single word or pair the place beside 2, 9, 11, 13 and 14 is 0.
  *
@@ -36,6 +39,11 @@
  * takes any bytes there and says nothing of them; writing sets them to 0. A caller who wants to know looks at the reel's bytes. A record
  * has no format code either, and of the spellings taken as one it has the meaning: a card byte 00 is a blank (40), a 0 in trace fields
  * 115 and 117 is the reel's number, and a sample is its exact value. docs/FORMAT.md has both byte by byte.
+ *
+ * A listing is the text of a record's 40 cards: for each a line of 80 ISO 8859-1 characters, one byte each, closed by 0A, 3,240 bytes in
+ * all. The characters are those of EBCDIC code page 037 as Unicode publishes it (15 is 85, 25 is 0A). Every card byte has a character of
+ * its own, so a line may hold control characters, 0A among them: the listing is not for a terminal as it is, and a line ends at its 81st
+ * byte alone.
  */
 #ifndef AUKPOCKET_H
 #define AUKPOCKET_H
@@ -47,7 +55,8 @@
 extern "C" {
 #endif
 
-/* What a call on a whole reel or record answers: the traces, the samples of each, and the length of what was written. */
+/* What a call on a whole reel or record answers: the traces, the samples of each, and the length of what was written. Beside a listing
+ * traces and samples are 0. */
 struct aukpocket_reel_answer {
     uint64_t number;
     uint64_t traces;
@@ -83,6 +92,16 @@ struct aukpocket_reel_answer aukpocket_write_reel(const uint8_t *record, size_t 
  * (1 to 179) from 1 on. Fields 115 and 117 are filled in from the reel where they are 0; 3225 is as on the reel. Refuses by 1 to 9,
  * then 15, then 16. */
 struct aukpocket_field_answer aukpocket_look_up(const uint8_t *reel, size_t reel_length, size_t trace, uint32_t byte_number);
+
+/* Writes the listing of a record's cards to the front of `listing`: 3,240 bytes. Refuses by 12 and 13 as aukpocket_write_reel does, then
+ * 10. */
+struct aukpocket_reel_answer aukpocket_list_cards(const uint8_t *record, size_t record_length, uint8_t *listing, size_t listing_length);
+
+/* Writes a record with the text of a listing to the front of `out`: each card byte is the one that has the listing's character, a card
+ * byte 00 becomes a blank (40), and all else is as in `record`, its length too. Any listing goes with any record. Refuses by 12 and 13 as
+ * aukpocket_write_reel does, then 17 by the length, then 17 by the place, then 10. */
+struct aukpocket_reel_answer aukpocket_take_cards(const uint8_t *record, size_t record_length, const uint8_t *listing,
+                                                  size_t listing_length, uint8_t *out, size_t out_length);
 
 /* One sample, from the four bytes of its word to the six of its canonical pair: the exponent in two bytes, the mantissa in four, both
  * big-endian two's complement. A code 3 sample is the word's first two bytes, and the rest is ignored. Refuses by 2, then 9; the pair is

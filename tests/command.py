@@ -240,7 +240,7 @@ class Help(Case):
         self.assertRegex(self.fine("--version"), r"^aukpocket \d+\.\d+\.\d+\n$")
         for status in ("0  fine", "1  wrong words", "2  refused", "3  verify found"):
             self.assertIn(status, whole)
-        for command in ("read", "write", "look", "info", "verify", "check"):
+        for command in ("read", "write", "look", "info", "cards", "verify", "check"):
             self.assertIn(f"  aukpocket {command}", whole)
             said = self.fine(command, "--help")
             self.assertTrue(said.startswith(f"aukpocket {command}"), said)
@@ -253,7 +253,7 @@ class Help(Case):
     def test_the_man_page(self):
         """It has every command, option and exit status."""
         page = (TOP / "docs" / "aukpocket.1").read_text(encoding="utf-8").replace("\\-", "-")
-        for command in ("read", "write", "look", "info", "verify", "check"):
+        for command in ("read", "write", "look", "info", "cards", "verify", "check"):
             self.assertIn(f"\n.B aukpocket {command}\n", page)
             self.assertIn(f"\n.TP\n.B {command}\n", page)
         for option in re.findall(r"--[a-z]+", self.fine("--help")):
@@ -269,7 +269,10 @@ class Help(Case):
             ("write", SAMPLE, "4294967297", "x"), ("look", SAMPLE, "first", 1), ("look", SAMPLE, 1), ("look", SAMPLE, 1, "colour"),
             ("look", SAMPLE, 1, "code"), ("look", SAMPLE, 0, "offset"), ("look", SAMPLE, 1, "-1"), ("look", SAMPLE, "-1", 1),
             ("info",), ("info", SAMPLE, "--cards"), ("info", SAMPLE, "--cards", "41"), ("info", SAMPLE, "--cards", "all"),
-            ("verify",), ("verify", SAMPLE, SAMPLE, SAMPLE), ("check", SAMPLE),
+            ("verify",), ("verify", SAMPLE, SAMPLE, SAMPLE), ("check", SAMPLE), ("cards",), ("cards", SAMPLE, "x"),
+            ("cards", SAMPLE, SAMPLE, "x", "y"), ("cards", SAMPLE, "--cards", 5), ("cards", SAMPLE, "--utf8", "--latin1"),
+            ("cards", SAMPLE, "--force"), ("cards", SAMPLE, SAMPLE, "x"), ("cards", SAMPLE, SAMPLE, "x", "--utf-8"),
+            ("info", SAMPLE, "--utf8"), ("read", SAMPLE, "x", "--latin1"),
         ):
             self.trouble(1, *words, cwd=self.folder)
         self.assertEqual(self.names(), [])
@@ -645,6 +648,383 @@ class Info(Case):
         self.assertIn(b"refused by 5: 600 bytes follow", run.stderr)
 
 
+# Locales of both kinds, by the variable that names them last.
+UTF8 = {"LC_ALL": "C.UTF-8"}
+ASCII = {"LC_ALL": "C"}
+
+# Every card byte but 00, which no record has, from another one on in each card.
+ALL_CODES = b"".join(bytes((7 * card + column) % 255 + 1 for column in range(80)) for card in range(40))
+
+
+def is_control(number):
+    return number < 0x20 or 0x7F <= number < 0xA0
+
+
+def listing_of(record):
+    """The listing by Python's table of code page 037, as ISO 8859-1."""
+    return b"".join(record[place : place + 80].decode("cp037").encode("latin-1") + b"\n" for place in range(3, 3203, 80))
+
+
+def shown(listing):
+    """The listing's lines in text, with U+2400 plus the number for a control character."""
+    lines = (listing[place : place + 80] for place in range(0, 3240, 81))
+    return ["".join(chr(0x2400 + number if is_control(number) else number) for number in line) for line in lines]
+
+
+def with_lines(record, lines):
+    """The record with these lines of text on its cards."""
+    cards = b"".join(line.ljust(80).encode("cp037") for line in lines)
+    assert len(cards) == 3200
+    return record[:3] + cards.replace(b"\0", b"\x40") + record[3203:]
+
+
+class Cards(Case):
+    """The cards printed, edited, and put in a new record."""
+
+    def setUp(self):
+        super().setUp()
+        self.record = reels.record_of(SAMPLE.read_bytes())
+        self.all_codes = with_bytes(self.record, 3, ALL_CODES)
+        self.path = self.file("a.record", self.record)
+        self.all_path = self.file("all.record", self.all_codes)
+        self.lines = shown(listing_of(self.record))
+        self.new = self.folder / "new.record"
+        self.before = self.names()
+
+    def put(self, content, encoding, lines, differing, mended="", path=None, env=UTF8):
+        """Puts a listing's cards in a new record; it must have these lines, say which cards differ, and what was mended."""
+        path, listing = path or self.path, self.file("a.txt", content)
+        said = self.fine("cards", path, listing, self.new, encoding, warned=mended and f"aukpocket: {listing}: {mended}\n", env=env)
+        self.assertEqual(said, (f"{path}: 6 traces of 240 samples; {self.new}: the record with the cards of {listing}, 13029 bytes; "
+                                f"{differing}\n"))
+        self.assertEqual(self.new.read_bytes(), with_lines(path.read_bytes(), lines))
+        self.new.unlink()
+        listing.unlink()
+
+    def refused(self, status, content, encoding, sentence, env=UTF8):
+        """A listing whose cards can't be put in a new record, and the sentence that says so."""
+        listing = self.file("a.txt", content)
+        self.assertEqual(self.trouble(status, "cards", self.path, listing, self.new, encoding, env=env), f"{listing}: {sentence}")
+        listing.unlink()
+        self.assertEqual(self.names(), self.before)
+
+    def edited(self, *changes):
+        """The sample's lines with some of them changed."""
+        lines = list(self.lines)
+        for number, line in changes:
+            lines[number - 1] = line
+        return lines
+
+    def test_every_code_is_there(self):
+        self.assertEqual(set(ALL_CODES), set(range(1, 256)))
+        self.assertTrue(records.is_valid(self.all_codes))
+        self.assertEqual(set(listing_of(self.all_codes)), set(range(1, 256)))
+
+    def test_print(self):
+        """UTF-8 where the locale says so, or where it is asked for; the first variable that is set and not empty names the locale."""
+        for path, record in ((self.path, self.record), (self.all_path, self.all_codes)):
+            text = "\n".join(shown(listing_of(record))) + "\n"
+            others = sum(not c.isascii() for c in text)
+            ascii_text = "".join(c if c.isascii() else "?" for c in text)
+            warned = (f"aukpocket: warning: {path}: {others} characters that aren't printable ASCII are shown as `?`, since the locale "
+                      "isn't UTF-8; --utf8 prints them\n") if others else ""
+            for env in (
+                {"LC_ALL": "C.UTF-8"}, {"LC_CTYPE": "de_DE.utf8"}, {"LANG": "sv_SE.UTF-8@euro"}, {"LANG": "en_US.utf-8"},
+                {"LC_CTYPE": "UTF-8"}, {"LC_ALL": "", "LC_CTYPE": "", "LANG": "C.UTF-8"},
+                {"LC_ALL": "C.UTF-8", "LC_CTYPE": "C", "LANG": "C"}, {"LC_CTYPE": "C.UTF-8", "LANG": "C"},
+            ):
+                self.assertEqual(self.fine("cards", path, env=env), text, env)
+            for env in (
+                {}, {"LC_ALL": "C"}, {"LANG": "POSIX"}, {"LANG": "de_DE.ISO-8859-1"}, {"LANG": "de_DE"}, {"LANG": "utf8.C"},
+                {"LC_ALL": "C", "LC_CTYPE": "C.UTF-8", "LANG": "C.UTF-8"}, {"LC_CTYPE": "C", "LANG": "C.UTF-8"},
+                {"LC_MESSAGES": "C.UTF-8"},
+            ):
+                self.assertEqual(self.fine("cards", path, warned=warned, env=env), ascii_text, env)
+                self.assertEqual(self.fine("cards", "--utf8", path, env=env), text, env)
+            for env in (UTF8, ASCII):
+                run = self.run_command("cards", path, "--latin1", env=env)
+                self.assertEqual((run.returncode, run.stdout, run.stderr), (0, listing_of(record), b""))
+        self.assertGreater(others, 500)
+        one = self.file("one.record", with_bytes(self.record, 3, "é".encode("cp037")))
+        warned = (f"aukpocket: warning: {one}: a character that isn't printable ASCII is shown as `?`, since the locale isn't UTF-8; "
+                  "--utf8 prints it\n")
+        self.assertTrue(self.fine("cards", one, warned=warned, env=ASCII).startswith("? 1 CLIENT"))
+
+    def test_there_and_back(self):
+        """What is printed gives the record again, byte for byte, in either encoding."""
+        rnd = random.Random(11)
+        for i in range(12):
+            cards = [ALL_CODES, self.record[3:3203], b"\x25" * 3200, b"\x0d" * 3200][i] if i < 4 else records.some_cards(rnd)
+            path = self.file("b.record", with_bytes(self.record, 3, cards))
+            for encoding in ("--utf8", "--latin1"):
+                listing = self.file("b.txt", self.run_command("cards", encoding, path).stdout)
+                said = self.fine("cards", encoding, path, listing, self.new)
+                self.assertTrue(said.endswith("13029 bytes; no card differs\n"), said)
+                self.assertEqual(self.new.read_bytes(), path.read_bytes())
+                self.new.unlink()
+
+    def test_another_record(self):
+        """Any listing goes with any record: all but the cards is that record's."""
+        rnd = random.Random(12)
+        other = self.file("other.record", reels.record_of(random_reel(rnd, 4, 3, 2)))
+        listing = self.file("a.txt", listing_of(self.all_codes))
+        said = self.fine("cards", other, listing, self.new, "--latin1")
+        self.assertTrue(said.endswith("cards 1 to 40 differ\n"), said)
+        self.assertEqual(self.new.read_bytes(), with_bytes(other.read_bytes(), 3, ALL_CODES))
+
+    def test_edits(self):
+        """What a user changes, and what an editor does beside it."""
+        changed = self.edited((2, "C 2 LINE 12     ÅREA  SKERRY BANK, NØRTH¢"), (5, ""), (39, "é" * 80))
+        full = [line.ljust(80) for line in changed]
+        short = [line.rstrip(" ") for line in changed]
+        wide = [line + "   " * (i % 2) for i, line in enumerate(full, 1)]
+        filled = [i for i, line in enumerate(short, 1) if len(line) < 80]
+        self.assertEqual(filled, [*range(1, 39), 40])
+        fill, cut = "lines 1 to 38, 40 were filled with blanks to column 80", ", ".join(map(str, range(1, 40, 2)))
+        fine = "cards 2, 5, 39 differ"
+        returns, feed = "CR LF was taken as the end of each line", "a line feed was put at the end"
+        for encoding, python, mark in (("--utf8", "utf-8", b"\xef\xbb\xbf"), ("--latin1", "latin-1", None)):
+            for text, mended in (
+                ("\n".join(full) + "\n", ""), ("\n".join(full), feed), ("\r\n".join(full) + "\r\n", returns),
+                ("\r\n".join(full), f"{returns}; {feed}"), ("\n".join(short) + "\n", fill),
+                ("\r\n".join(short) + "\r\n", f"{returns}; {fill}"), ("\r\n".join(short), f"{returns}; {feed}; {fill}"),
+                ("\n".join(wide) + "\n", f"lines {cut} were cut after column 80, where blanks stood"),
+                ("\n".join(full[:6] + [full[6] + " "] + full[7:]) + "\n", "line 7 was cut after column 80, where blanks stood"),
+                ("\n".join(full[:6] + [full[6][:79]] + full[7:]) + "\n", "line 7 was filled with blanks to column 80"),
+            ):
+                for env in (UTF8, ASCII):
+                    self.put(text.encode(python), encoding, changed, fine, mended, env=env)
+                if mark is not None:
+                    both = "the byte order mark was dropped" + ("; " if mended else "") + mended
+                    self.put(mark + text.encode(python), encoding, changed, fine, both)
+        # As many bytes as a listing has, and not the characters; and in ISO 8859-1, with the lines of another length.
+        accent = self.edited((2, "é".ljust(79)))
+        content = "".join(f"{line}\n" for line in accent).encode()
+        self.assertEqual((len(content), set(content[80::81])), (3240, {0x0A}))
+        self.put(content, "--utf8", accent, "card 2 differs", "line 2 was filled with blanks to column 80")
+        content = "".join(f"{line[: 78 + 2 * (i % 2)]}\r\n" for i, line in enumerate(self.lines)).encode()
+        self.assertEqual(len(content), 3240)
+        odd = ", ".join(map(str, range(1, 40, 2)))
+        self.put(content, "--latin1", self.lines, "no card differs", f"{returns}; lines {odd} were filled with blanks to column 80")
+        only = self.edited((40, "C40 END"))
+        self.put("".join(f"{line.ljust(80)}\n" for line in only).encode(), "--utf8", only, "card 40 differs")
+
+    def test_control_characters(self):
+        """Those of the card come back from UTF-8 as they are shown there, and from ISO 8859-1 as they are where nothing is mended."""
+        lines = shown(listing_of(self.all_codes))
+        controls = {0x2400 + number for number in range(1, 256) if is_control(number)}
+        self.assertEqual(set(map(ord, "".join(lines))) & set(range(0x2400, 0x2500)), controls)
+        raw = ["".join(chr(ord(c) - 0x2400) if ord(c) > 0xFF else c for c in line) for line in lines]
+        lines[3], raw[3] = "CHANGED".ljust(80), "CHANGED".ljust(80)
+        short = [line.rstrip(" ") for line in lines]
+        shortened = [i for i, line in enumerate(short, 1) if len(line) < 80]
+        self.assertGreaterEqual(len(shortened), 1)
+        listing = "".join(f"{line}\n" for line in short).encode()
+        self.assertNotIn(b"\t", listing)
+        run = self.run_command("cards", self.all_path, self.file("a.txt", listing), self.new, "--utf8")
+        self.assertEqual(run.returncode, 0, run.stderr)
+        self.assertEqual(self.new.read_bytes(), with_lines(self.all_codes, raw))
+        self.new.unlink()
+        self.put("".join(f"{line}\n" for line in raw).encode("latin-1"), "--latin1", raw, "card 4 differs", path=self.all_path)
+        # A character 00 is a blank on the card, and that is said.
+        for content, encoding in (("\u2400", "--utf8"), ("\0", "--latin1")):
+            for count, mended in ((1, "a character 00 became a blank"), (3, "3 characters 00 became blanks")):
+                lines = self.edited((2, content * count + self.lines[1][count:]))
+                text = "".join(f"{line}\n" for line in lines)
+                blank = self.edited((2, " " * count + self.lines[1][count:]))
+                self.put(text.encode("utf-8" if encoding == "--utf8" else "latin-1"), encoding, blank, "card 2 differs", mended)
+
+    def test_17(self):
+        """Lines beyond column 80, and too few or too many of them."""
+        first = self.lines[0]
+        for lines, sentence in (
+            (self.edited((4, self.lines[3] + "X")), "a line has 81 columns, not 80 (3241 characters, not 3240: line 4, column 81, `X`)"),
+            (self.edited((4, self.lines[3] + " KM  "), (9, "")),
+             "a line has 85 columns, not 80 (3245 characters, not 3240: line 4, column 81, ` KM  `)"),
+            (self.edited((40, "é" * 200)),
+             "a line has 200 columns, not 80 (3360 characters, not 3240: line 40, column 81, `éééééééééééééééééééé`...)"),
+            (self.edited((1, first + "\u2409\u249f")),
+             "a line has 82 columns, not 80 (3242 characters, not 3240: line 1, column 81, `\u2409\u249f`)"),
+            # Two lines joined and one that is missing: as many characters as a listing has.
+            (self.edited((7, self.lines[6] + "+" + self.lines[7]))[:39],
+             "a line has 161 columns, not 80 (place 566: line 7, column 81, `+C 8"),
+            (self.lines[:39], "it has 39 lines, not 40 (3159 characters, not 3240)"),
+            # A card's own 0A ends no line.
+            (self.edited((2, "\u240a" * 80), (4, self.lines[3] + "X")),
+             "a line has 81 columns, not 80 (3241 characters, not 3240: line 4, column 81, `X`)"),
+            (self.edited((2, "\u240a" * 80))[:39], "it has 39 lines, not 40 (3159 characters, not 3240)"),
+            (self.lines + [""], "it has 41 lines, not 40 (3321 characters, not 3240)"), (self.lines * 2, "it has 80 lines, not 40 (6480 "),
+            ([], "it has 0 lines, not 40 (0 characters, not 3240)"),
+        ):
+            text = "".join(f"{line}\n" for line in lines)
+            for ends in ("\n", "\r\n"):
+                for encoding in ("--utf8", "--latin1"):
+                    if encoding == "--latin1" and not set(text).isdisjoint("\u2409\u240a"):
+                        continue
+                    content = text.replace("\n", ends).encode("utf-8" if encoding == "--utf8" else "latin-1")
+                    listing = self.file("a.txt", content)
+                    said = self.trouble(2, "cards", self.path, listing, self.new, encoding, env=UTF8)
+                    self.assertTrue(said.startswith(f"{listing}: refused by 17: {sentence}"), said)
+                    said = self.trouble(2, "cards", self.path, listing, self.new, encoding, env=ASCII)
+                    self.assertTrue(said.isascii())
+                    listing.unlink()
+        self.assertEqual(self.names(), self.before)
+
+    def test_characters_that_cant_be_taken(self):
+        def text(number, line, end="\n"):
+            return "".join(f"{line}{end}" for line in self.edited((number, line)))
+
+        for character, said, said_in_ascii in (
+            ("€", "`€` (U+20AC)", "U+20AC"), ("Ā", "`Ā` (U+0100)", "U+0100"), ("😀", "`😀` (U+1F600)", "U+1F600"),
+            ("\u0301", "U+0301", "U+0301"), ("\u202e", "U+202E", "U+202E"), ("\ufeff", "U+FEFF", "U+FEFF"), ("\u2028", "U+2028", "U+2028"),
+            # Beside those that stand for control characters.
+            *((chr(number), f"`{chr(number)}` (U+{number:04X})", f"U+{number:04X}") for number in (0x23FF, 0x2420, 0x2421, 0x247E, 0x24A0)),
+        ):
+            content = text(3, f"É 3 {character}").encode()
+            self.refused(1, content, "--utf8", f"line 3, column 5 is {said}, which code page 037 doesn't have")
+            self.refused(1, content, "--utf8", f"line 3, column 5 is {said_in_ascii}, which code page 037 doesn't have", env=ASCII)
+        for character, said in (
+            ("\t", "a tab (U+0009)"), ("\0", "the control character U+0000"), ("\x1b", "the control character U+001B"),
+            ("\x7f", "the control character U+007F"), ("\x85", "the control character U+0085"), ("\x0c", "the control character U+000C"),
+        ):
+            content = text(40, f"ÉC40{character}END")
+            self.refused(1, content.encode(), "--utf8", (
+                f"line 40, column 5 is {said}, which isn't taken: in UTF-8 a card's own control characters are written as the character "
+                f"U+2400 plus number, this one as U+{0x2400 + ord(character):04X}"))
+            self.refused(1, content.encode("latin-1"), "--latin1", (
+                f"line 40, column 5 is {said}, which isn't taken: --latin1 takes control characters from exactly 40 lines of 80 "
+                "characters alone, and --utf8 has a way to write them"))
+        content = text(7, self.lines[6][:79] + "\t").encode()
+        self.assertEqual(len(content), 3240)
+        self.refused(1, content, "--utf8", (
+            "line 7, column 80 is a tab (U+0009), which isn't taken: in UTF-8 a card's own control characters are written as the character "
+            "U+2400 plus number, this one as U+2409"))
+        # Two lines joined by a character that the library would take for the end of the first.
+        joined = self.edited((7, f"{self.lines[6]}\u240a{self.lines[7]}"))
+        content = "".join(f"{line}\n" for line in joined[:7] + joined[8:]).encode()
+        self.refused(1, content, "--utf8", "line 7, column 81 is `\u240a` (U+240A), beyond column 80")
+        # CR LF at some lines, and CR alone.
+        for content, at in ((text(3, self.lines[2] + "\r"), "line 3, column 81"), (text(3, "C 3", "\r"), "line 1, column 81")):
+            said = self.trouble(1, "cards", self.path, self.file("a.txt", content.encode()), self.new, "--utf8")
+            self.assertIn(f": {at} is a carriage return (U+000D), which isn't taken: ", said)
+            self.assertTrue(said.endswith("this one as U+240D; CR LF is taken as the end of a line where every line has it"), said)
+            (self.folder / "a.txt").unlink()
+        mark = b"\xef\xbb\xbf"
+        for content, at, byte in (
+            (text(3, "C 3 É").encode("latin-1"), "line 3, column 5", "C9"), (mark + b"\xff", "line 1, column 1", "FF"),
+            (text(1, "x").encode("utf-16"), "line 1, column 1", "FF"), (text(1, "ÉÉ").encode()[:3], "line 1, column 2", "C3"),
+            (text(2, "ab").encode() + b"\xc0\x80", "line 41, column 1", "C0"),
+            (text(2, "é\ud800").encode("utf-8", "surrogatepass"), "line 2, column 2", "ED"),
+        ):
+            self.refused(1, content, "--utf8", f"{at} is the byte {byte}, which isn't UTF-8; --latin1 takes a listing in ISO 8859-1")
+
+    def test_the_encoding_is_never_guessed(self):
+        listing = self.file("a.txt", listing_of(self.record))
+        said = self.trouble(1, "cards", self.path, listing, self.new)
+        self.assertEqual(said, "cards: how LISTING is encoded is never guessed: give --utf8 for UTF-8, or --latin1 for ISO 8859-1")
+        listing.unlink()
+        # UTF-8 that is given for ISO 8859-1 is taken as told, and the sentence names the mistake.
+        for line, status, sentence in (
+            ("C 2 Ø", 1, "line 2, column 6 is the control character U+0098, which isn't taken: --latin1 takes control characters from "
+                         "exactly 40 lines of 80 characters alone, and --utf8 has a way to write them"),
+            ("é" * 80, 2, "refused by 17: a line has 160 columns, not 80 (3320 characters, not 3240: line 2, column 81, "
+                          f"`{'Ã©' * 10}`...)"),
+        ):
+            content = "".join(f"{line}\n" for line in self.edited((2, line))).encode()
+            self.refused(status, content, "--latin1", f"{sentence}; the file is UTF-8, which --utf8 takes")
+        lines = self.edited((2, "C 2 é".ljust(80)))
+        listing = self.file("a.txt", "".join(f"{line}\n" for line in lines).encode())
+        self.fine("cards", self.path, listing, self.new, "--latin1", warned=(
+            f"aukpocket: {listing}: line 2 was cut after column 80, where blanks stood\n"
+            f"aukpocket: warning: {listing}: the file is UTF-8, and was taken as ISO 8859-1; --utf8 takes it as it is\n"))
+        self.assertEqual(self.new.read_bytes(), with_lines(self.record, self.edited((2, "C 2 Ã©"))))
+
+    def test_records_that_are_refused(self):
+        """The causes of the record come before 17, and a reel is told."""
+        listing = self.file("a.txt", b"no listing")
+        names = self.names()
+        bad = self.folder / "bad.record"
+        for record, sentence in (
+            (SAMPLE.read_bytes(),
+             "is a reel, not a record: refused by 12: tag C3 stands where a field should begin (place 0: tag 01, the cards)"),
+            (b"", "refused by 12: the record ends where a field should begin (place 0: tag 01, the cards)"),
+            (with_bytes(self.record, 83, b"\0"), "refused by 13: a card byte is 00 (place 83: card 2, column 1)"),
+            (self.record + b"x", "refused by 12: 1 bytes follow the record's end (place 13029)"),
+            (with_bytes(self.record, 13021, b"\x02"), "refused by 13: a pair, 2 * 2^0, isn't canonical (place 13016: trace 6, sample 240)"),
+        ):
+            bad.write_bytes(record)
+            for words in (("cards", bad), ("cards", bad, "--latin1"), ("cards", bad, listing, self.new, "--utf8")):
+                self.assertEqual(self.trouble(2, *words), f"{bad}: {sentence}")
+            bad.unlink()
+        self.assertEqual(self.names(), names)
+        for encoding, at in (
+            ("--utf8", "line 1, column 3 is the byte 80, "), ("--latin1", "line 1, column 1 is the control character U+0001, "),
+        ):
+            said = self.trouble(1, "cards", listing, self.path, self.new, encoding)
+            self.assertTrue(said.startswith(f"{self.path}: is a record, not a listing: {at}"), said)
+
+    def test_the_new_record_as_a_file(self):
+        """It appears whole under its name, replaces nothing unless told, and never an input."""
+        listing = self.file("a.txt", listing_of(self.all_codes))
+        old = self.file("old", b"old")
+        self.assertIn("is there already and is kept; --force", self.trouble(1, "cards", self.path, listing, old, "--latin1"))
+        self.assertEqual(old.read_bytes(), b"old")
+        self.fine("cards", self.path, listing, old, "--latin1", "--force")
+        self.assertEqual(old.read_bytes(), self.all_codes)
+        os.link(listing, self.folder / "second")
+        for name in (self.path, listing, self.folder / "second"):
+            self.assertIn("is there already", self.trouble(1, "cards", self.path, listing, name, "--latin1"))
+            self.assertIn("is an input, which is never replaced", self.trouble(1, "cards", self.path, listing, name, "--latin1", "--force"))
+        self.assertEqual((self.path.read_bytes(), listing.read_bytes()), (self.record, listing_of(self.all_codes)))
+        for words, part in (
+            ((self.folder / "none", listing, self.new), "none: can't be opened"),
+            ((self.path, self.folder / "none", self.new), "none: can't be opened"),
+            ((self.path, self.folder, self.new), "is a folder, not a file"), ((self.path, listing, self.folder), "is a folder"),
+            ((self.path, listing, self.folder / "no" / "record"), "its folder isn't there"),
+        ):
+            self.assertIn(part, self.trouble(1, "cards", *words, "--latin1"))
+        said = self.trouble(1, "cards", self.path, listing, self.new, "--latin1", preexec_fn=limited(resource.RLIMIT_FSIZE, 13028))
+        self.assertIn("new.record: can't be written: File too large", said)
+        self.assertEqual(self.names(), sorted([*self.before, "a.txt", "old", "second"]))
+
+    def on_terminal(self, *words, env):
+        """The status, and all that the command says on a terminal that is its standard output and standard error."""
+        ours, theirs = pty.openpty()
+        run = subprocess.Popen([str(COMMAND), *map(str, words)], stdin=subprocess.DEVNULL, stdout=theirs, stderr=theirs, env=env)
+        os.close(theirs)
+        said = b""
+        try:
+            while piece := os.read(ours, 65536):
+                said += piece
+        except OSError:  # the end, as a terminal tells it
+            pass
+        os.close(ours)
+        return run.wait(SECONDS), said.replace(b"\r\n", b"\n")
+
+    def test_no_control_character_goes_to_a_terminal(self):
+        listing = self.file("a.txt", listing_of(self.all_codes) + b"\x1b[31m")
+        long = self.file("b.txt", "".join(f"{line}\u2407\u241b\u249b\n" for line in self.lines).encode())
+        odd = self.file("c.txt", "".join(f"{line}\n" for line in self.edited((1, "\x9b31m"))).encode())
+        text = "\n".join(shown(listing_of(self.all_codes))) + "\n"
+        for env in (UTF8, ASCII):
+            for status, *words in (
+                (0, "cards", self.all_path), (0, "cards", self.all_path, "--utf8"), (1, "cards", self.all_path, "--latin1"),
+                (0, "info", self.all_path, "--cards", 40), (1, "cards", self.path, listing, self.new, "--latin1"),
+                (1, "cards", self.path, listing, self.new, "--utf8"), (2, "cards", self.path, long, self.new, "--utf8"),
+                (1, "cards", self.path, odd, self.new, "--utf8"), (1, "cards", self.path, odd, self.new, "--latin1"),
+            ):
+                ended, said = self.on_terminal(*words, env=env)
+                self.assertEqual(ended, status, (words, said))
+                self.assertEqual([c for c in said.decode() if is_control(ord(c)) and c != "\n"], [], words)
+                # Without UTF-8 a terminal may take the bytes 80 to 9F as control characters.
+                if env == ASCII and words[-1] != "--utf8" and words[0] != "info":
+                    self.assertTrue(said.isascii(), said)
+        self.assertEqual(self.on_terminal("cards", self.all_path, env=UTF8), (0, text.encode()))
+        self.assertEqual(self.on_terminal("cards", self.path, "--latin1", env=UTF8), (1, (
+            b"aukpocket: cards: --latin1 gives control characters as they are, which a terminal would obey; send it to a file, or give "
+            b"--utf8\n")))
+
+
 class Files(Case):
     def test_missing_and_folder(self):
         missing, output = self.folder / "missing.sgy", self.folder / "output"
@@ -709,7 +1089,7 @@ class Files(Case):
         (self.folder / "link").symlink_to(reel)
         for name in ("sample.sgy", "second", "link"):
             self.assertIn("is there already", self.trouble(1, "read", reel, self.folder / name))
-            self.assertIn("is the input, which is never replaced", self.trouble(1, "read", reel, self.folder / name, "--force"))
+            self.assertIn("is an input, which is never replaced", self.trouble(1, "read", reel, self.folder / name, "--force"))
         self.assertEqual(reel.read_bytes(), SAMPLE.read_bytes())
 
     def test_links_and_special_files(self):
@@ -815,6 +1195,13 @@ class Large(Case):
         self.assertIn("aukpocket: reading the reel in code 3 again, 16 MB\n", self.terminal("verify", self.reel))
         said = self.terminal("verify", self.reel, output)
         self.assertTrue(said.endswith(f"aukpocket: summing {self.reel}, 32 MB\naukpocket: comparing {output}, 48 MB\n"), said)
+        listing, new = self.file("listing", b"\n" * 40), self.folder / "new"
+        said = self.terminal("cards", output, listing, new, "--utf8")
+        self.assertEqual(said, "".join(f"aukpocket: {what}\n" for what in (
+            f"loading {output}, 48 MB", f"giving {output} the cards of {listing}, 48 MB", f"writing {new}, 48 MB",
+        )) + f"aukpocket: {listing}: lines 1 to 40 were filled with blanks to column 80\n")
+        self.assertEqual(new.read_bytes(), output.read_bytes())
+        new.unlink()
         self.assertEqual(self.terminal("read", SAMPLE, self.folder / "small"), "")
         self.fine("read", self.reel, output, "--force")
         with open(self.reel, "rb") as file:
@@ -866,6 +1253,7 @@ WRONG_LIBRARY = r"""
 #include <string.h>
 struct aukpocket_reel_answer proved_read_reel(const uint8_t *, size_t, uint8_t *, size_t);
 struct aukpocket_reel_answer proved_write_reel(const uint8_t *, size_t, uint32_t, uint8_t *, size_t);
+struct aukpocket_reel_answer proved_list_cards(const uint8_t *, size_t, uint8_t *, size_t);
 static int wrong(const char *way) { return getenv("WRONG") != NULL && strcmp(getenv("WRONG"), way) == 0; }
 static int reads;
 struct aukpocket_reel_answer aukpocket_read_reel(const uint8_t *reel, size_t reel_length, uint8_t *record, size_t record_length)
@@ -878,6 +1266,17 @@ struct aukpocket_reel_answer aukpocket_read_reel(const uint8_t *reel, size_t ree
         answer.traces += 1;
     if (wrong("length"))
         answer.length += 1;
+    if (wrong("place"))
+        answer.beside = 1;
+    if (wrong("refusal"))
+        answer.number = 5;
+    return answer;
+}
+struct aukpocket_reel_answer aukpocket_list_cards(const uint8_t *record, size_t record_length, uint8_t *listing, size_t length)
+{
+    struct aukpocket_reel_answer answer = proved_list_cards(record, record_length, listing, length);
+    if (wrong("traces"))
+        answer.traces += 1;
     return answer;
 }
 struct aukpocket_reel_answer aukpocket_write_reel(const uint8_t *record, size_t record_length, uint32_t code, uint8_t *reel, size_t length)
@@ -897,7 +1296,7 @@ class Wrong(Built):
 
     def test_verify_finds_a_difference(self):
         library, command = self.folder / "libaukpocket.a", self.folder / "command"
-        names = [f"--redefine-sym=aukpocket_{call}=proved_{call}" for call in ("read_reel", "write_reel")]
+        names = [f"--redefine-sym=aukpocket_{call}=proved_{call}" for call in ("read_reel", "write_reel", "list_cards")]
         self.built("objcopy", *names, ARCHIVE, library)
         wrong = self.file("wrong.c", WRONG_LIBRARY.encode())
         self.built("cc", "-I", TOP / "include", "-c", wrong, "-o", self.folder / "wrong.o")
@@ -918,11 +1317,18 @@ class Wrong(Built):
             self.assertEqual(run.returncode, 3, run)
             self.assertIn(f"code {code}: DIFFERENT; {part}", run.stdout)
             self.assertEqual(run.stderr, f"aukpocket: {SAMPLE}: came back otherwise in code {code}; keep the tape, and report this\n")
-        # A length beyond the output is never believed.
-        run = subprocess.run([command, "read", SAMPLE, self.folder / "none"], capture_output=True, text=True, env={"WRONG": "length"})
-        self.assertNotIn(run.returncode, (0, 2))
-        self.assertIn("the library tells of 13030 bytes in an output of 13029", run.stderr)
-        self.assertFalse((self.folder / "none").exists())
+        # A length beyond the output is never believed, and no number of an answer is dropped.
+        record = self.file("record", reels.record_of(SAMPLE.read_bytes()))
+        for way, words, said in (
+            ("length", ("read", SAMPLE, self.folder / "none"), "the library tells of 13030 bytes in an output of 13029"),
+            ("place", ("read", SAMPLE, self.folder / "none"), "the library tells of a place without a cause"),
+            ("refusal", ("read", SAMPLE, self.folder / "none"), "the library tells of counts beside a refusal"),
+            ("traces", ("cards", record), "the library tells of other counts than a listing has"),
+        ):
+            run = subprocess.run([command, *words], capture_output=True, text=True, env={"WRONG": way}, timeout=SECONDS)
+            self.assertNotIn(run.returncode, (0, 2))
+            self.assertIn(said, run.stderr)
+            self.assertFalse((self.folder / "none").exists())
 
     def test_a_missing_library(self):
         shutil.copytree(TOP / "cli", self.folder / "cli", ignore=shutil.ignore_patterns("target"))
@@ -1059,12 +1465,12 @@ class Synced(Built):
 # Every call by its declaration in the header.
 EVERY_CALL = r"""
 #include <string.h>
-static unsigned char reel[3848], record[3471], again[3848];
+static unsigned char reel[3848], record[3471], again[3848], listing[3241], out[3472];
 int main(void)
 {
     const unsigned char word[4] = {0xC2, 0x76, 0xA0, 0x00}, pair[6] = {0xFF, 0xFD, 0xFF, 0xFF, 0xFC, 0x4B};
     unsigned char word_out[4], pair_out[6];
-    struct aukpocket_reel_answer read, written;
+    struct aukpocket_reel_answer read, written, listed, taken;
     struct aukpocket_field_answer field, none;
     struct aukpocket_sample_answer sample;
 
@@ -1093,7 +1499,24 @@ int main(void)
     if (sample.number != 0 || memcmp(word, word_out, 4) != 0)
         return 6;
     sample = aukpocket_write_pair(3, pair, word_out);
-    return sample.number == 14 && memcmp("\0\0\0", word_out, 4) == 0 ? 0 : 7;
+    if (sample.number != 14 || memcmp("\0\0\0", word_out, 4) != 0)
+        return 7;
+    listing[3240] = out[3471] = 0xEE;
+    listed = aukpocket_list_cards(record, 3471, listing, 3241);
+    if (listed.number != 0 || listed.traces != 0 || listed.samples != 0 || listed.length != 3240 || listed.beside != 0)
+        return 8;
+    if (listing[3238] != 0x20 || listing[3239] != 0x0A || listing[3240] != 0xEE)
+        return 9;
+    listing[81] = 'A';
+    taken = aukpocket_take_cards(record, 3471, (const unsigned char *)listing, 3240, out, 3472);
+    if (taken.number != 0 || taken.traces != 1 || taken.samples != 2 || taken.length != 3471 || taken.beside != 0)
+        return 10;
+    record[83] = 0xC1;
+    if (memcmp(record, out, 3471) != 0 || out[3471] != 0xEE)
+        return 11;
+    listing[161] = 'A';
+    taken = aukpocket_take_cards(record, 3471, listing, 3240, out, 3472);
+    return taken.number == 17 && taken.length == 0 && taken.beside == 161 ? 0 : 12;
 }
 """
 

@@ -4,7 +4,7 @@
 
 The record that the command makes of the sample reel, and the reel itself, are decoded by tests/format_reader.py, which was written from
 the page alone, and compared with the numbers and values that tests/make_sample_reel.py made the reel of. So are records and reels in
-every code. The page's example is held to the command's bytes, and its tables to the layout and to code page 037.
+every code, and so are listings. The page's example is held to the command's bytes, and its tables to the layout and to code page 037.
 """
 
 import random
@@ -22,7 +22,7 @@ sys.path[:0] = [str(TOP / "tools" / "vectors"), str(TOP / "tests")]
 
 import make_sample_reel as sample  # noqa: E402
 import reels  # noqa: E402
-from format_reader import WIDTHS, read_record, read_reel  # noqa: E402
+from format_reader import WIDTHS, listing, read_record, read_reel  # noqa: E402
 
 PAGE = (TOP / "docs" / "FORMAT.md").read_text(encoding="utf-8")
 
@@ -36,6 +36,13 @@ def record_of(command, folder, reel):
     (folder / "reel").write_bytes(reel)
     run(command, "read", "--force", folder / "reel", folder / "record")
     return (folder / "record").read_bytes()
+
+
+def check_listing(command, folder, record):
+    """The listing that the command prints of a record is the reader's."""
+    (folder / "record").write_bytes(record)
+    printed = subprocess.run([command, "cards", "--latin1", str(folder / "record")], check=True, stdout=subprocess.PIPE, timeout=600).stdout
+    assert printed == listing(read_record(record)[0])
 
 
 def sample_meaning():
@@ -79,6 +86,13 @@ def check_page(command, folder):
     for byte, sign in signs.items():
         character = bytes([byte]).decode("cp037")
         assert sign == {" ": "SP", "\xa0": "NB", "\xad": "SH", "\x9f": ".."}.get(character, character), hex(byte)
+    rows = re.findall(r"^    ([0-3])-   (.*)$", PAGE, re.M)
+    assert [row for row, _ in rows] == list("0123")
+    numbers = bytes.fromhex("".join(cells for _, cells in rows))
+    assert numbers == bytes(range(0x40)).decode("cp037").encode("latin-1")
+    # Every card byte but 00, in some card.
+    cards = bytes(place % 255 + 1 for place in range(3200))
+    check_listing(command, folder, record[:3] + cards + record[3203:])
 
 
 def main():
@@ -91,6 +105,7 @@ def main():
         reel = sample.SAMPLE.read_bytes()
         meant = sample_meaning()
         assert read_record(record_of(command, folder, reel)) == meant
+        check_listing(command, folder, (folder / "record").read_bytes())
         assert read_reel(reel) == meant
         for code in (1, 4):
             run(command, "write", folder / "record", code, folder / f"{code}.sgy")
@@ -101,7 +116,8 @@ def main():
                 reel = reels.random_reel(rnd, code, n, t)
                 assert read_record(record_of(command, folder, reel)) == read_reel(reel), (code, n, t)
                 count += n * t
-    print(f"format: the page's example and tables, the sample's record and {count} further samples agree, {time.monotonic() - begun:.0f} s")
+    said = f"the page's example and tables, the sample's record, two listings and {count} further samples agree"
+    print(f"format: {said}, {time.monotonic() - begun:.0f} s")
 
 
 if __name__ == "__main__":

@@ -38,6 +38,11 @@ def card_text(content):
     return [content[i : i + 80].decode("cp037") for i in range(0, 3200, 80)]
 
 
+def listing(cards):
+    """The listing of a card text."""
+    return b"".join(card.encode("latin-1") + b"\n" for card in cards)
+
+
 def read_record(data):
     """What a record holds: its cards, binary header numbers without the format code, and traces of numbers and values."""
     place = 0

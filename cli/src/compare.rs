@@ -128,8 +128,8 @@ fn part_at(record: &[u8], place: usize) -> Part {
         return Part {
             name: format!(
                 "card {}, column {}",
-                from / cards::CARD + 1,
-                from % cards::CARD + 1
+                from / cards::COLUMNS + 1,
+                from % cards::COLUMNS + 1
             ),
             bytes: place..place + 1,
             shown: card,

@@ -140,7 +140,7 @@ pub struct Target {
 impl Target {
     /// Whether the file may be written is asked before the work, which may be long. A file that is there is kept unless it is to be
     /// replaced, and an input is never replaced by its own output.
-    pub fn new(path: &Path, force: bool, input: &Path) -> Result<Target, Trouble> {
+    pub fn new(path: &Path, force: bool, inputs: &[&Path]) -> Result<Target, Trouble> {
         let name = path.display();
         if path.file_name().is_none() {
             return Err(Trouble::file(format!("{name}: names no file")));
@@ -173,11 +173,13 @@ impl Target {
                 if !about.is_file() {
                     return Err(Trouble::file(format!("{name}: is no regular file")));
                 }
-                let same = fs::metadata(input)
-                    .is_ok_and(|input| (input.dev(), input.ino()) == (about.dev(), about.ino()));
-                if same {
+                let same = |input: &&Path| {
+                    fs::metadata(input)
+                        .is_ok_and(|input| (input.dev(), input.ino()) == (about.dev(), about.ino()))
+                };
+                if inputs.iter().any(same) {
                     return Err(Trouble::file(format!(
-                        "{name}: is the input, which is never replaced"
+                        "{name}: is an input, which is never replaced"
                     )));
                 }
                 Target {

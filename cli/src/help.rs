@@ -9,6 +9,9 @@ aukpocket: SEG-Y revision 0 reels and their canonical records
   aukpocket write RECORD CODE REEL [--force]   write a record as a reel in format code 1 to 4
   aukpocket look REEL TRACE BYTE               print one header field, by byte number or name
   aukpocket info FILE [--cards COUNT]          say what a file is and what it holds
+  aukpocket cards RECORD                       print the cards, 40 lines of 80 columns
+  aukpocket cards RECORD LISTING NEWRECORD (--utf8 | --latin1) [--force]
+                                               put the cards of an edited listing in a new record
   aukpocket verify REEL                        write and read again in each code, and compare
   aukpocket verify REEL RECORD                 compare a record on disk with its reel
   aukpocket check                              print one line about the reel on standard input
@@ -36,7 +39,7 @@ synced to the disk and then given its name. So a run that fails or is killed lea
 under that name, and a run that fails or is interrupted removes the temporary file too. A file that is
 there already is kept.
 
-  --force   replace a file that is there already; the input is never replaced
+  --force   replace a file that is there already; an input is never replaced
 ";
 
 const LEFT_OUT: &str = "
@@ -108,6 +111,39 @@ page 037, a dot for a control character). A refused file is shown as far as its 
 
   --cards COUNT   how many cards, 0 to 40; 5 unless given
 {LEFT_OUT}{STATUS}"
+    )
+}
+
+pub fn cards() -> String {
+    format!(
+        "\
+aukpocket cards RECORD [--utf8 | --latin1]
+aukpocket cards RECORD LISTING NEWRECORD (--utf8 | --latin1) [--force]
+
+Prints the listing of a record's cards: 40 lines of 80 columns, by EBCDIC code page 037. It is UTF-8 where
+the locale (LC_ALL, LC_CTYPE or LANG) says so. Elsewhere it is printable ASCII, with ? for each other
+character and a warning that says how many.
+
+With a listing that was edited: writes NEWRECORD, which has the cards of LISTING and all else as in RECORD,
+and says which cards differ. Any listing goes with any record. A record with other cards is no longer that
+of its reel, as verify says: keep both.
+
+  --utf8     the listing is UTF-8, whatever the locale
+  --latin1   the listing is ISO 8859-1, a byte a character, 3240 bytes; it is never printed on a terminal
+
+A control character (00 to 1F, 7F to 9F) is in UTF-8 the character U+2400 plus its number: 0D is U+240D.
+So every line keeps its 80 columns, and nothing is lost on the way back. A character 00 becomes a blank,
+as on reading.
+
+What editors do to a listing is mended, and standard error says so: a line of under 80 columns is filled
+with blanks, blanks beyond column 80 are cut, a line feed is put at the end, CR LF is taken as the end of
+a line where every line has it, and a byte order mark of UTF-8 is dropped. Under --latin1, 40 lines of
+exactly 80 characters are taken as they are, control characters too.
+
+Anything else beyond column 80, and another count than 40 lines, is refused by 17. A character that code
+page 037 doesn't have, a control character as it is (a tab) and bytes that aren't UTF-8 are trouble with
+the file. The sentence has the line and the column.
+{OUTPUT}{STATUS}"
     )
 }
 

@@ -54,6 +54,20 @@ mod c {
             trace: usize,
             byte_number: u32,
         ) -> FieldAnswer;
+        pub fn aukpocket_list_cards(
+            record: *const u8,
+            record_length: usize,
+            listing: *mut u8,
+            listing_length: usize,
+        ) -> ReelAnswer;
+        pub fn aukpocket_take_cards(
+            record: *const u8,
+            record_length: usize,
+            listing: *const u8,
+            listing_length: usize,
+            out: *mut u8,
+            out_length: usize,
+        ) -> ReelAnswer;
         pub fn aukpocket_read_word(code: u32, word: *const u8, pair: *mut u8) -> SampleAnswer;
         pub fn aukpocket_write_pair(code: u32, pair: *const u8, word: *mut u8) -> SampleAnswer;
     }
@@ -67,12 +81,15 @@ pub struct Taken {
     pub length: usize,
 }
 
-/// A refusal: the number of its cause, 1 to 16, and what stands beside it: a place, counted from 0, or a length.
+/// A refusal: the number of its cause, 1 to 17, and what stands beside it: a place, counted from 0, or a length.
 #[derive(Clone, Copy, Debug, PartialEq, Eq)]
 pub struct Refusal {
     pub number: u64,
     pub beside: u64,
 }
+
+/// The bytes of a listing: 40 lines of 80 characters, each closed by 0A.
+pub const LISTING_LENGTH: usize = 3240;
 
 /// The bytes of a record of that many traces and samples a trace.
 pub fn record_length(traces: u64, samples: u64) -> Option<u64> {
@@ -116,6 +133,43 @@ pub fn look_up(reel: &[u8], trace: usize, byte_number: u32) -> Result<i32, Refus
     }
 }
 
+/// The listing of a record's cards.
+pub fn list_cards(record: &[u8]) -> Result<[u8; LISTING_LENGTH], Refusal> {
+    let mut listing = [0; LISTING_LENGTH];
+    // SAFETY: each pointer is a slice's own, with its length.
+    let answer = unsafe {
+        c::aukpocket_list_cards(
+            record.as_ptr(),
+            record.len(),
+            listing.as_mut_ptr(),
+            LISTING_LENGTH,
+        )
+    };
+    let taken = counts(answer, LISTING_LENGTH)?;
+    assert!(
+        (taken.traces, taken.samples, taken.length) == (0, 0, LISTING_LENGTH),
+        "the library tells of other counts than a listing has"
+    );
+    Ok(listing)
+}
+
+/// Writes a record with the text of a listing to the front of the output.
+pub fn take_cards(record: &[u8], listing: &[u8], out: &mut [u8]) -> Result<Taken, Refusal> {
+    let room = out.len();
+    // SAFETY: each pointer is a slice's own, with its length.
+    let answer = unsafe {
+        c::aukpocket_take_cards(
+            record.as_ptr(),
+            record.len(),
+            listing.as_ptr(),
+            listing.len(),
+            out.as_mut_ptr(),
+            room,
+        )
+    };
+    counts(answer, room)
+}
+
 /// The canonical pair of a word under a code.
 pub fn read_word(code: u32, word: [u8; 4]) -> Result<[u8; 6], Refusal> {
     let mut pair = [0; 6];
@@ -138,26 +192,39 @@ pub fn write_pair(code: u32, pair: [u8; 6]) -> Result<[u8; 4], Refusal> {
     }
 }
 
-/// What an answer says, for an output of that room. A length beyond it would tell of bytes that aren't there: another library was linked.
+/// What an answer says, for an output of that room. Each member is named, so that none is dropped unnoticed. A length beyond the room would
+/// tell of bytes that aren't there: another library was linked.
 fn counts(answer: c::ReelAnswer, room: usize) -> Result<Taken, Refusal> {
-    if answer.number != 0 {
-        return Err(refusal(answer.number, answer.beside));
+    let c::ReelAnswer {
+        number,
+        traces,
+        samples,
+        length,
+        beside,
+    } = answer;
+    if number != 0 {
+        assert!(
+            (traces, samples, length) == (0, 0, 0),
+            "the library tells of counts beside a refusal"
+        );
+        return Err(refusal(number, beside));
     }
-    let length = usize::try_from(answer.length).unwrap_or(usize::MAX);
+    assert!(beside == 0, "the library tells of a place without a cause");
+    let length = usize::try_from(length).unwrap_or(usize::MAX);
     assert!(
         length <= room,
         "the library tells of {length} bytes in an output of {room}"
     );
     Ok(Taken {
-        traces: answer.traces,
-        samples: answer.samples,
+        traces,
+        samples,
         length,
     })
 }
 
 fn refusal(number: u64, beside: u64) -> Refusal {
     assert!(
-        number <= 16,
+        number <= 17,
         "the library refuses by {number}, which is no cause"
     );
     Refusal { number, beside }
@@ -206,6 +273,38 @@ mod tests {
         assert_eq!((refused.number, refused.beside), (12, 0));
         let refused = write_reel(&[], 257, &mut []).unwrap_err();
         assert_eq!((refused.number, refused.beside), (11, 0));
+    }
+
+    #[test]
+    fn cards() {
+        let mut record = vec![0; 3471];
+        read_reel(&example(), &mut record).unwrap();
+        record[3..7].copy_from_slice(&[0xC3, 0x25, 0x15, 0xFF]);
+        let mut listing = list_cards(&record).unwrap();
+        assert_eq!(listing[..5], [b'C', 0x0A, 0x85, 0x9F, b' ']);
+        assert_eq!(listing[3238..], [b' ', 0x0A]);
+        listing[81] = b'A';
+        listing[82] = 0;
+        let mut out = vec![0xEE; 3471 + 5];
+        let taken = take_cards(&record, &listing, &mut out).unwrap();
+        assert_eq!((taken.traces, taken.samples, taken.length), (1, 2, 3471));
+        record[83] = 0xC1;
+        assert_eq!(out[..3471], record);
+        assert_eq!(out[3471..], [0xEE; 5]);
+        let refused = take_cards(&record, &listing, &mut out[..3470]).unwrap_err();
+        assert_eq!((refused.number, refused.beside), (10, 3471));
+        listing[161] = b' ';
+        let refused = take_cards(&record, &listing, &mut []).unwrap_err();
+        assert_eq!((refused.number, refused.beside), (17, 161));
+        let refused = take_cards(&record, &listing[..3239], &mut []).unwrap_err();
+        assert_eq!((refused.number, refused.beside), (17, 3239));
+        record[3] = 0;
+        let refused = take_cards(&record, &listing, &mut []).unwrap_err();
+        assert_eq!((refused.number, refused.beside), (13, 3));
+        let refused = list_cards(&record[..3470]).unwrap_err();
+        assert_eq!((refused.number, refused.beside), (13, 3));
+        let refused = list_cards(&[]).unwrap_err();
+        assert_eq!((refused.number, refused.beside), (12, 0));
     }
 
     #[test]

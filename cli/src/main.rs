@@ -8,19 +8,21 @@ mod help;
 mod kinds;
 mod layout;
 mod left_out;
+mod listing;
 mod refusals;
 mod sha256;
 mod system;
 mod trouble;
 
-use aukpocket::{look_up, read_reel, write_reel, Refusal, Taken};
+use aukpocket::{list_cards, look_up, read_reel, take_cards, write_reel, Refusal, Taken};
 use files::{step, Target};
 use kinds::{is_record, is_reel, record_fault, reel_fault};
 use layout::{number, Shape};
+use listing::Encoding;
 use std::env;
 use std::ffi::{OsStr, OsString};
 use std::fmt::Write as _;
-use std::io::{self, ErrorKind, Write};
+use std::io::{self, ErrorKind, IsTerminal, Write};
 use std::os::unix::ffi::OsStrExt;
 use std::path::Path;
 use std::process::ExitCode;
@@ -37,11 +39,22 @@ struct Words {
     words: Vec<OsString>,
     force: bool,
     cards: usize,
+    encoding: Option<Encoding>,
 }
 
 impl Words {
     fn path(&self, i: usize) -> &Path {
         Path::new(&self.words[i])
+    }
+
+    /// Takes an option that says how a listing is encoded.
+    fn set_encoding(&mut self, encoding: Encoding) -> Result<(), String> {
+        match self.encoding.replace(encoding) {
+            Some(other) if other != encoding => {
+                Err("it takes --utf8 or --latin1, not both".to_string())
+            }
+            _ => Ok(()),
+        }
     }
 
     /// A word that has to be a number.
@@ -55,69 +68,71 @@ impl Words {
     }
 }
 
-/// A command: its name, the words that it takes, a last word that may be left out, the options that it knows, its help and its work.
+/// A command: its name, the words that it takes, the last words that may be left out together, the options that it knows, its help and its
+/// work.
 struct Command {
     name: &'static str,
     words: &'static [&'static str],
-    optional: Option<&'static str>,
-    force: bool,
-    cards: bool,
+    optional: &'static [&'static str],
+    options: &'static [&'static str],
     help: fn() -> String,
     run: fn(&Words) -> Result<(), Trouble>,
 }
 
-static COMMANDS: [Command; 6] = [
+static COMMANDS: [Command; 7] = [
     Command {
         name: "read",
         words: &["REEL", "RECORD"],
-        optional: None,
-        force: true,
-        cards: false,
+        optional: &[],
+        options: &["--force"],
         help: help::read,
         run: read,
     },
     Command {
         name: "write",
         words: &["RECORD", "CODE", "REEL"],
-        optional: None,
-        force: true,
-        cards: false,
+        optional: &[],
+        options: &["--force"],
         help: help::write,
         run: write,
     },
     Command {
         name: "look",
         words: &["REEL", "TRACE", "BYTE"],
-        optional: None,
-        force: false,
-        cards: false,
+        optional: &[],
+        options: &[],
         help: help::look,
         run: look,
     },
     Command {
         name: "info",
         words: &["FILE"],
-        optional: None,
-        force: false,
-        cards: true,
+        optional: &[],
+        options: &["--cards"],
         help: help::info,
         run: info,
     },
     Command {
+        name: "cards",
+        words: &["RECORD"],
+        optional: &["LISTING", "NEWRECORD"],
+        options: &["--utf8", "--latin1", "--force"],
+        help: help::cards,
+        run: cards,
+    },
+    Command {
         name: "verify",
         words: &["REEL"],
-        optional: Some("RECORD"),
-        force: false,
-        cards: false,
+        optional: &["RECORD"],
+        options: &[],
         help: help::verify,
         run: verify,
     },
     Command {
         name: "check",
         words: &[],
-        optional: None,
-        force: false,
-        cards: false,
+        optional: &[],
+        options: &[],
         help: help::check,
         run: check,
     },
@@ -180,6 +195,7 @@ fn take_words(command: &Command, arguments: &[OsString]) -> Result<Option<Words>
         words: Vec::new(),
         force: false,
         cards: FIRST_CARDS,
+        encoding: None,
     };
     let mut options = true;
     let mut arguments = arguments.iter();
@@ -187,27 +203,31 @@ fn take_words(command: &Command, arguments: &[OsString]) -> Result<Option<Words>
         match argument.to_str() {
             Some("--") if options => options = false,
             Some("--help" | "-h") if options => return Ok(None),
-            Some("--force") if options && command.force => taken.force = true,
-            Some("--cards") if options && command.cards => {
+            Some(option)
+                if options && option.starts_with("--") && !command.options.contains(&option) =>
+            {
+                return Err(wrong(format!("there is no option `{option}`")));
+            }
+            Some("--force") if options => taken.force = true,
+            Some("--utf8") if options => taken.set_encoding(Encoding::Utf8).map_err(wrong)?,
+            Some("--latin1") if options => taken.set_encoding(Encoding::Latin1).map_err(wrong)?,
+            Some("--cards") if options => {
                 taken.cards = arguments
                     .next()
                     .and_then(|count| parse(count))
                     .filter(|&count| count <= cards::COUNT)
                     .ok_or_else(|| wrong("--cards wants a number from 0 to 40".to_string()))?;
             }
-            Some(option) if options && option.starts_with("--") => {
-                return Err(wrong(format!("there is no option `{option}`")));
-            }
             _ => taken.words.push(argument.clone()),
         }
     }
     let least = command.words.len();
-    let most = least + usize::from(command.optional.is_some());
-    if !(least..=most).contains(&taken.words.len()) {
+    let most = least + command.optional.len();
+    if taken.words.len() != least && taken.words.len() != most {
         return Err(wrong(match (command.words, command.optional) {
             ([], _) => "it takes no words".to_string(),
-            (words, None) => format!("it takes {}", words.join(" ")),
-            (words, Some(optional)) => format!("it takes {} [{optional}]", words.join(" ")),
+            (words, []) => format!("it takes {}", words.join(" ")),
+            (words, optional) => format!("it takes {} [{}]", words.join(" "), optional.join(" ")),
         }));
     }
     Ok(Some(taken))
@@ -256,8 +276,13 @@ fn print_bytes(bytes: &[u8]) -> Result<(), Trouble> {
 /// Warns of what the record of a reel that was taken leaves out.
 fn warn_of_left_out(reel: &[u8], name: &str) {
     if let Some(sentence) = left_out::warning(reel) {
-        let _ = writeln!(io::stderr(), "aukpocket: warning: {name}: {sentence}");
+        warn(name, &sentence);
     }
+}
+
+/// Warns of something about a file; the exit status stays as it is.
+fn warn(name: &str, sentence: &str) {
+    let _ = writeln!(io::stderr(), "aukpocket: warning: {name}: {sentence}");
 }
 
 /// Traces and samples, for people.
@@ -323,7 +348,7 @@ fn reel_of(
 
 fn read(words: &Words) -> Result<(), Trouble> {
     let (from, to) = (words.path(0), words.path(1));
-    let target = Target::new(to, words.force, from)?;
+    let target = Target::new(to, words.force, &[from])?;
     let reel = files::load(from)?;
     let name = from.display().to_string();
     let (record, taken) = record_of(&reel, &name)?;
@@ -340,7 +365,7 @@ fn read(words: &Words) -> Result<(), Trouble> {
 fn write(words: &Words) -> Result<(), Trouble> {
     let (from, to) = (words.path(0), words.path(2));
     let code = words.number(1, "CODE")?;
-    let target = Target::new(to, words.force, from)?;
+    let target = Target::new(to, words.force, &[from])?;
     let record = files::load(from)?;
     let name = from.display().to_string();
     let (reel, taken) = reel_of(&record, code, &name)?
@@ -490,6 +515,117 @@ fn add_cards(text: &mut String, bytes: &[u8], count: usize) {
         let _ = writeln!(text, "cards     {count} of {}", cards::COUNT);
         text.push_str(&cards::text(bytes, count));
     }
+}
+
+fn cards(words: &Words) -> Result<(), Trouble> {
+    match words.words.len() {
+        1 => print_cards(words),
+        _ => put_cards(words),
+    }
+}
+
+/// Prints the listing of a record's cards: as the terminal's own text, unless told which encoding.
+fn print_cards(words: &Words) -> Result<(), Trouble> {
+    let path = words.path(0);
+    if words.force {
+        return Err(Trouble::usage(
+            "cards: --force is for a NEWRECORD; see `aukpocket cards --help`",
+        ));
+    }
+    if words.encoding == Some(Encoding::Latin1) && io::stdout().is_terminal() {
+        return Err(Trouble::usage(
+            "cards: --latin1 gives control characters as they are, which a terminal would obey; \
+             send it to a file, or give --utf8",
+        ));
+    }
+    let record = files::load(path)?;
+    let name = path.display().to_string();
+    let listing = list_cards(&record)
+        .map_err(|refusal| Trouble::refused(&name, refusals::of_record(&record, 1, refusal)))?;
+    match words.encoding {
+        Some(Encoding::Latin1) => print_bytes(&listing),
+        Some(Encoding::Utf8) => print(&listing::utf8(&listing)),
+        None => {
+            let (text, others) = listing::in_locale(listing::utf8(&listing));
+            print(&text)?;
+            if let Some(sentence) = listing::not_shown(others) {
+                warn(&name, &sentence);
+            }
+            Ok(())
+        }
+    }
+}
+
+/// Writes a record with the cards of a listing that was edited.
+fn put_cards(words: &Words) -> Result<(), Trouble> {
+    let (from, edited, to) = (words.path(0), words.path(1), words.path(2));
+    let Some(encoding) = words.encoding else {
+        return Err(Trouble::usage(
+            "cards: how LISTING is encoded is never guessed: give --utf8 for UTF-8, or --latin1 for ISO 8859-1",
+        ));
+    };
+    let target = Target::new(to, words.force, &[from, edited])?;
+    let file = files::load(edited)?;
+    let listing_name = edited.display().to_string();
+    let is_utf8_too = encoding == Encoding::Latin1 && listing::is_utf8(&file);
+    let wrong = |fault: String| {
+        let kind = match is_record(&file) {
+            true => "is a record, not a listing: ",
+            false => "",
+        };
+        let hint = match is_utf8_too {
+            true => "; the file is UTF-8, which --utf8 takes",
+            false => "",
+        };
+        format!("{kind}{fault}{hint}")
+    };
+    let listing = listing::edited(&file, encoding)
+        .map_err(|fault| Trouble::file(format!("{listing_name}: {}", wrong(fault))))?;
+    let record = files::load(from)?;
+    let name = from.display().to_string();
+    step(
+        format_args!("giving {name} the cards of {listing_name}"),
+        record.len() as u64,
+    );
+    let mut new = files::buffer(record.len() as u64, to.display())?;
+    let taken = take_cards(&record, &listing.bytes(), &mut new).map_err(|refusal| match refusal
+        .number
+    {
+        17 => Trouble::refused(
+            &listing_name,
+            wrong(refusals::of_listing(&listing.lines, refusal)),
+        ),
+        _ => Trouble::refused(&name, refusals::of_record(&record, 1, refusal)),
+    })?;
+    target.put(&new[..taken.length])?;
+    if !listing.mended.is_empty() {
+        let _ = writeln!(
+            io::stderr(),
+            "aukpocket: {listing_name}: {}",
+            listing.mended.join("; ")
+        );
+    }
+    if is_utf8_too {
+        warn(
+            &listing_name,
+            "the file is UTF-8, and was taken as ISO 8859-1; --utf8 takes it as it is",
+        );
+    }
+    let card = |i: usize| layout::TAG + cards::COLUMNS * i..layout::TAG + cards::COLUMNS * (i + 1);
+    let differing: Vec<usize> = (0..cards::COUNT)
+        .filter(|&i| record[card(i)] != new[card(i)])
+        .map(|i| i + 1)
+        .collect();
+    tell(&format!(
+        "{name}: {}; {}: the record with the cards of {listing_name}, {} bytes; {}\n",
+        extent(taken.traces, taken.samples),
+        to.display(),
+        taken.length,
+        match differing[..] {
+            [] => "no card differs".to_string(),
+            _ => listing::numbered("card", &differing, ["differs", "differ"]),
+        }
+    ))
 }
 
 fn verify(words: &Words) -> Result<(), Trouble> {

@@ -1,11 +1,13 @@
 //! A refusal in a sentence: the number, what is wrong, the place, and the trace and field that it falls in.
 
+use crate::cards::{COLUMNS, COUNT};
 use crate::fields::header;
 use crate::kinds::{is_record, is_reel};
 use crate::layout::{
     binary_place, number, Shape, BINARY, CARDS, FIRST_PAIR, FIRST_TRACE, HEADERS, SAMPLES, TAG,
 };
-use aukpocket::Refusal;
+use crate::listing::quoted;
+use aukpocket::{Refusal, LISTING_LENGTH};
 
 /// The most traces that a reel or record has.
 const MOST_TRACES: usize = 100_000;
@@ -117,6 +119,25 @@ fn as_record(record: &[u8], code: u32, refusal: Refusal) -> String {
     sentence(refusal, &what)
 }
 
+/// A listing's refusal, by 17. Each of its lines has 80 columns or more.
+pub fn of_listing(lines: &[Vec<u8>], refusal: Refusal) -> String {
+    let beside = match lines.iter().map(|line| line.len() + 1).sum() {
+        LISTING_LENGTH => format!("place {}", refusal.beside),
+        _ => format!("{} characters, not {LISTING_LENGTH}", refusal.beside),
+    };
+    let what = match lines.iter().position(|line| line.len() > COLUMNS) {
+        Some(i) => format!(
+            "a line has {} columns, not {COLUMNS} ({beside}: line {}, column {}, {})",
+            lines[i].len(),
+            i + 1,
+            COLUMNS + 1,
+            quoted(&lines[i][COLUMNS..])
+        ),
+        None => format!("it has {} lines, not {COUNT} ({beside})", lines.len()),
+    };
+    sentence(refusal, &what)
+}
+
 fn sentence(refusal: Refusal, what: &str) -> String {
     format!("refused by {}: {what}", refusal.number)
 }
@@ -179,7 +200,7 @@ fn trace_at(record: &[u8], place: usize) -> (usize, usize) {
 fn record_at(record: &[u8], place: usize) -> String {
     let part = if place < BINARY {
         let from = place.saturating_sub(TAG);
-        format!("card {}, column {}", from / 80 + 1, from % 80 + 1)
+        format!("card {}, column {}", from / COLUMNS + 1, from % COLUMNS + 1)
     } else if place < FIRST_TRACE {
         let byte_number = (place + 3201).saturating_sub(BINARY + TAG);
         format!("binary header, {}", field(0, byte_number))
