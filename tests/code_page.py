@@ -13,44 +13,39 @@ from pathlib import Path
 CRATE = Path(__file__).resolve().parents[1] / "crates" / "code_page"
 CHARACTERS = [ord(bytes([code]).decode("cp037")) for code in range(256)]
 CODES = [chr(character).encode("cp037")[0] for character in range(256)]
-NUMBER = "0x[0-9A-Fa-f]+|[0-9]+"
 
 
-def numbers(name, found, parted_by):
-    """The numbers of the one definition that was found, up to what closes the table."""
+def table(name, found, entry, between):
+    """The numbers of the one definition that was found: each `entry` matches, and nothing but `between` stands beside them."""
     if len(found) != 1:
         sys.exit(f"code_page.py: {name} is defined {len(found)} times")
-    entries = [entry.strip() for entry in found[0].split(parted_by)]
-    if entries[-1] == "":
-        entries.pop()
-    for entry in entries:
-        if not re.fullmatch(NUMBER, entry):
-            sys.exit(f"code_page.py: {name} has an entry {entry!r}")
-    return [int(entry, 16) if entry.startswith("0x") else int(entry) for entry in entries]
+    if re.sub(rf"{entry}|{between}", "", found[0]):
+        sys.exit(f"code_page.py: {name} has something else than entries")
+    return [int(digits, 16) for digits in re.findall(entry, found[0])]
 
 
 def table_of_specs(name):
-    """A definition NAME = 0 ∷ 1 ∷ .. ∷ []"""
+    """A definition NAME = 0x00 ∷ 0x01 ∷ .. ∷ []"""
     text = re.sub(r"--.*", "", (CRATE / "specs" / "Page.antt").read_text(encoding="utf-8"))
-    return numbers(name, re.findall(rf"^{name}\s*=([^=\[]*)\[\]", text, re.M), "∷")
+    return table(name, re.findall(rf"^{name}\s*=([^=\[]*)\[\]", text, re.M), r"0x([0-9A-F]{2})\b", r"[∷\s]")
 
 
 def table_of_code(name):
-    """A constant const NAME: [u8; 256] = [0, 1, ..];"""
+    r"""A constant const NAME: [u8; 256] = *b"\x00\x01..";"""
     text = re.sub(r"//.*", "", (CRATE / "src" / "lib.rt").read_text(encoding="utf-8"))
-    return numbers(name, re.findall(rf"^(?:pub )?const {name}: \[u8; 256\] = \[([^\]]*)\];", text, re.M), ",")
+    return table(name, re.findall(rf'^const {name}: \[u8; 256\] = \*b"([^"]*)";', text, re.M), r"\\x([0-9a-f]{2})", r"\\\n *")
 
 
 def main():
     faults = 0
-    for name, table, page in (
+    for name, entries, page in (
         ("latin", table_of_specs("latin"), CHARACTERS),
         ("LATIN", table_of_code("LATIN"), CHARACTERS),
         ("EBCDIC", table_of_code("EBCDIC"), CODES),
     ):
-        if len(table) != 256:
-            sys.exit(f"code_page.py: {name} has {len(table)} entries")
-        for place, (entry, right) in enumerate(zip(table, page)):
+        if len(entries) != 256:
+            sys.exit(f"code_page.py: {name} has {len(entries)} entries")
+        for place, (entry, right) in enumerate(zip(entries, page)):
             if entry != right:
                 print(f"code_page.py: {name} has {entry:02X} for {place:02X}; in code page 037 it is {right:02X}")
                 faults += 1

@@ -8,13 +8,13 @@ use Rattle.aukpocket.specs.declared.ReelAnswer.{ReelAnswer}
 use Rattle.aukpocket.specs.declared.FieldAnswer.{FieldAnswer}
 use Rattle.aukpocket.specs.declared.SampleAnswer.{SampleAnswer}
 
--- What a call says, handed over in a structure; or lost, where the values returned are not as many as the structure's members. A function
--- hands over a structure, so none of the values can be lost.
+-- What a call says, handed over in a structure; or lost, where it returns not just as many values as the structure takes from that call. A
+-- function hands over a structure, so none of the values can be lost.
 pub data Handed (A : Type 0) : Type 0 where
   handed : A → Handed A
   lost : Handed A
 
--- What a call on a whole reel or record says, in numbers: number 0 and T, N and the length where it is taken; else the number of the
+-- What a call that gives a reel or a record says, in numbers: number 0 and T, N and the length where it is taken; else the number of the
 -- cause and what stands beside it in the table. The other members are 0.
 abbrev pub reelAnswer : Said → Handed ReelAnswer
 reelAnswer (taken []) = lost

@@ -1,12 +1,11 @@
 // The C interface: an exported function for each public call. A slice is a pointer and a length; an answer is a structure of numbers,
 // whose `number` is 0 where the call was taken, else the number of the cause.
 ghost use mathlib.Core.Path.{_≡_};
-ghost use Rattle.numbers.specs.Outcome.{Outcome};
 ghost use Rattle.sample.specs.Calls as single;
 ghost use Rattle.record.specs.Answer.{saidBy};
 ghost use Rattle.read_reel.specs.Reading.{readOutcome};
 ghost use Rattle.write_reel.specs.Writing.{writeOutcome};
-ghost use Rattle.look_up.specs.LookUp.{lookedUp, lookUpOutcome};
+ghost use Rattle.look_up.specs.LookUp.{lookUpOutcome};
 ghost use Rattle.code_page.specs.Page.{latin};
 ghost use Rattle.listing.specs.Calls as calls;
 ghost use Rattle.aukpocket.specs.Interface.{handed, reelAnswer, reelIn, reelHanded, listingAnswer, listingHanded, fieldHanded, sampleAnswer, sampleIn, sampleHanded};
@@ -14,8 +13,8 @@ use listing::Listed;
 use numbers::ByteNo;
 use record::Answer;
 
-// What a call on a whole reel or record answers: T, N and the length of what it wrote; or the number of the cause, and what stands
-// beside it.
+// What a call on a whole reel or record answers: T, N and the length of what it wrote, of which the listing of a record's cards has the
+// length alone; or the number of the cause, and what stands beside it.
 #[repr(C)]
 pub struct ReelAnswer {
     pub number: u64,

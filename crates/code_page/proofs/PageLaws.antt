@@ -1,18 +1,17 @@
 -- Code page 037 takes the 256 codes to the 256 characters one to one, both ways: two tests, each computed once over a whole table, and
 -- carried to each entry. Assumes nothing.
 use mathlib.Core.Path.{_≡_, refl, sym, ap, subst, _∙_}
-use mathlib.Core.Bool.{Bool, true, false, _&&_}
+use mathlib.Core.Bool.{Bool, _&&_}
 use mathlib.Core.List.{List, [], _∷_}
-use Prim.Native.Nat.{ℕ, _+_, _*_, _<_, _≤_}
+use Prim.Native.Nat.{ℕ, _+_, _*_, _<_}
 use native.Mathlib.Omega.{arith}
 use borrow.Author.Tests.{eqb-true, ltb-true, eq-eqb, ne-eqb}
 use lib.Dec.{eqb, ltb}
-use lib.ListN.{length, getD}
-use Rattle.numbers.specs.Walk.{walk, bytesAt}
+use Rattle.numbers.specs.Walk.{bytesAt}
 use Rattle.numbers.proofs.BoolLaws.{and-true}
 use Rattle.numbers.proofs.WalkLaws.{walk-same, bytes-part}
 use Rattle.numbers.proofs.FirstLaws.{first-at}
-use Rattle.numbers.proofs.TableLaws.{tested, at-entry}
+use Rattle.numbers.proofs.TableLaws.{at-entry}
 use Rattle.code_page.specs.Page.{charOf, codeIn, inverse, latin, OneToOne}
 
 -- The code of each character, as the constant of the code has it.

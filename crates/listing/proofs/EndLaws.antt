@@ -2,7 +2,7 @@
 use mathlib.Core.Path.{_≡_, sym, ap, ap₂, _∙_}
 use mathlib.Core.List.{List, [], _∷_, _++_}
 use mathlib.Core.Bool.{not}
-use Prim.Native.Nat.{ℕ, _+_, _*_, _≤_, _<_}
+use Prim.Native.Nat.{ℕ, _+_, _≤_, _<_}
 use native.Mathlib.Omega.{arith}
 use borrow.Author.Tests.{lt-ltb, le-ltb, eqb-true, not-false}
 use lib.Dec.{eqb}
@@ -14,14 +14,14 @@ use Rattle.numbers.specs.declared.Place.{Place}
 use Rattle.numbers.specs.declared.Check.the-variants as check
 use Rattle.numbers.proofs.CauseLaws.{passed, then-fine}
 use Rattle.reel.specs.Layout.{cardBytes}
-use Rattle.record.specs.Form.{fieldHead, binaryPlace, heldSamples, heldCount, heldStride, formCauses}
+use Rattle.record.specs.Form.{fieldHead, binaryPlace, formCauses}
 use Rattle.record.specs.Held.{heldBy}
 use Rattle.record.specs.Answer.{outcome}
 use Rattle.record.specs.declared.Answer.the-variants as answer
 use Rattle.record.proofs.FormLaws.{held-length}
 use Rattle.record.proofs.JudgedLaws.{Own}
 use Rattle.listing.specs.Listing.{listingLength, listingOf, withText, listingCauses}
-use Rattle.listing.specs.Calls.{listed, listEnd, listOutcome, takeEnd, takeCauses}
+use Rattle.listing.specs.Calls.{listed, listOutcome, takeEnd, takeCauses}
 use Rattle.listing.specs.Parts.{textBy, takeBy}
 use Rattle.listing.specs.declared.Listed.the-variants.{Taken, Refused}
 

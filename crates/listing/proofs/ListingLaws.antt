@@ -1,7 +1,6 @@
 -- The lengths of a listing and of its text, and the table of card bytes that the way back uses. Assumes nothing.
 use mathlib.Core.Path.{_≡_, refl, sym, ap, ap₂, _∙_}
 use mathlib.Core.List.{List, [], _∷_, _++_, map}
-use mathlib.Core.Bool.{Bool, true, false}
 use Prim.Native.Nat.{ℕ, zero, suc, _+_, _-_, _*_, _≤_, _<_}
 use native.Mathlib.Nat.{not-suc-le-zero}
 use native.Mathlib.Omega.{arith}
@@ -13,7 +12,7 @@ use Rattle.numbers.specs.Walk.{walk, flat, bytesAt, overwritten}
 use Rattle.numbers.specs.First.{first}
 use Rattle.numbers.specs.Terms.{All, Bytes}
 use Rattle.numbers.proofs.WalkLaws.{cons-eq, walk-same, walk-at, map-walk, size-walk, flat-length, size-bytes, bytes-part}
-use Rattle.numbers.proofs.AllLaws.{map-same, all-with}
+use Rattle.numbers.proofs.AllLaws.{map-same}
 use Rattle.numbers.proofs.ByteLaws.{bytes-at}
 use Rattle.numbers.proofs.FirstLaws.{found}
 use Rattle.numbers.proofs.Filling.{Filling, start}
@@ -21,27 +20,35 @@ use Rattle.reel.specs.Layout.{cardBytes}
 use Rattle.reel.specs.Meaning.{blank}
 use Rattle.record.specs.Form.{fieldHead, binaryPlace}
 use Rattle.code_page.specs.Page.{charOf, codeIn, inverse}
-use Rattle.listing.specs.Listing.{cardCount, cardLength, lineLength, listingLength, lineFeed, cardStarts, lineStarts, lineOf, listingOf, cardByte, cardOf, textOf, withText}
-use Rattle.listing.specs.Parts.{cardBytesOf, cardBy, textBy}
+use Rattle.listing.specs.Listing.{cardCount, cardLength, lineLength, listingLength, cardStarts, lineStarts, cardLine, listingOf, cardByte, cardOf, textOf, withText}
+use Rattle.listing.specs.Parts.{entryOf, cardBy, textBy}
 
 -- ## Lengths
 
 -- A line has 81 bytes, and a listing 3,240.
-pub size-line : (t text : List ℕ) (p : ℕ) → length (lineOf t text p) ≡ lineLength
-unfolding lineOf
+pub size-line : (t text : List ℕ) (p : ℕ) → length (cardLine t text p) ≡ lineLength
+unfolding cardLine
 size-line t text p = simp (length-append, length-map, size-bytes text p cardLength) (omega arith)
 
 pub size-listing : (t text : List ℕ) → length (listingOf t text) ≡ listingLength
 unfolding listingOf
-size-listing t text = flat-length (lineOf t text) (λ p. p) lineLength (size-line t text) cardLength cardCount 0
+size-listing t text = flat-length (cardLine t text) (λ p. p) lineLength (size-line t text) cardLength cardCount 0
 
--- A card has 80 bytes, and a text 3,200.
-pub size-card : (b listing : List ℕ) (p : ℕ) → length (cardBy b listing p) ≡ cardLength
-size-card b listing p = length-map (bytesAt listing p cardLength) (charOf b) ∙ size-bytes listing p cardLength
+-- What a function gives of each of a line's 80 characters is 80 bytes, and of each line of a listing 3,200.
+pub size-card : (f : ℕ → ℕ) (listing : List ℕ) (p : ℕ) → length (map f (bytesAt listing p cardLength)) ≡ cardLength
+size-card f listing p = length-map (bytesAt listing p cardLength) f ∙ size-bytes listing p cardLength
 
-pub size-text : (b listing : List ℕ) → length (textBy b listing) ≡ cardBytes
+pub size-cards : (f : ℕ → ℕ) (listing : List ℕ) → length (flat (map (λ p. map f (bytesAt listing p cardLength)) lineStarts)) ≡ cardBytes
+size-cards f listing = flat-length (λ p. map f (bytesAt listing p cardLength)) (λ p. p) cardLength (size-card f listing) lineLength cardCount 0
+
+-- So a text has 3,200 bytes, by either kind of table.
+pub size-by : (bytes listing : List ℕ) → length (textBy bytes listing) ≡ cardBytes
 unfolding textBy
-size-text b listing = flat-length (cardBy b listing) (λ p. p) cardLength (size-card b listing) lineLength cardCount 0
+size-by bytes listing = size-cards (entryOf bytes) listing
+
+pub size-text : (t listing : List ℕ) → length (textOf t listing) ≡ cardBytes
+unfolding textOf cardOf
+size-text t listing = size-cards (cardByte t) listing
 
 -- A record with another text, part by part: tag 01 and its length, the text, and all that stands behind it.
 pub text-parts : (r text : List ℕ) → binaryPlace ≤ length r → length text ≡ cardBytes
@@ -56,13 +63,13 @@ text-parts r text h n =
     ap₂ (λ (x y : List ℕ). x ++ (text ++ y)) front (ap (λ (p : ℕ). drop p r) at ∙ behind)
 
 -- Nothing of a listing is written, or nothing of a text: all its parts are left.
-pub listing-begun : (t text out : List ℕ) → length out ≡ listingLength → Filling (listingOf t text) out 0 (flat (map (lineOf t text) cardStarts))
+pub listing-begun : (t text out : List ℕ) → length out ≡ listingLength → Filling (listingOf t text) out 0 (flat (map (cardLine t text) cardStarts))
 unfolding listingOf
 listing-begun t text out h = start (listingOf t text) out (h ∙ sym (size-listing t text))
 
-pub text-begun : (b listing out : List ℕ) → length out ≡ cardBytes → Filling (textBy b listing) out 0 (flat (map (cardBy b listing) lineStarts))
+pub text-begun : (bytes listing out : List ℕ) → length out ≡ cardBytes → Filling (textBy bytes listing) out 0 (flat (map (cardBy bytes listing) lineStarts))
 unfolding textBy
-text-begun b listing out h = start (textBy b listing) out (h ∙ sym (size-text b listing))
+text-begun bytes listing out h = start (textBy bytes listing) out (h ∙ sym (size-by bytes listing))
 
 -- ## The table of card bytes
 
@@ -87,28 +94,32 @@ code-zero : (t : List ℕ) (c : ℕ) → charOf t 0 ≡ c → codeIn t c ≡ 0
 unfolding first
 code-zero t c e = rw (eq-eqb (charOf t 0) c e)
 
-code-other : (t : List ℕ) (c : ℕ) → ¬ (c ≡ charOf t 0) → 0 < codeIn t c
+code-other : (t : List ℕ) (c : ℕ) → ¬ (c ≡ charOf t 0) → ¬ (codeIn t c ≡ 0)
 unfolding first
-code-other t c n = rw (ne-eqb (charOf t 0) c (λ e. n (sym e))) (omega (arith, found (λ b. eqb (charOf t b) c) 255 1 .from))
-
--- A card byte other than 00 is taken as it is.
-kept : (b : ℕ) → 0 < b → b ≡ blank b
-kept b h = rw (ne-eqb b 0 (λ e. some e))
+code-other t c n = rw (ne-eqb (charOf t 0) c (λ e. n (sym e))) (λ e. later (found (λ b. eqb (charOf t b) c) 255 1 .from) e)
   where
-    some : b ≡ 0 → ⊥
-    some e = omega arith
+    later : {x : ℕ} → 1 ≤ x → x ≡ 0 → ⊥
+    later l e = omega arith
 
--- The inverse of a table, with 40 for the character of the code 00, is the table of card bytes.
+-- A code other than 00 is the card byte as it is.
+pub kept : (b : ℕ) → ¬ (b ≡ 0) → blank b ≡ b
+kept b n = rw (ne-eqb b 0 n)
+
+-- The table of the card byte of each character: the inverse, 40 for the code 00.
+unfoldable pub cardBytesOf : List ℕ → List ℕ
+cardBytesOf t = map blank (inverse t)
+
+-- It is the inverse with 40 stored at the character of the code 00.
 pub blanked : (t : List ℕ) → charOf t 0 < 256 → set (inverse t) (charOf t 0) 0x40 ≡ cardBytesOf t
 unfolding inverse cardBytesOf
 blanked t h =
     let z : 0 + charOf t 0 ≡ charOf t 0 = omega arith in
     set-walk (codeIn t) (cardByte t) 0x40 256 0 (charOf t 0) h (ap (cardByte t) z ∙ ap blank (code-zero t (charOf t 0) refl))
-    (λ c n. kept (codeIn t c) (code-other t c (λ q. n (q ∙ sym z))))
+    (λ c n. sym (kept (codeIn t c) (code-other t c (λ q. n (q ∙ sym z)))))
     ∙ sym (map-walk blank (codeIn t) 1 256 0)
 
 -- Its entry for a character is that character's card byte.
-entry-is : (t : List ℕ) (c : ℕ) → c < 256 → charOf (cardBytesOf t) c ≡ cardByte t c
+entry-is : (t : List ℕ) (c : ℕ) → c < 256 → entryOf (cardBytesOf t) c ≡ cardByte t c
 unfolding inverse cardBytesOf
 entry-is t c h =
     let z : 0 + c * 1 ≡ c = omega arith in
@@ -128,8 +139,8 @@ text-by t listing b =
     ∙ sym (map-walk (cardOf t listing) (λ p. p) lineLength cardCount 0))
   where
     same : (p : ℕ) → cardBy (cardBytesOf t) listing p ≡ cardOf t listing p
-    same p = map-same (charOf (cardBytesOf t)) (cardByte t) (bytesAt listing p cardLength) (each (bytesAt listing p cardLength) (bytes-at listing b p cardLength))
+    same p = map-same (entryOf (cardBytesOf t)) (cardByte t) (bytesAt listing p cardLength) (each (bytesAt listing p cardLength) (bytes-at listing b p cardLength))
       where
-        each : (l : List ℕ) → Bytes l → All (λ c. charOf (cardBytesOf t) c ≡ cardByte t c) l
+        each : (l : List ℕ) → Bytes l → All (λ c. entryOf (cardBytesOf t) c ≡ cardByte t c) l
         each [] h = tt
         each (c ∷ l) h = (entry-is t c (h .0), each l (h .1))

@@ -16,7 +16,7 @@ use Rattle.listing.specs.declared.Listed.the-variants.{Taken, Refused}
 
 -- ## Listing
 
--- Document 01's number and values for each case of the answer: taken with the listing's length; refused with the number and what stands
+-- The papers' number and values for each case of the answer: taken with the listing's length; refused with the number and what stands
 -- beside it.
 abbrev pub saidBy : Listed → Said
 saidBy (Taken l) = taken (l ∷ [])

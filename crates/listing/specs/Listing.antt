@@ -43,12 +43,12 @@ lineStarts = walk (λ p. p) lineLength cardCount 0
 -- ## The listing
 
 -- The line of the card that begins at p in a text: its 80 characters by the table t, closed by a line feed.
-unfoldable pub lineOf : List ℕ → List ℕ → ℕ → List ℕ
-lineOf t text p = map (charOf t) (bytesAt text p cardLength) ++ lineFeed ∷ []
+unfoldable pub cardLine : List ℕ → List ℕ → ℕ → List ℕ
+cardLine t text p = map (charOf t) (bytesAt text p cardLength) ++ lineFeed ∷ []
 
 -- The listing of a text by the table t: the lines of its 40 cards.
 unfoldable pub listingOf : List ℕ → List ℕ → List ℕ
-listingOf t text = flat (map (lineOf t text) cardStarts)
+listingOf t text = flat (map (cardLine t text) cardStarts)
 
 -- ## The way back
 

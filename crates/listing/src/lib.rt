@@ -1,5 +1,5 @@
 // The listing of a record's cards, and the way back. The functions inside are lent the table that they use: of the character of each
-// code, or of the card byte of each character. Each function that writes is lent exactly the bytes that it writes.
+// code, or of the card byte of each character. Each that puts something is lent exactly the bytes that it writes.
 ghost use mathlib.Core.Path.{_≡_};
 ghost use mathlib.Core.List.{_++_, _∷_, [], map};
 ghost use Prim.Native.Nat.{_≤_};
@@ -12,7 +12,7 @@ ghost use Rattle.reel.specs.Layout.{cardBytes};
 ghost use Rattle.code_page.specs.Page.{charOf, latin};
 ghost use Rattle.listing.specs.Listing.{cardCount, cardLength, lineLength, listingLength, lineFeed, listingOf, withText, lineCause, listingCauses};
 ghost use Rattle.listing.specs.Calls.{listed, listOutcome, takeOutcome};
-ghost use Rattle.listing.specs.Parts.{textBy, takeBy};
+ghost use Rattle.listing.specs.Parts.{entryOf, textBy, takeBy};
 use numbers::Check;
 use numbers::Place;
 use record::Answer;
@@ -27,7 +27,7 @@ pub enum Listed {
 // The entry of a table for a byte.
 fn entry_of(table: &[u8], b: u8) -> u8
     requires { ⌜ length (now table) ≡ 256 ⌝ }
-    ensures { λ r. ⌜ r ≡ charOf (now (table .entry)) b ⌝ }
+    ensures { λ r. ⌜ r ≡ entryOf (now (table .entry)) b ⌝ }
 {
     table[b as usize]
 }
@@ -35,7 +35,7 @@ fn entry_of(table: &[u8], b: u8) -> u8
 // The entries of a table for the bytes of a slice.
 fn put_entries(table: &[u8], src: &[u8], out: &mut [u8])
     requires { ⌜ (length (now table) ≡ 256) × (length (now out) ≡ length (now src)) ⌝ }
-    ensures { λ _. ⌜ now (out .exit) ≡ map (charOf (now (table .entry))) (now (src .entry)) ⌝ }
+    ensures { λ _. ⌜ now (out .exit) ≡ map (entryOf (now (table .entry))) (now (src .entry)) ⌝ }
 {
     let mut i = 0;
     while i < src.len() {

@@ -1,8 +1,9 @@
 -- Refusals of both calls on listings are exact: the causes looked for are the rows of `specs/ListingTable`. Assumes nothing.
-use mathlib.Core.Path.{_≡_}
+use mathlib.Core.Path.{_≡_, subst}
 use mathlib.Core.List.{List}
 use mathlib.Core.Bool.{not}
 use Prim.Native.Nat.{ℕ, _+_, _*_, _≤_, _<_}
+use native.Mathlib.Omega.{arith}
 use lib.Dec.{eqb, ltb}
 use lib.ListN.{length, getD}
 use Rattle.numbers.specs.Cause.{refuseIf}
@@ -14,7 +15,7 @@ use Rattle.record.specs.Form.{formCauses}
 use Rattle.demands.proofs.FormRefusals.{exact-form, no-form-cause}
 use Rattle.listing.specs.Listing.{cardCount, cardLength, lineLength, listingLength, lineFeed, lineCause, listingCauses}
 use Rattle.listing.specs.Calls.{listCauses, takeCauses}
-use Rattle.listing_theorems.specs.ListingTable.{Closed, ListingRight, ListRow, TakeRow}
+use Rattle.listing_theorems.specs.ListingTable.{linePlace, Closed, ListingRight, ListRow, TakeRow}
 
 -- ## The form of a listing
 
@@ -23,15 +24,18 @@ module _ (listing : List ℕ) where
   size-test : Tests (length listing ≡ 3240) 17 (length listing) (refuseIf (not (eqb (length listing) listingLength)) 17 (length listing))
   size-test = test-same (length listing) listingLength 17 (length listing)
 
-  line-tests : (j : ℕ) → j < 40 → Tests (Closed listing j) 17 (80 + j * 81) (lineCause listing (cardLength + j * lineLength))
-  line-tests j l = test-same (getD listing (80 + j * 81) 0) lineFeed 17 (80 + j * 81)
+  line-tests : (j : ℕ) → j < 40 → Tests (Closed listing j) 17 (linePlace j 80) (lineCause listing (cardLength + j * lineLength))
+  line-tests j l =
+      let e : linePlace j 80 ≡ cardLength + j * lineLength = omega arith in
+      subst (λ (p : ℕ). Tests (Closed listing j) 17 (linePlace j 80) (refuseIf (not (eqb (getD listing p 0) lineFeed)) 17 p)) e
+      (test-same (getD listing (linePlace j 80) 0) lineFeed 17 (linePlace j 80))
 
   -- 17 applies to no listing of the right form, and to every other.
   pub right-fine : ListingRight listing → listingCauses listing ≡ Fine
   unfolding listingCauses
   right-fine h =
       fine-then size-test (h .size)
-      (walk-fine (Closed listing) 17 (lineCause listing) lineLength cardCount cardLength (λ j. 80 + j * 81) line-tests (h .closed))
+      (walk-fine (Closed listing) 17 (lineCause listing) lineLength cardCount cardLength (λ j. linePlace j 80) line-tests (h .closed))
 
   pub fine-right : listingCauses listing ≡ Fine → ListingRight listing
   unfolding listingCauses
@@ -39,7 +43,7 @@ module _ (listing : List ℕ) where
       let h = holds-then size-test _ e in
       record {
         size = h .0;
-        closed = walk-holds (Closed listing) 17 (lineCause listing) lineLength cardCount cardLength (λ j. 80 + j * 81) line-tests (h .1);
+        closed = walk-holds (Closed listing) 17 (lineCause listing) lineLength cardCount cardLength (λ j. linePlace j 80) line-tests (h .1);
       }
 
 -- ## Listing
@@ -77,7 +81,7 @@ take-exact r listing room number place = (there, back)
         (λ e. let v = no-form-cause r .0 e in
         then-row row (listingCauses listing) _
         (row-then (size-test listing) row (TakeRow.other-length v)
-        (λ n. walk-row (Closed listing) 17 (lineCause listing) lineLength cardCount cardLength (λ j. 80 + j * 81) (line-tests listing) row
+        (λ n. walk-row (Closed listing) 17 (lineCause listing) lineLength cardCount cardLength (λ j. linePlace j 80) (line-tests listing) row
         (λ j l b h. TakeRow.open-line j v n l b h)))
         (λ q. row-where room-test row (λ m. TakeRow.short-output v (fine-right listing q) (not-enough room (length r) m))))
 
@@ -88,6 +92,6 @@ take-exact r listing room number place = (there, back)
         then-second _ _ (no-form-cause r .1 v)
         (then-first (listingCauses listing) _
         (fine-then (size-test listing) n
-        (walk-refused (Closed listing) 17 (lineCause listing) lineLength cardCount cardLength (λ j. 80 + j * 81) (line-tests listing) j l b h)))
+        (walk-refused (Closed listing) 17 (lineCause listing) lineLength cardCount cardLength (λ j. linePlace j 80) (line-tests listing) j l b h)))
     back (TakeRow.short-output v h l) =
         then-second _ _ (no-form-cause r .1 v) (then-second _ _ (right-fine listing h) (refused-where room-test (too-short room (length r) l)))

@@ -14,10 +14,9 @@ use Rattle.numbers.proofs.Filling.{over-part}
 use Rattle.reel.specs.Layout.{cardBytes}
 use Rattle.reel.specs.Meaning.{Meaning}
 use Rattle.record.specs.Record.{field, binaryBytes, traceBytes, recordOf}
-use Rattle.record.specs.Form.{fieldHead, heldInterval, heldSamples, heldCount, formCauses}
+use Rattle.record.specs.Form.{heldInterval, heldSamples, heldCount, formCauses}
 use Rattle.record.specs.Held.{heldBy}
 use Rattle.listing.specs.Listing.{withText}
-use Rattle.listing.proofs.EndLaws.{long}
 use Rattle.demands.proofs.Determined.{held-record}
 use Rattle.demands.proofs.From.{From, from-start, from-next, from-bytes}
 use Rattle.demands.proofs.Proper.{Proper}

@@ -1,28 +1,25 @@
 -- A listing and its text, byte by byte, and the way there and back. Assumes nothing.
-use mathlib.Core.Path.{_≡_, refl, sym, ap, ap₂, subst, _∙_}
+use mathlib.Core.Path.{_≡_, refl, sym, ap, subst, _∙_}
 use mathlib.Core.List.{List, [], _∷_, _++_, map, append-nil}
-use mathlib.Core.Bool.{Bool, true, false}
-use Prim.Native.Nat.{ℕ, zero, suc, _+_, _*_, _≤_, _<_}
+use Prim.Native.Nat.{ℕ, zero, suc, _+_, _*_, _<_}
 use native.Mathlib.Nat.{not-suc-le-zero}
 use native.Mathlib.Omega.{arith}
 use borrow.Author.Tests.{ne-eqb}
-use lib.Dec.{eqb}
 use lib.ListN.{length, getD, drop, length-map}
 use lib.Seq.{take-all}
-use Rattle.numbers.specs.Walk.{pick, walk, flat, bytesAt}
+use Rattle.numbers.specs.Walk.{walk, flat, bytesAt}
 use Rattle.numbers.specs.Terms.{All, Bytes}
 use Rattle.numbers.specs.declared.Check.the-variants.{Fine}
-use Rattle.numbers.proofs.WalkLaws.{cons-eq, at-zero, at-suc, walk-same, walk-at, map-walk, all-take, all-drop, all-at, flat-length, split, size-bytes, bytes-part}
+use Rattle.numbers.proofs.WalkLaws.{cons-eq, at-zero, at-suc, walk-same, walk-at, map-walk, all-take, all-drop, all-at, split, size-bytes, bytes-part}
 use Rattle.numbers.proofs.ByteLaws.{bytes-append, bytes-at}
 use Rattle.numbers.proofs.AllLaws.{all-map, all-flat}
 use Rattle.reel.specs.Layout.{cardBytes}
 use Rattle.reel.specs.Meaning.{blank}
 use Rattle.code_page.specs.Page.{charOf, codeIn, OneToOne}
-use Rattle.listing.specs.Listing.{cardCount, cardLength, lineLength, listingLength, lineFeed, cardStarts, lineStarts, lineOf, listingOf, cardByte, cardOf, textOf, listingCauses}
-use Rattle.listing.proofs.ListingLaws.{size-line, size-listing}
+use Rattle.listing.specs.Listing.{cardCount, cardLength, lineLength, lineFeed, lineStarts, cardLine, listingOf, cardByte, cardOf, textOf, listingCauses}
+use Rattle.listing.proofs.ListingLaws.{size-line, size-listing, size-card, kept}
 use Rattle.demands.proofs.From.{From, from-start, from-parts, from-next, from-bytes}
 use Rattle.demands.proofs.Again.{walk-again}
-use Rattle.listing_theorems.specs.ListingTable.{ListingRight}
 use Rattle.listing_theorems.proofs.Refusals.{right-fine}
 
 -- ## Parts of one length, one behind the other
@@ -65,14 +62,14 @@ mapped-of f s p k i l =
 
 module _ (t text : List ℕ) where
   -- Line j of a listing.
-  line-at : (j : ℕ) → j < 40 → bytesAt (listingOf t text) (j * 81) 81 ≡ lineOf t text (j * 80)
+  line-at : (j : ℕ) → j < 40 → bytesAt (listingOf t text) (j * 81) 81 ≡ cardLine t text (j * 80)
   unfolding listingOf
-  line-at j l = part-at (lineOf t text) cardLength lineLength cardCount (size-line t text) j l
+  line-at j l = part-at (cardLine t text) cardLength lineLength cardCount (size-line t text) j l
 
   -- Its 80 characters, and the line feed behind them.
   line-parts : (j : ℕ) → j < 40
       → (bytesAt (listingOf t text) (j * 81) 80 ≡ map (charOf t) (bytesAt text (j * 80) 80)) × (bytesAt (listingOf t text) (j * 81 + 80) 1 ≡ lineFeed ∷ [])
-  unfolding lineOf
+  unfolding cardLine
   line-parts j l =
       let whole = listingOf t text in
       let chars = map (charOf t) (bytesAt text (j * 80) 80) in
@@ -95,31 +92,19 @@ module _ (t text : List ℕ) where
       right-fine (listingOf t text)
       (record {
         size = size-listing t text;
-        closed = λ j l. let e : 80 + j * 81 ≡ j * 81 + 80 = omega arith in ap (λ (p : ℕ). getD (listingOf t text) p 0) e ∙ feed-at j l;
+        closed = feed-at;
       })
 
 -- ## The text of a listing, card by card
 
 module _ (t listing : List ℕ) where
-  size-card : (p : ℕ) → length (cardOf t listing p) ≡ cardLength
-  unfolding cardOf
-  size-card p = length-map (bytesAt listing p cardLength) (cardByte t) ∙ size-bytes listing p cardLength
-
-  pub size-text : length (textOf t listing) ≡ cardBytes
-  unfolding textOf
-  size-text = flat-length (cardOf t listing) (λ p. p) cardLength size-card lineLength cardCount 0
-
   -- Byte i of card j.
   pub byte-at : (j i : ℕ) → j < 40 → i < 80 → getD (textOf t listing) (j * 80 + i) 0 ≡ cardByte t (getD listing (j * 81 + i) 0)
   unfolding textOf cardOf
   byte-at j i l m =
       sym (byte-of (textOf t listing) (j * 80) 80 i m)
-      ∙ ap (λ (x : List ℕ). getD x i 0) (part-at (cardOf t listing) lineLength cardLength cardCount size-card j l)
+      ∙ ap (λ (x : List ℕ). getD x i 0) (part-at (cardOf t listing) lineLength cardLength cardCount (size-card (cardByte t) listing) j l)
       ∙ mapped-of (cardByte t) listing (j * 81) 80 i m
-
--- A code other than 00 is the card byte as it is.
-pub kept : (b : ℕ) → ¬ (b ≡ 0) → blank b ≡ b
-kept b n = rw (ne-eqb b 0 n)
 
 -- A card byte taken back is neither 00 nor above FF.
 pub blank-some : (b : ℕ) → b < 256 → (0 < blank b) × (blank b < 256)

@@ -6,69 +6,73 @@
 -- and all else as it was. A call that gives a record returns T, N and its length; the one that gives the listing returns 3,240. Listing the
 -- text of a valid record and taking it back gives that text."
 --
--- The theorems are over a table t, which is `latin`, code page 037, in the contracts of both calls; where t has to take the 256 codes to
--- the 256 characters one to one, they ask for `OneToOne t`, and `page-one-to-one` gives it for code page 037.
+-- The theorems are over the outcomes that the contracts of the calls give: of `listing::list_cards` by `listOutcome latin`, of
+-- `listing::take_cards` by `takeOutcome latin`. They speak of any table t. Where t has to take the 256 codes to the 256 characters one to
+-- one, they ask for `OneToOne t`, which `page-one-to-one` gives for `latin`; `page-listed-back` is `listed-back` for it. That `latin` is code
+-- page 037 as published is tested against another implementation of the page, not proved.
 --
 -- - `page-one-to-one`: each character appears in code page 037 just once.
--- - `listing`: where listing is taken, the output's first 3,240 bytes are the 40 lines, character by character.
--- - `taking`: where taking back is taken, it returns T, N and the length of a valid record, which has the listing's text, the character of the
+-- - `lines-listed`: where listing is taken, the output's first 3,240 bytes are the 40 lines, character by character.
+-- - `record-taken`: where taking back is taken, it returns T, N and the length of a valid record, which has the listing's text, the character of the
 --   code 00 as a blank, and all else byte for byte as it was.
 -- - `listed-text`: the text of a valid record, listed and taken back into any valid record, is that text.
 -- - `listed-back`: into the record itself, it gives that record, byte for byte.
 -- - `list-ends`, `list-refused`, `list-taken`, `list-keeps`, `list-rest`, and the same of taking back: demand 1 for both calls.
 --
--- Each byte of a record and of a listing is below 256; nothing else is assumed. Every record, listing and output is meant.
+-- Each byte of a record and of a listing is below 256; beside that and `OneToOne t` nothing is assumed but what a theorem says. Every record,
+-- listing and output is meant.
 use mathlib.Core.Path.{_≡_, refl, sym, ap, ap₂, subst, _∙_}
 use mathlib.Core.List.{List, [], _∷_, _++_}
-use mathlib.Core.Logic.{_⊎_, inl, inr}
+use mathlib.Core.Logic.{_⊎_}
 use mathlib.Core.Bool.{Bool, true, false}
 use Prim.Native.Nat.{ℕ, _+_, _*_, _≤_, _<_}
 use native.Mathlib.Omega.{arith}
-use borrow.Author.Tests.{le-ltb, eq-eqb, ne-eqb, eqb-true, eqb-false}
+use borrow.Author.Tests.{le-ltb, eqb-true, eqb-false}
 use lib.Dec.{eqb}
 use lib.ListN.{length, getD, take, drop}
-use lib.Seq.{take-at, drop-at}
+use lib.Seq.{take-at}
 use Rattle.numbers.specs.Walk.{pick, bytesAt}
-use Rattle.numbers.specs.Outcome.{Said, taken, refused, Outcome}
+use Rattle.numbers.specs.Outcome.{Said, taken, refused}
 use Rattle.numbers.specs.Iff.{Iff}
-use Rattle.numbers.specs.Terms.{All, Bytes}
+use Rattle.numbers.specs.Terms.{Bytes}
 use Rattle.numbers.specs.declared.Check.{Check}
-use Rattle.numbers.specs.declared.Check.the-variants.{Fine, Refused}
+use Rattle.numbers.specs.declared.Check.the-variants.{Fine}
 use Rattle.numbers.proofs.CauseLaws.{then-fine, at-most}
 use Rattle.numbers.proofs.ByteLaws.{byte-at as below}
 use Rattle.numbers.proofs.Filling.{size-over}
 use Rattle.numbers.proofs.SaidLaws.{says-refused, says-fine, says-either, refused-by, taken-by, keeps-rest}
 use Rattle.reel.specs.Layout.{cardBytes}
 use Rattle.reel.specs.Meaning.{blank, Meaning}
-use Rattle.record.specs.Form.{heldSamples, heldCount, formCauses}
+use Rattle.record.specs.Form.{formCauses}
 use Rattle.record.specs.Held.{heldBy}
 use Rattle.code_page.specs.Page.{charOf, codeIn, latin, OneToOne}
 use Rattle.code_page.proofs.PageLaws.{latin-one-to-one}
 use Rattle.listing.specs.Listing.{listingLength, listingOf, cardByte, textOf, withText, listingCauses}
 use Rattle.listing.specs.Calls.{listCauses, listEnd, listOutcome, takeCauses, takenNumbers, takeEnd, takeOutcome}
-use Rattle.listing.proofs.ListingLaws.{size-listing}
+use Rattle.listing.proofs.ListingLaws.{size-listing, size-text, kept}
 use Rattle.listing.proofs.EndLaws.{long}
 use Rattle.demands.proofs.From.{from-start, from-bytes}
 use Rattle.demands.proofs.ProperLaws.{held-proper}
-use Rattle.listing_theorems.specs.ListingTable.{ListRow, TakeRow}
-use Rattle.listing_theorems.specs.Results.{cardPlace, linePlace, ListingOf, comesBack, WithListing, RecordTaken}
+use Rattle.listing_theorems.specs.ListingTable.{linePlace, ListRow, TakeRow}
+use Rattle.listing_theorems.specs.Results.{cardPlace, CardsListed, comesBack, WithListing, RecordTaken}
 use Rattle.listing_theorems.proofs.Refusals.{list-exact, take-exact}
-use Rattle.listing_theorems.proofs.Text.{byte-of, char-at, feed-at, listing-fine, size-text, byte-at, kept, text-some, text-back}
+use Rattle.listing_theorems.proofs.Text.{byte-of, char-at, feed-at, listing-fine, byte-at, text-some, text-back}
 use Rattle.listing_theorems.proofs.Replaced.{text-bytes, front-bytes, behind-byte, same-text, text-valid, text-is-bytes, text-held, text-samples, text-traces}
 
 -- ## Code page 037
 
 -- THEOREM. "each character of the target appears in it just once": code page 037 takes the 256 codes to the 256 characters one to one, both
 -- ways.
--- Rules out a table with two entries alike, and a way back by another table than the inverse.
+-- Rules out a table with two entries alike.
 pub page-one-to-one : OneToOne latin
 page-one-to-one = latin-one-to-one
 
--- THEOREM. Of the two published forms it is Unicode's: 15 is the character 85, and 25 the line feed 0A. 40 is the blank.
--- Rules out the other published form, which has 15 and 25 the other way round.
-pub page-line-ends : (charOf latin 0x15 ≡ 0x85) × (charOf latin 0x25 ≡ 0x0A) × (charOf latin 0x40 ≡ 0x20)
+-- THEOREM. Of the published forms it is Unicode's: 15 is the character 85, and 25 the line feed 0A. The character of the code 00 is 00, and 40
+-- is the blank.
+-- Rules out the form that has 15 and 25 the other way round.
+pub page-marks : (charOf latin 0x15 ≡ 0x85) × (charOf latin 0x25 ≡ 0x0A) × (charOf latin 0x00 ≡ 0x00) × (charOf latin 0x40 ≡ 0x20)
 unfolding latin
-page-line-ends = (refl, refl, refl)
+page-marks = (refl, refl, refl, refl)
 
 -- ## Demand 1 for listing
 
@@ -80,7 +84,8 @@ module _ (t r out : List ℕ) where
   abbrev listChecks : Check
   listChecks = listCauses r (length out)
 
-  -- THEOREM. "Every call comes to a defined end on every input": listing is taken with 3,240, or refused by a number with a place.
+  -- THEOREM. "Every call comes to a defined end on every input: no access outside the lent buffers and no number that loses bits": listing
+  -- is taken with 3,240, or refused by a number with a place. The rest of the clause Rattle proves of each function.
   -- Alone it rules out nothing.
   pub list-ends : (listOutcome t r out .said ≡ taken (3240 ∷ [])) ⊎ ((number : ℕ) × (place : ℕ) × (listOutcome t r out .said ≡ refused number place))
   list-ends = says-either listSays (3240 ∷ []) refl (λ n p. refl) listChecks
@@ -124,14 +129,16 @@ module _ (t r listing out : List ℕ) where
   abbrev takeChecks : Check
   takeChecks = takeCauses r listing (length out)
 
-  -- THEOREM. "Every call comes to a defined end on every input": taking back is taken with T, N and the record's length, or refused by a
-  -- number with a place.
+  -- THEOREM. "Every call comes to a defined end on every input: no access outside the lent buffers and no number that loses bits": taking
+  -- back is taken with T, N and the record's length, or refused by a number with a place. The rest of the clause Rattle proves of each
+  -- function.
   -- Alone it rules out nothing.
   pub take-ends : (takeOutcome t r listing out .said ≡ taken (takenNumbers r))
       ⊎ ((number : ℕ) × (place : ℕ) × (takeOutcome t r listing out .said ≡ refused number place))
   take-ends = says-either takeSays (takenNumbers r) refl (λ n p. refl) takeChecks
 
-  -- THEOREM. "each refusal has the number and place that document 01 sets, and is given in just the cases set there".
+  -- THEOREM. "each refusal has the number and place that document 01 sets, and is given in just the cases set there"; 17 and its places
+  -- document 02 sets.
   -- Rules out a call that declines every listing, one that takes lines which are not closed, 17 before 12 or 13 or after 10, and 17 by place
   -- before 17 by length.
   pub take-refused : (number place : ℕ) → Iff (takeOutcome t r listing out .said ≡ refused number place) (TakeRow r listing (length out) number place)
@@ -179,9 +186,9 @@ module _ (t r listing out : List ℕ) where
 -- THEOREM. "40 lines of 80 characters, each closed by a line feed (0A), 3,240 bytes in all": where listing is taken, the output's first bytes
 -- are the lines of the record's cards, character by character.
 -- Rules out the line feed before the 80 characters, the first card listed for all, and a call that writes nothing and says taken.
-pub listing : (t r out : List ℕ) → listOutcome t r out .said ≡ taken (3240 ∷ []) → ListingOf t r out (listOutcome t r out .bytes)
+pub lines-listed : (t r out : List ℕ) → listOutcome t r out .said ≡ taken (3240 ∷ []) → CardsListed t r out (listOutcome t r out .bytes)
 unfolding heldBy
-listing t r out e =
+lines-listed t r out e =
     let q = list-needs t r out e in
     let rest = list-rest t r out e in
     let text = heldBy r .cards in
@@ -196,7 +203,7 @@ listing t r out e =
       size = rest .0;
       character = λ j i l m.
           byte (linePlace j i) (omega (arith, l, m)) ∙ char-at t text j i l m ∙ ap (charOf t) (byte-of r 3 3200 (j * 80 + i) (omega (arith, l, m)));
-      feed = λ j l. byte (linePlace j 80) (omega (arith, l)) ∙ feed-at t text j l;
+      closed = λ j l. byte (linePlace j 80) (omega (arith, l)) ∙ feed-at t text j l;
       rest = rest .1;
     }
 
@@ -237,7 +244,7 @@ module _ (t r listing : List ℕ) (o : OneToOne t) (bytes : Bytes r) (chars : By
         valid = text-valid r bytes valid x size some;
         size = size-over r x 3 (omega (arith, size, long-enough));
         samples = text-samples r bytes valid x size some;
-        traces = text-traces r bytes valid x size some;
+        count = text-traces r bytes valid x size some;
         code = λ j i l m n. card j i l m ∙ kept (codeIn t (getD listing (linePlace j i) 0)) n;
         blank = λ j i l m e. card j i l m ∙ ap blank e;
         character = λ j i l m. ap (charOf t) (card j i l m) ∙ back (getD listing (linePlace j i) 0) (below listing chars (linePlace j i));
@@ -246,16 +253,16 @@ module _ (t r listing : List ℕ) (o : OneToOne t) (bytes : Bytes r) (chars : By
             ∙ byte-of r 0 3 p l ∙ ap (λ (y : ℕ). getD r y 0) z;
         behind = behind-byte r x size long-enough;
         binary = ap (λ (m : Meaning). m .binary) held;
-        held = ap (λ (m : Meaning). m .traces) held;
+        traces = ap (λ (m : Meaning). m .traces) held;
       }
 
 -- THEOREM. "A corrected listing and the record give a new record with that text by the inverse, a card byte 00 becoming 40 as on reading,
 -- and all else as it was. A call that gives a record returns T, N and its length": where taking back is taken, it does.
--- Rules out 00 kept on the way back, two entries of the table swapped, a byte behind the cards not copied, a listing taken from the record
--- itself, and a call that writes nothing and says taken.
-pub taking : (t r listing out : List ℕ) (k n l : ℕ) → OneToOne t → Bytes r → Bytes listing → takeOutcome t r listing out .said ≡ taken (k ∷ n ∷ l ∷ [])
+-- Rules out 00 kept on the way back, two entries of the table swapped on the way back alone, a byte behind the cards not copied, a call that
+-- keeps the record's own text whatever the listing, and one that writes nothing and says taken.
+pub record-taken : (t r listing out : List ℕ) (k n l : ℕ) → OneToOne t → Bytes r → Bytes listing → takeOutcome t r listing out .said ≡ taken (k ∷ n ∷ l ∷ [])
     → RecordTaken t r listing out (takeOutcome t r listing out .bytes) k n l
-taking t r listing out k n l o b c e =
+record-taken t r listing out k n l o b c e =
     let q = take-fine t r listing out (k ∷ n ∷ l ∷ []) e in
     let f = take-needs t r listing out q in
     let x = withText r (textOf t listing) in
@@ -269,34 +276,50 @@ taking t r listing out k n l o b c e =
       samples = cc;
       size = sym is;
       content = subst (WithListing t r listing) (sym content) (with-listing t r listing o b c (f .0));
+      whole = take-rest t r listing out k n l e .0;
       rest = take-rest t r listing out k n l e .1;
     }
 
 -- ## There and back
 
 module _ (t r r₂ out out₂ : List ℕ) (o : OneToOne t) (bytes : Bytes r) (valid : formCauses r ≡ Fine) (valid₂ : formCauses r₂ ≡ Fine) where
-  -- The listing of a valid record, in an output that is long enough.
+  -- Listing a valid record into an output that is long enough finds no cause.
+  no-cause : listingLength ≤ length out → listCauses r (length out) ≡ Fine
+  no-cause room = rw (valid, le-ltb (length out) listingLength room)
+
+  -- The listing stands at the output's front.
   listed : listingLength ≤ length out → take 3240 (listOutcome t r out .bytes) ≡ listingOf t (heldBy r .cards)
   listed room =
-      let fine : listCauses r (length out) ≡ Fine = rw (valid, le-ltb (length out) listingLength room) in
-      ap (λ (c : Check). take 3240 (listEnd t r out c .bytes)) fine
+      ap (λ (c : Check). take 3240 (listEnd t r out c .bytes)) (no-cause room)
       ∙ take-at (listingOf t (heldBy r .cards)) (drop listingLength out) listingLength (size-listing t (heldBy r .cards))
 
-  -- THEOREM. "Listing the text of a valid record and taking it back gives that text": into any valid record, that record's own or another.
-  -- Rules out a table that isn't one to one, and a way back that isn't the inverse.
+  -- THEOREM. "Listing the text of a valid record and taking it back gives that text": both calls are taken, and the text comes back into any
+  -- valid record, that record itself or another.
+  -- Rules out a way back that isn't the inverse; with `page-one-to-one`, any loss of text by code page 037.
   pub listed-text : 3240 ≤ length out → length r₂ ≤ length out₂
-      → takeOutcome t r₂ (take 3240 (listOutcome t r out .bytes)) out₂ ≡ record { said = taken (takenNumbers r₂); bytes = withText r₂ (heldBy r .cards) ++ drop (length r₂) out₂ }
+      → (listOutcome t r out .said ≡ taken (3240 ∷ []))
+      × (takeOutcome t r₂ (take 3240 (listOutcome t r out .bytes)) out₂ ≡ record { said = taken (takenNumbers r₂); bytes = withText r₂ (heldBy r .cards) ++ drop (length r₂) out₂ })
   listed-text room room₂ =
       let text = heldBy r .cards in
       let own = held-proper r bytes valid in
-      let fine : takeCauses r₂ (listingOf t text) (length out₂) ≡ Fine = rw (valid₂, listing-fine t text, le-ltb (length out₂) (length r₂) room₂) in
-      ap (λ (l : List ℕ). takeOutcome t r₂ l out₂) (listed room)
-      ∙ ap (takeEnd r₂ (textOf t (listingOf t text)) out₂) fine
-      ∙ ap (λ (x : List ℕ). takeEnd r₂ x out₂ Fine) (text-back t o text (own .size) (own .cards))
+      let fine : takeCauses r₂ (listingOf t text) (length out₂) ≡ Fine = rw (valid₂, listing-fine t text, le-ltb (length out₂) (length r₂) room₂) in (
+        ap (λ (c : Check). listEnd t r out c .said) (no-cause room),
+        ap (λ (l : List ℕ). takeOutcome t r₂ l out₂) (listed room)
+            ∙ ap (takeEnd r₂ (textOf t (listingOf t text)) out₂) fine
+            ∙ ap (λ (x : List ℕ). takeEnd r₂ x out₂ Fine) (text-back t o text (own .size) (own .cards)),
+      )
 
 -- THEOREM. And into the record itself it gives that record, byte for byte.
 -- Rules out any loss on the way: what a client lists, leaves as it is and takes back is the record.
 pub listed-back : (t r out out₂ : List ℕ) → OneToOne t → Bytes r → formCauses r ≡ Fine → 3240 ≤ length out → length r ≤ length out₂
-    → takeOutcome t r (take 3240 (listOutcome t r out .bytes)) out₂ ≡ record { said = taken (takenNumbers r); bytes = r ++ drop (length r) out₂ }
+    → (listOutcome t r out .said ≡ taken (3240 ∷ []))
+    × (takeOutcome t r (take 3240 (listOutcome t r out .bytes)) out₂ ≡ record { said = taken (takenNumbers r); bytes = r ++ drop (length r) out₂ })
 listed-back t r out out₂ o b v room room₂ =
-    listed-text t r r out out₂ o b v v room room₂ ∙ ap (λ (x : List ℕ). record { said = taken (takenNumbers r); bytes = x ++ drop (length r) out₂ }) (same-text r b v)
+    let both = listed-text t r r out out₂ o b v v room room₂ in
+    (both .0, both .1 ∙ ap (λ (x : List ℕ). record { said = taken (takenNumbers r); bytes = x ++ drop (length r) out₂ }) (same-text r b v))
+
+-- THEOREM. So do both calls, by code page 037.
+pub page-listed-back : (r out out₂ : List ℕ) → Bytes r → formCauses r ≡ Fine → 3240 ≤ length out → length r ≤ length out₂
+    → (listOutcome latin r out .said ≡ taken (3240 ∷ []))
+    × (takeOutcome latin r (take 3240 (listOutcome latin r out .bytes)) out₂ ≡ record { said = taken (takenNumbers r); bytes = r ++ drop (length r) out₂ })
+page-listed-back r out out₂ = listed-back latin r out out₂ page-one-to-one

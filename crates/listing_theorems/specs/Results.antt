@@ -10,20 +10,18 @@ use Rattle.numbers.specs.declared.Check.the-variants.{Fine}
 use Rattle.record.specs.Form.{heldSamples, heldCount, formCauses}
 use Rattle.record.specs.Held.{heldBy}
 use Rattle.code_page.specs.Page.{charOf, codeIn}
+use Rattle.listing_theorems.specs.ListingTable.{linePlace, Closed}
 
--- The place of byte i of card j in a record, behind tag 01 and its length, and of character i of line j in a listing, all counted from 0.
+-- The place in a record of byte i of card j, both counted from 0, behind tag 01 and its length.
 abbrev pub cardPlace : ℕ → ℕ → ℕ
 cardPlace j i = 3 + (j * 80 + i)
 
-abbrev pub linePlace : ℕ → ℕ → ℕ
-linePlace j i = j * 81 + i
-
 -- The first bytes of an output are the listing of the record r by the table t: line j has the characters of card j, and then a line feed.
 -- The rest of the output, which was `out`, keeps its content.
-pub record ListingOf (t r out bytes : List ℕ) : Type 0 where
+pub record CardsListed (t r out bytes : List ℕ) : Type 0 where
   pub size : length bytes ≡ length out
   pub character : (j i : ℕ) → j < 40 → i < 80 → getD bytes (linePlace j i) 0 ≡ charOf t (getD r (cardPlace j i) 0)
-  pub feed : (j : ℕ) → j < 40 → getD bytes (linePlace j 80) 0 ≡ 0x0A
+  pub closed : (j : ℕ) → j < 40 → Closed bytes j
   pub rest : drop 3240 bytes ≡ drop 3240 out
 
 -- The character of a listing as it comes back: itself, but for the character of the code 00, which becomes a blank, the code 40.
@@ -32,12 +30,12 @@ comesBack t c = pick (eqb c (charOf t 0)) (charOf t 0x40) c
 
 -- s is the record r with the text of a listing by the table t.
 pub record WithListing (t r listing s : List ℕ) : Type 0 where
-  -- It is a valid record of the same length, T and N.
+  -- It is a valid record, to which neither 12 nor 13 applies (`no-form-cause` of `demands`), of the same length, T and N.
   pub bytes : Bytes s
   pub valid : formCauses s ≡ Fine
   pub size : length s ≡ length r
   pub samples : heldSamples s ≡ heldSamples r
-  pub traces : heldCount s (heldSamples s) ≡ heldCount r (heldSamples r)
+  pub count : heldCount s (heldSamples s) ≡ heldCount r (heldSamples r)
   -- Each card byte is the code of the listing's character there, 40 for the code 00.
   pub code : (j i : ℕ) → j < 40 → i < 80 → ¬ (codeIn t (getD listing (linePlace j i) 0) ≡ 0) → getD s (cardPlace j i) 0 ≡ codeIn t (getD listing (linePlace j i) 0)
   pub blank : (j i : ℕ) → j < 40 → i < 80 → codeIn t (getD listing (linePlace j i) 0) ≡ 0 → getD s (cardPlace j i) 0 ≡ 0x40
@@ -48,7 +46,7 @@ pub record WithListing (t r listing s : List ℕ) : Type 0 where
   pub behind : (p : ℕ) → 3203 ≤ p → getD s p 0 ≡ getD r p 0
   -- So what it holds but for the cards is what the record held.
   pub binary : heldBy s .binary ≡ heldBy r .binary
-  pub held : heldBy s .traces ≡ heldBy r .traces
+  pub traces : heldBy s .traces ≡ heldBy r .traces
 
 -- What taking a listing back gives, where it returns k, n and the length l.
 pub record RecordTaken (t r listing out bytes : List ℕ) (k n l : ℕ) : Type 0 where
@@ -58,5 +56,6 @@ pub record RecordTaken (t r listing out bytes : List ℕ) (k n l : ℕ) : Type 0
   pub size : l ≡ length r
   -- The output's first bytes are the record with the listing's text.
   pub content : WithListing t r listing (take l bytes)
-  -- The rest of the output, which was `out`, keeps its content.
+  -- The output, which was `out`, keeps its length, and the rest of it its content.
+  pub whole : length bytes ≡ length out
   pub rest : drop l bytes ≡ drop l out

@@ -1,6 +1,5 @@
 -- `listing::list_cards` meets its contract. Assumes nothing.
 use Rattle.listing.specs.Calls.{listOutcome}
-use lib.ListN.{length}
 use Prim.Native.Nat.{ℕ}
 use mathlib.Core.List.{List}
 use mathlib.Core.Path.{ap, _∙_}

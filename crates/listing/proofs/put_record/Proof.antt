@@ -1,6 +1,6 @@
 -- `listing::put_record` meets its contract. Assumes nothing.
 use Rattle.listing.specs.Parts.{textBy}
-use Rattle.listing.proofs.ListingLaws.{size-text, text-parts}
+use Rattle.listing.proofs.ListingLaws.{size-by, text-parts}
 use Rattle.record.specs.Form.{fieldHead, binaryPlace}
 use Rattle.numbers.proofs.Filling.{start, lend, close, size-over}
 use Rattle.numbers.proofs.WalkLaws.{bytes-between, copied, size-bytes}
@@ -25,7 +25,7 @@ returns c =
     let x = bytesAt r 0 fieldHead in
     let y = textBy (a .bytes .now) (a .listing .now) in
     let z = bytesAt r binaryPlace (length r - binaryPlace) in
-    let y-size = size-text (a .bytes .now) (a .listing .now) in
+    let y-size = size-by (a .bytes .now) (a .listing .now) in
     let parts = text-parts r y (s .pre .1) y-size in
     let whole : length (a .out .now) ≡ length (x ++ (y ++ z)) = s .pre .3 ∙ sym (size-over r y fieldHead (omega (arith, y-size, s .pre .1))) ∙ ap length parts in
     let w₀ = start _ (a .out .now) whole in

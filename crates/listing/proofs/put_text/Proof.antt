@@ -2,9 +2,8 @@
 use Rattle.numbers.proofs.Filling.{Filling, finish, part-put}
 use Rattle.numbers.proofs.WalkLaws.{flat-none, bytes-between}
 use Rattle.numbers.specs.Walk.{walk, flat}
-use Rattle.code_page.specs.Page.{charOf}
 use Rattle.listing.specs.Listing.{cardLength, lineLength}
-use Rattle.listing.specs.Parts.{cardBy, textBy}
+use Rattle.listing.specs.Parts.{entryOf, cardBy, textBy}
 use Rattle.listing.proofs.ListingLaws.{size-card, text-begun}
 use lib.ListN.{length}
 use Prim.Native.Nat.{ℕ, _+_, _*_}
@@ -29,12 +28,18 @@ loop-holds c =
     let a = s .args in
     (s .pre .0, s .pre .1, s .pre .2, refl, refl, text-begun (a .bytes .now) (a .listing .now) (a .out .now) (s .pre .2))
 
+part-in : tie.Need-part-put-entries-end Inv-loop μ-loop
+part-in c = omega (arith, c .before .loop .inv .1, c .before .loop .inv .3, c .loop-test .taken)
+
+part-out : tie.Need-part-put-entries-end-2 Inv-loop μ-loop
+part-out c = omega (arith, c .before .before .loop .inv .2, c .before .before .loop .inv .4, c .before .loop-test .taken)
+
 loop-again : tie.Need-loop-again Inv-loop μ-loop
 loop-again c =
     let a = c .before .before .before .before .before .before .before .before .before .before .args in
     let l = c .before .before .before .before .before .before .loop in
     let some = c .before .before .before .before .before .loop-test .taken in
-    let put = part-put (cardBy (a .bytes .now) (a .listing .now)) (λ p. p) lineLength cardLength (size-card (a .bytes .now) (a .listing .now)) (l .left) (l .at) (l .o) (l .o + 80) some refl (l .inv .5) (c .before .before .put-entries .ensures ∙ ap (λ (x : List ℕ). map (charOf (a .bytes .now)) x) (bytes-between (a .listing .now) (l .at) (l .at + cardLength) cardLength (omega (arith, l .inv .1, l .inv .3, some)) refl)) in
+    let put = part-put (cardBy (a .bytes .now) (a .listing .now)) (λ p. p) lineLength cardLength (size-card (entryOf (a .bytes .now)) (a .listing .now)) (l .left) (l .at) (l .o) (l .o + 80) some refl (l .inv .5) (c .before .before .put-entries .ensures ∙ ap (λ (x : List ℕ). map (entryOf (a .bytes .now)) x) (bytes-between (a .listing .now) (l .at) (l .at + cardLength) cardLength (omega (arith, l .inv .1, l .inv .3, some)) refl)) in
     (l .inv .0, l .inv .1, put .size ∙ sym (l .inv .5 .size) ∙ l .inv .2, omega (arith, l .inv .3, some), omega (arith, l .inv .4, some), put)
 
 same-length : tie.Need-same-length Inv-loop μ-loop
@@ -52,18 +57,18 @@ put-text-spec =
     Inv-loop
     μ-loop
     loop-holds
-    (λ c. search needs)
-    (λ c. search needs)
-    (λ c. search needs)
-    (λ c. search needs)
-    (λ c. search needs)
-    (λ c. search needs)
-    (λ c. search needs)
-    (λ c. search needs)
+    (λ c. omega (arith, c .before .loop .inv .4))
+    (λ c. omega (arith, c .before .loop .inv .3))
+    (λ c. omega arith)
+    (λ c. omega arith)
+    part-in
+    (λ c. omega arith)
+    (λ c. omega arith)
+    part-out
     (λ c κs. search needs)
-    (λ c. search needs)
-    (λ c. search needs)
-    (λ c. search needs)
+    (λ c. omega (arith, c .before .before .before .before .before .before .loop .inv .3))
+    (λ c. omega (arith, c .before .before .before .before .before .loop-test .taken))
+    (λ c. omega (arith, c .before .before .before .before .before .loop-test .taken))
     loop-again
     same-length
     returns)

@@ -1,14 +1,14 @@
 -- `listing::take_cards` meets its contract. Assumes nothing.
 use Rattle.code_page.proofs.PageLaws.{latin-one-to-one}
-use Rattle.code_page.specs.Page.{charOf, latin, inverse}
-use Rattle.listing.specs.Calls.{takeCauses, takeEnd, takeOutcome}
-use Rattle.listing.specs.Parts.{cardBytesOf, textBy, takeBy}
+use Rattle.code_page.specs.Page.{latin}
+use Rattle.listing.specs.Calls.{takeCauses, takeEnd}
+use Rattle.listing.specs.Parts.{takeBy}
 use Rattle.listing.proofs.ListingLaws.{blanked, text-by}
 use Rattle.numbers.proofs.ByteLaws.{all-bytes}
 use lib.ListN.{length, getD, set}
 use Prim.Native.Nat.{ℕ}
 use mathlib.Core.List.{List}
-use mathlib.Core.Path.{_≡_, ap, ap₂, _∙_}
+use mathlib.Core.Path.{ap, ap₂, _∙_}
 use native.Mathlib.Omega.{arith}
 use borrow.Author.Needs.{needs}
 use Rattle.listing.proofs.take_cards.Statement.{statement}

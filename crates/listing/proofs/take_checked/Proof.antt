@@ -1,5 +1,4 @@
 -- `listing::take_checked` meets its contract. Assumes nothing.
-use Rattle.listing.specs.Listing.{listingCauses}
 use Rattle.listing.proofs.EndLaws.{long, listing-size, take-short, take-taken}
 use Rattle.record.specs.Form.{formCauses}
 use Rattle.record.proofs.JudgedLaws.{Own, own}
