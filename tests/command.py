@@ -806,6 +806,9 @@ class Cards(Case):
         self.assertEqual(len(content), 3240)
         odd = ", ".join(map(str, range(1, 40, 2)))
         self.put(content, "--latin1", self.lines, "no card differs", f"{returns}; lines {odd} were filled with blanks to column 80")
+        content = "".join(f"{line[:79]}\r\n" for line in self.lines).encode()
+        carriage = "column 80 of every line is a carriage return (0D), and was taken as it is"
+        self.put(content, "--latin1", [f"{line[:79]}\r" for line in self.lines], "cards 1 to 40 differ", carriage)
         only = self.edited((40, "C40 END"))
         self.put("".join(f"{line.ljust(80)}\n" for line in only).encode(), "--utf8", only, "card 40 differs")
 
@@ -854,7 +857,7 @@ class Cards(Case):
              "a line has 81 columns, not 80 (3241 characters, not 3240: line 4, column 81, `X`)"),
             (self.edited((2, "\u240a" * 80))[:39], "it has 39 lines, not 40 (3159 characters, not 3240)"),
             (self.lines + [""], "it has 41 lines, not 40 (3321 characters, not 3240)"), (self.lines * 2, "it has 80 lines, not 40 (6480 "),
-            ([], "it has 0 lines, not 40 (0 characters, not 3240)"),
+            ([], "it has 0 lines, not 40 (0 characters, not 3240)"), (self.lines[:1], "it has 1 line, not 40 (81 characters, not 3240)"),
         ):
             text = "".join(f"{line}\n" for line in lines)
             for ends in ("\n", "\r\n"):

@@ -151,8 +151,18 @@ impl Edited {
 /// count of lines than 40, are left for the library to refuse. The error says where a character stands that can't be taken.
 pub fn edited(file: &[u8], encoding: Encoding) -> Result<Edited, String> {
     let mut mended = Vec::new();
-    let lines = match exact(file).filter(|_| encoding == Encoding::Latin1) {
-        Some(listing) => lines(listing).map(<[u8]>::to_vec).collect(),
+    let lines: Vec<Vec<u8>> = match exact(file).filter(|_| encoding == Encoding::Latin1) {
+        Some(listing) => {
+            // An editor may have left 79 characters and CR LF on every line.
+            let first = |line: &[u8]| line.iter().position(|&byte| byte == b'\r');
+            if lines(listing).all(|line| first(line) == Some(COLUMNS - 1)) {
+                mended.push(
+                    "column 80 of every line is a carriage return (0D), and was taken as it is"
+                        .to_string(),
+                );
+            }
+            lines(listing).map(<[u8]>::to_vec).collect()
+        }
         None => {
             let text = text_of(file, encoding, &mut mended)?;
             lines_of(&text, encoding, &mut mended)?

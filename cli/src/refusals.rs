@@ -133,7 +133,10 @@ pub fn of_listing(lines: &[Vec<u8>], refusal: Refusal) -> String {
             COLUMNS + 1,
             quoted(&lines[i][COLUMNS..])
         ),
-        None => format!("it has {} lines, not {COUNT} ({beside})", lines.len()),
+        None => {
+            let s = if lines.len() == 1 { "" } else { "s" };
+            format!("it has {} line{s}, not {COUNT} ({beside})", lines.len())
+        }
     };
     sentence(refusal, &what)
 }
