@@ -1,10 +1,6 @@
 -- # The listing of a record's cards, and the way back
 --
--- Document 02, CR 1: "Print a record's text as 40 lines of 80 characters, each closed by a line feed (0A), 3,240 bytes in all. EBCDIC code
--- page 037 is turned into ISO 8859-1 by a table of 256 entries, taken from its published form; each character of the target appears in it
--- just once. A corrected listing and the record give a new record with that text by the inverse, a card byte 00 becoming 40 as on reading,
--- and all else as it was. A call that gives a record returns T, N and its length; the one that gives the listing returns 3,240. Listing the
--- text of a valid record and taking it back gives that text."
+-- Document 02, CR 1; each clause of it stands over the theorem that says it, and demand 1's over those that say it of both calls.
 --
 -- The theorems are over the outcomes that the contracts of the calls give: of `listing::list_cards` by `listOutcome latin`, of
 -- `listing::take_cards` by `takeOutcome latin`. They speak of any table t. Where t has to take the 256 codes to the 256 characters one to
