@@ -678,6 +678,10 @@ def with_lines(record, lines):
     return record[:3] + cards.replace(b"\0", b"\x40") + record[3203:]
 
 
+# The listing of those.
+ALL_LISTING = listing_of(bytes(3) + ALL_CODES)
+
+
 class Cards(Case):
     """The cards printed, edited, and put in a new record."""
 
@@ -768,12 +772,25 @@ class Cards(Case):
         rnd = random.Random(12)
         other = self.file("other.record", reels.record_of(random_reel(rnd, 4, 3, 2)))
         listing = self.file("a.txt", listing_of(self.all_codes))
-        said = self.fine("cards", other, listing, self.new, "--latin1")
+        own = listing_of(other.read_bytes())
+        new = [i for i in range(3240) if i % 81 < 80 and ALL_LISTING[i] != own[i] and is_control(ALL_LISTING[i])]
+        at = f"line {new[0] // 81 + 1}, column {new[0] % 81 + 1} is the control character U+{ALL_LISTING[new[0]]:04X}"
+        self.assertGreater(len(new), 500)
+        warned = f"aukpocket: warning: {listing}: {len(new)} control characters came onto the cards: {at}, and so on\n"
+        said = self.fine("cards", other, listing, self.new, "--latin1", warned=warned)
         self.assertTrue(said.endswith("cards 1 to 40 differ\n"), said)
         self.assertEqual(self.new.read_bytes(), with_bytes(other.read_bytes(), 3, ALL_CODES))
 
     def test_edits(self):
-        """What a user changes, and what an editor does beside it."""
+        """What a user changes, and what an editor does beside it. A control character that comes in by ISO 8859-1 is told."""
+        for line, at in ((f"C 4\t{self.lines[3][4:]}", "column 4 is a tab (U+0009)"), (f"{self.lines[3][:79]}\r", "column 80 is a carriage return (U+000D)")):
+            lines = self.edited((4, line))
+            listing = self.file("a.txt", "".join(f"{line}\n" for line in lines).encode())
+            self.fine("cards", self.path, listing, self.new, "--latin1", warned=(
+                f"aukpocket: warning: {listing}: a control character came onto a card: line 4, {at}\n"))
+            self.assertEqual(self.new.read_bytes(), with_lines(self.record, lines))
+            self.new.unlink()
+            listing.unlink()
         changed = self.edited((2, "C 2 LINE 12     ÅREA  SKERRY BANK, NØRTH¢"), (5, ""), (39, "é" * 80))
         full = [line.ljust(80) for line in changed]
         short = [line.rstrip(" ") for line in changed]
@@ -807,8 +824,13 @@ class Cards(Case):
         odd = ", ".join(map(str, range(1, 40, 2)))
         self.put(content, "--latin1", self.lines, "no card differs", f"{returns}; lines {odd} were filled with blanks to column 80")
         content = "".join(f"{line[:79]}\r\n" for line in self.lines).encode()
-        carriage = "column 80 of every line is a carriage return (0D), and was taken as it is"
-        self.put(content, "--latin1", [f"{line[:79]}\r" for line in self.lines], "cards 1 to 40 differ", carriage)
+        self.assertEqual((len(content), set(content[80::81])), (3240, {0x0A}))
+        for encoding in ("--utf8", "--latin1"):
+            self.put(content, encoding, self.lines, "no card differs", f"{returns}; lines 1 to 40 were filled with blanks to column 80")
+        for blank, dropped in ((["", "  "], "2 blank lines at the end were dropped"), ([""], "a blank line at the end was dropped")):
+            for encoding in ("--utf8", "--latin1"):
+                text = "\n".join(full + blank) + "\n"
+                self.put(text.encode("utf-8" if encoding == "--utf8" else "latin-1"), encoding, changed, fine, dropped)
         only = self.edited((40, "C40 END"))
         self.put("".join(f"{line.ljust(80)}\n" for line in only).encode(), "--utf8", only, "card 40 differs")
 
@@ -843,7 +865,7 @@ class Cards(Case):
         for lines, sentence in (
             (self.edited((4, self.lines[3] + "X")), "a line has 81 columns, not 80 (3241 characters, not 3240: line 4, column 81, `X`)"),
             (self.edited((4, self.lines[3] + " KM  "), (9, "")),
-             "a line has 85 columns, not 80 (3245 characters, not 3240: line 4, column 81, ` KM  `)"),
+             "a line has 85 columns, not 80 (3245 characters once its lines are filled, not 3240: line 4, column 81, ` KM  `)"),
             (self.edited((40, "é" * 200)),
              "a line has 200 columns, not 80 (3360 characters, not 3240: line 40, column 81, `éééééééééééééééééééé`...)"),
             (self.edited((1, first + "\u2409\u249f")),
@@ -856,7 +878,10 @@ class Cards(Case):
             (self.edited((2, "\u240a" * 80), (4, self.lines[3] + "X")),
              "a line has 81 columns, not 80 (3241 characters, not 3240: line 4, column 81, `X`)"),
             (self.edited((2, "\u240a" * 80))[:39], "it has 39 lines, not 40 (3159 characters, not 3240)"),
-            (self.lines + [""], "it has 41 lines, not 40 (3321 characters, not 3240)"), (self.lines * 2, "it has 80 lines, not 40 (6480 "),
+            (self.lines + ["x"], "it has 41 lines, not 40 (3321 characters once its lines are filled, not 3240)"),
+            (self.lines + ["", "x"], "it has 42 lines, not 40 (3402 characters once its lines are filled, not 3240)"),
+            ([""] + self.lines, "it has 41 lines, not 40 (3321 characters once its lines are filled, not 3240)"),
+            (self.lines * 2, "it has 80 lines, not 40 (6480 characters, not 3240)"),
             ([], "it has 0 lines, not 40 (0 characters, not 3240)"), (self.lines[:1], "it has 1 line, not 40 (81 characters, not 3240)"),
         ):
             text = "".join(f"{line}\n" for line in lines)
@@ -891,16 +916,22 @@ class Cards(Case):
             ("\x7f", "the control character U+007F"), ("\x85", "the control character U+0085"), ("\x0c", "the control character U+000C"),
         ):
             content = text(40, f"ÉC40{character}END")
+            blanks = "put blanks there; " if character == "\t" else ""
+            wide = "; UTF-16, which has it, is to be saved as UTF-8" if character == "\0" else ""
             self.refused(1, content.encode(), "--utf8", (
-                f"line 40, column 5 is {said}, which isn't taken: in UTF-8 a card's own control characters are written as the character "
-                f"U+2400 plus number, this one as U+{0x2400 + ord(character):04X}"))
+                f"line 40, column 5 is {said}, which isn't taken: {blanks}in UTF-8 a card's own control characters are written as the "
+                f"character U+2400 plus number, this one as U+{0x2400 + ord(character):04X}{wide}"))
             self.refused(1, content.encode("latin-1"), "--latin1", (
-                f"line 40, column 5 is {said}, which isn't taken: --latin1 takes control characters from exactly 40 lines of 80 "
-                "characters alone, and --utf8 has a way to write them"))
+                f"line 40, column 5 is {said}, which isn't taken: {blanks}--latin1 takes control characters from exactly 40 lines of 80 "
+                f"characters alone, and --utf8 has a way to write them{wide}"))
+        for name in ("utf-16-le", "utf-16-be"):
+            content = f"\ufeff{text(1, 'x')}".encode(name)
+            for encoding in ("--utf8", "--latin1"):
+                self.refused(1, content, encoding, "the file is UTF-16, which isn't taken: save it as UTF-8")
         content = text(7, self.lines[6][:79] + "\t").encode()
         self.assertEqual(len(content), 3240)
         self.refused(1, content, "--utf8", (
-            "line 7, column 80 is a tab (U+0009), which isn't taken: in UTF-8 a card's own control characters are written as the character "
+            "line 7, column 80 is a tab (U+0009), which isn't taken: put blanks there; in UTF-8 a card's own control characters are written as the character "
             "U+2400 plus number, this one as U+2409"))
         # Two lines joined by a character that the library would take for the end of the first.
         joined = self.edited((7, f"{self.lines[6]}\u240a{self.lines[7]}"))
@@ -915,7 +946,7 @@ class Cards(Case):
         mark = b"\xef\xbb\xbf"
         for content, at, byte in (
             (text(3, "C 3 É").encode("latin-1"), "line 3, column 5", "C9"), (mark + b"\xff", "line 1, column 1", "FF"),
-            (text(1, "x").encode("utf-16"), "line 1, column 1", "FF"), (text(1, "ÉÉ").encode()[:3], "line 1, column 2", "C3"),
+            (text(1, "ÉÉ").encode()[:3], "line 1, column 2", "C3"),
             (text(2, "ab").encode() + b"\xc0\x80", "line 41, column 1", "C0"),
             (text(2, "é\ud800").encode("utf-8", "surrogatepass"), "line 2, column 2", "ED"),
         ):
@@ -930,17 +961,17 @@ class Cards(Case):
         for line, status, sentence in (
             ("C 2 Ø", 1, "line 2, column 6 is the control character U+0098, which isn't taken: --latin1 takes control characters from "
                          "exactly 40 lines of 80 characters alone, and --utf8 has a way to write them"),
-            ("é" * 80, 2, "refused by 17: a line has 160 columns, not 80 (3320 characters, not 3240: line 2, column 81, "
-                          f"`{'Ã©' * 10}`...)"),
         ):
             content = "".join(f"{line}\n" for line in self.edited((2, line))).encode()
             self.refused(status, content, "--latin1", f"{sentence}; the file is UTF-8, which --utf8 takes")
-        lines = self.edited((2, "C 2 é".ljust(80)))
-        listing = self.file("a.txt", "".join(f"{line}\n" for line in lines).encode())
-        self.fine("cards", self.path, listing, self.new, "--latin1", warned=(
-            f"aukpocket: {listing}: line 2 was cut after column 80, where blanks stood\n"
-            f"aukpocket: warning: {listing}: the file is UTF-8, and was taken as ISO 8859-1; --utf8 takes it as it is\n"))
-        self.assertEqual(self.new.read_bytes(), with_lines(self.record, self.edited((2, "C 2 Ã©"))))
+        for line in ("é" * 80, "C 2 é".ljust(80), "C 2 é".ljust(79)):
+            content = "".join(f"{line}\n" for line in self.edited((2, line))).encode()
+            self.refused(1, content, "--latin1", "the file is UTF-8, which --utf8 takes; as ISO 8859-1 it would have other characters")
+        # Bytes that are UTF-8 too, where the card has them already: they are the card's own, and another line is edited.
+        own = with_lines(self.record, self.edited((2, "C 2 Ã©")))
+        path = self.file("own.record", own)
+        lines = self.edited((2, "C 2 Ã©".ljust(80)), (5, "C 5 X".ljust(80)))
+        self.put("".join(f"{line}\n" for line in lines).encode("latin-1"), "--latin1", lines, "card 5 differs", path=path)
 
     def test_records_that_are_refused(self):
         """The causes of the record come before 17, and a reel is told."""
@@ -950,6 +981,8 @@ class Cards(Case):
         for record, sentence in (
             (SAMPLE.read_bytes(),
              "is a reel, not a record: refused by 12: tag C3 stands where a field should begin (place 0: tag 01, the cards)"),
+            (listing_of(self.record),
+             "is a listing, not a record: refused by 12: tag 43 stands where a field should begin (place 0: tag 01, the cards)"),
             (b"", "refused by 12: the record ends where a field should begin (place 0: tag 01, the cards)"),
             (with_bytes(self.record, 83, b"\0"), "refused by 13: a card byte is 00 (place 83: card 2, column 1)"),
             (self.record + b"x", "refused by 12: 1 bytes follow the record's end (place 13029)"),
@@ -965,20 +998,22 @@ class Cards(Case):
         ):
             said = self.trouble(1, "cards", listing, self.path, self.new, encoding)
             self.assertTrue(said.startswith(f"{self.path}: is a record, not a listing: {at}"), said)
+            self.assertIn(f"{SAMPLE}: is a reel, not a listing: line 1, ", self.trouble(1, "cards", self.path, SAMPLE, self.new, encoding))
 
     def test_the_new_record_as_a_file(self):
         """It appears whole under its name, replaces nothing unless told, and never an input."""
-        listing = self.file("a.txt", listing_of(self.all_codes))
+        changed = with_lines(self.record, self.edited((2, "C 2 CHANGED")))
+        listing = self.file("a.txt", listing_of(changed))
         old = self.file("old", b"old")
         self.assertIn("is there already and is kept; --force", self.trouble(1, "cards", self.path, listing, old, "--latin1"))
         self.assertEqual(old.read_bytes(), b"old")
         self.fine("cards", self.path, listing, old, "--latin1", "--force")
-        self.assertEqual(old.read_bytes(), self.all_codes)
+        self.assertEqual(old.read_bytes(), changed)
         os.link(listing, self.folder / "second")
         for name in (self.path, listing, self.folder / "second"):
-            self.assertIn("is there already", self.trouble(1, "cards", self.path, listing, name, "--latin1"))
-            self.assertIn("is an input, which is never replaced", self.trouble(1, "cards", self.path, listing, name, "--latin1", "--force"))
-        self.assertEqual((self.path.read_bytes(), listing.read_bytes()), (self.record, listing_of(self.all_codes)))
+            for force in ((), ("--force",)):
+                self.assertIn("is an input, which is never replaced", self.trouble(1, "cards", self.path, listing, name, "--latin1", *force))
+        self.assertEqual((self.path.read_bytes(), listing.read_bytes()), (self.record, listing_of(changed)))
         for words, part in (
             ((self.folder / "none", listing, self.new), "none: can't be opened"),
             ((self.path, self.folder / "none", self.new), "none: can't be opened"),
@@ -1091,8 +1126,8 @@ class Files(Case):
         os.link(reel, self.folder / "second")
         (self.folder / "link").symlink_to(reel)
         for name in ("sample.sgy", "second", "link"):
-            self.assertIn("is there already", self.trouble(1, "read", reel, self.folder / name))
-            self.assertIn("is an input, which is never replaced", self.trouble(1, "read", reel, self.folder / name, "--force"))
+            for force in ((), ("--force",)):
+                self.assertIn("is an input, which is never replaced", self.trouble(1, "read", reel, self.folder / name, *force))
         self.assertEqual(reel.read_bytes(), SAMPLE.read_bytes())
 
     def test_links_and_special_files(self):
@@ -1102,8 +1137,8 @@ class Files(Case):
         os.mkfifo(self.folder / "pipe")
         for force in ((), ("--force",)):
             self.assertIn("is a link that leads nowhere", self.trouble(1, "read", SAMPLE, self.folder / "nowhere", *force))
-        self.assertIn("is no regular file", self.trouble(1, "read", SAMPLE, self.folder / "pipe", "--force"))
-        self.assertIn("is no regular file", self.trouble(1, "read", SAMPLE, "/dev/null", "--force"))
+            self.assertIn("is no regular file", self.trouble(1, "read", SAMPLE, self.folder / "pipe", *force))
+            self.assertIn("is no regular file", self.trouble(1, "read", SAMPLE, "/dev/null", *force))
         self.fine("read", SAMPLE, self.folder / "link", "--force")
         self.assertTrue((self.folder / "link").is_symlink())
         self.assertEqual(target.read_bytes(), reels.record_of(SAMPLE.read_bytes()))

@@ -25,7 +25,7 @@ pub fn lines(listing: &[u8; LISTING_LENGTH]) -> impl Iterator<Item = &[u8]> {
 
 /// The listing of card bytes, wherever they are from: the library is lent a record without traces that has them. A byte 00 is a blank, as
 /// document 01 has it, and so is what is missing of 40 cards.
-fn listing_of(bytes: &[u8]) -> [u8; LISTING_LENGTH] {
+pub fn listing_of(bytes: &[u8]) -> [u8; LISTING_LENGTH] {
     let mut record = [0; FIRST_TRACE + TAG + 4];
     record[..TAG].copy_from_slice(&[0x01, 0x0C, 0x80]);
     record[TAG..BINARY].fill(0x40);

@@ -161,15 +161,10 @@ impl Target {
             Ok(about) if about.is_symlink() && !path.exists() => Err(Trouble::file(format!(
                 "{name}: is a link that leads nowhere, and is kept"
             ))),
-            Ok(_) if !force => Err(Trouble::file(format!(
-                "{name}: is there already and is kept; --force replaces it"
-            ))),
             Ok(_) => {
                 // Behind a link, the file that it leads to is the one to replace.
-                let path = fs::canonicalize(path)
-                    .map_err(|e| Trouble::file(format!("{name}: can't be looked at: {e}")))?;
-                let about = fs::metadata(&path)
-                    .map_err(|e| Trouble::file(format!("{name}: can't be looked at: {e}")))?;
+                let looked = |e| Trouble::file(format!("{name}: can't be looked at: {e}"));
+                let about = fs::metadata(path).map_err(looked)?;
                 if !about.is_file() {
                     return Err(Trouble::file(format!("{name}: is no regular file")));
                 }
@@ -182,6 +177,12 @@ impl Target {
                         "{name}: is an input, which is never replaced"
                     )));
                 }
+                if !force {
+                    return Err(Trouble::file(format!(
+                        "{name}: is there already and is kept; --force replaces it"
+                    )));
+                }
+                let path = fs::canonicalize(path).map_err(looked)?;
                 Target {
                     path,
                     replaced: Some(about),

@@ -136,13 +136,14 @@ So every line keeps its 80 columns, and nothing is lost on the way back. A chara
 as on reading.
 
 What editors do to a listing is mended, and standard error says so: a line of under 80 columns is filled
-with blanks, blanks beyond column 80 are cut, a line feed is put at the end, CR LF is taken as the end of
-a line where every line has it, and a byte order mark of UTF-8 is dropped. Under --latin1, 40 lines of
-exactly 80 characters are taken as they are, control characters too.
+with blanks, blanks beyond column 80 are cut, blank lines behind the 40 are dropped, a line feed is put at
+the end, CR LF is taken as the end of a line where every line has it, and a byte order mark of UTF-8 is
+dropped. Under --latin1, 40 lines of exactly 80 characters are taken as they are, control characters too;
+those that RECORD doesn't have there are told in a warning.
 
 Anything else beyond column 80, and another count than 40 lines, is refused by 17. A character that code
-page 037 doesn't have, a control character as it is (a tab) and bytes that aren't UTF-8 are trouble with
-the file. The sentence has the line and the column.
+page 037 doesn't have, a control character as it is (a tab), and bytes that aren't UTF-8, or are under
+--latin1, are trouble with the file. The sentence has the line and the column where there is one.
 {OUTPUT}{STATUS}"
     )
 }

@@ -1,6 +1,6 @@
 //! A listing as text to read and edit, and back.
 
-use crate::cards::{lines, COLUMNS};
+use crate::cards::{lines, COLUMNS, COUNT};
 use aukpocket::LISTING_LENGTH;
 use std::env;
 
@@ -9,6 +9,9 @@ const CONTROLS: u32 = 0x2400;
 
 /// What some editors put before UTF-8.
 const BYTE_ORDER_MARK: &[u8] = b"\xEF\xBB\xBF";
+
+/// What stands before UTF-16.
+const UTF_16_MARKS: [&[u8]; 2] = [b"\xFF\xFE", b"\xFE\xFF"];
 
 /// The most characters that a sentence quotes.
 const QUOTED: usize = 20;
@@ -63,11 +66,19 @@ fn raw_control(character: char, encoding: Encoding) -> String {
                 .to_string()
         }
     };
-    let ends = match character {
-        '\r' => "; CR LF is taken as the end of a line where every line has it",
-        _ => "",
+    let (before, behind) = match character {
+        '\t' => ("put blanks there; ", ""),
+        '\r' => (
+            "",
+            "; CR LF is taken as the end of a line where every line has it",
+        ),
+        '\0' => ("", "; UTF-16, which has it, is to be saved as UTF-8"),
+        _ => ("", ""),
     };
-    format!("{}, which isn't taken: {taken}{ends}", named(character))
+    format!(
+        "{}, which isn't taken: {before}{taken}{behind}",
+        named(character)
+    )
 }
 
 /// A character in a sentence.
@@ -133,10 +144,11 @@ fn locale_is_utf8() -> bool {
     matches!(code_set, Some("utf-8" | "utf8"))
 }
 
-/// A listing that was edited: its lines, and what was done to make them.
+/// A listing that was edited: its lines, what was done to make them, and how many of them were filled.
 pub struct Edited {
     pub lines: Vec<Vec<u8>>,
     pub mended: Vec<String>,
+    pub filled: usize,
 }
 
 impl Edited {
@@ -145,27 +157,62 @@ impl Edited {
         let closed = |line: &Vec<u8>| [line, &b"\n"[..]].concat();
         self.lines.iter().flat_map(closed).collect()
     }
+
+    /// Whether a character stands here that isn't ASCII, and another one in the record's own listing.
+    pub fn has_new_letters(&self, own: &[u8; LISTING_LENGTH]) -> bool {
+        self.changed(own).any(|(_, _, byte)| !byte.is_ascii())
+    }
+
+    /// A sentence about control characters that stand here, and others in the record's own listing, where there are any. 00 is none of
+    /// them: it becomes a blank.
+    pub fn new_controls(&self, own: &[u8; LISTING_LENGTH]) -> Option<String> {
+        let is_new =
+            |&(_, _, byte): &(usize, usize, u8)| byte != 0 && char::from(byte).is_control();
+        let new: Vec<(usize, usize, u8)> = self.changed(own).filter(is_new).collect();
+        let &(line, column, byte) = new.first()?;
+        let first = named(char::from(byte));
+        Some(match new.len() {
+            1 => format!("a control character came onto a card: line {line}, column {column} is {first}"),
+            count => format!(
+                "{count} control characters came onto the cards: line {line}, column {column} is {first}, and so on"
+            ),
+        })
+    }
+
+    /// The bytes that are other ones in the record's own listing, with their lines and columns.
+    fn changed<'a>(
+        &'a self,
+        own: &'a [u8; LISTING_LENGTH],
+    ) -> impl Iterator<Item = (usize, usize, u8)> + 'a {
+        let pairs = self.lines.iter().zip(lines(own)).zip(1..);
+        pairs.flat_map(|((line, own), number)| {
+            let columns = line.iter().zip(own).zip(1..);
+            columns
+                .filter(|((byte, own), _)| byte != own)
+                .map(move |((&byte, _), column)| (number, column, byte))
+        })
+    }
 }
 
 /// Takes the bytes of a file as a listing. What an editor does at the ends of lines is mended; a line of more than 80 columns, and another
-/// count of lines than 40, are left for the library to refuse. The error says where a character stands that can't be taken.
-pub fn edited(file: &[u8], encoding: Encoding) -> Result<Edited, String> {
-    let mut mended = Vec::new();
-    let lines: Vec<Vec<u8>> = match exact(file).filter(|_| encoding == Encoding::Latin1) {
-        Some(listing) => {
-            // An editor may have left 79 characters and CR LF on every line.
-            let first = |line: &[u8]| line.iter().position(|&byte| byte == b'\r');
-            if lines(listing).all(|line| first(line) == Some(COLUMNS - 1)) {
-                mended.push(
-                    "column 80 of every line is a carriage return (0D), and was taken as it is"
-                        .to_string(),
-                );
-            }
-            lines(listing).map(<[u8]>::to_vec).collect()
-        }
+/// count of lines than 40, are left for the library to refuse. The error says where a character stands that can't be taken. In ISO 8859-1 40
+/// lines of 80 characters are taken as they are, unless all end in a carriage return and not all do in the record's own listing: an editor
+/// left 79 characters and CR LF.
+pub fn edited(
+    file: &[u8],
+    encoding: Encoding,
+    own: &[u8; LISTING_LENGTH],
+) -> Result<Edited, String> {
+    let (mut mended, mut filled) = (Vec::new(), Vec::new());
+    let returns = |listing: &[u8; LISTING_LENGTH]| lines(listing).all(|line| line.ends_with(b"\r"));
+    let as_it_is = |listing: &&[u8; LISTING_LENGTH]| {
+        encoding == Encoding::Latin1 && (!returns(listing) || returns(own))
+    };
+    let lines: Vec<Vec<u8>> = match exact(file).filter(as_it_is) {
+        Some(listing) => lines(listing).map(<[u8]>::to_vec).collect(),
         None => {
             let text = text_of(file, encoding, &mut mended)?;
-            lines_of(&text, encoding, &mut mended)?
+            lines_of(&text, encoding, &mut mended, &mut filled)?
         }
     };
     match lines.iter().flatten().filter(|&&byte| byte == 0x00).count() {
@@ -173,7 +220,12 @@ pub fn edited(file: &[u8], encoding: Encoding) -> Result<Edited, String> {
         1 => mended.push("a character 00 became a blank".to_string()),
         nulls => mended.push(format!("{nulls} characters 00 became blanks")),
     }
-    Ok(Edited { lines, mended })
+    let filled = filled.len();
+    Ok(Edited {
+        lines,
+        mended,
+        filled,
+    })
 }
 
 /// Whether a file is UTF-8 and not ASCII alone, which text in ISO 8859-1 hardly ever is.
@@ -182,7 +234,7 @@ pub fn is_utf8(file: &[u8]) -> bool {
 }
 
 /// A file that is 40 lines of 80 characters, each closed by 0A.
-fn exact(file: &[u8]) -> Option<&[u8; LISTING_LENGTH]> {
+pub fn exact(file: &[u8]) -> Option<&[u8; LISTING_LENGTH]> {
     let closed = file
         .chunks(COLUMNS + 1)
         .all(|line| line.get(COLUMNS) == Some(&b'\n'));
@@ -191,6 +243,9 @@ fn exact(file: &[u8]) -> Option<&[u8; LISTING_LENGTH]> {
 
 /// The text of a file.
 fn text_of(file: &[u8], encoding: Encoding, mended: &mut Vec<String>) -> Result<String, String> {
+    if UTF_16_MARKS.iter().any(|mark| file.starts_with(mark)) {
+        return Err("the file is UTF-16, which isn't taken: save it as UTF-8".to_string());
+    }
     if encoding == Encoding::Latin1 {
         return Ok(file.iter().map(|&byte| char::from(byte)).collect());
     }
@@ -211,11 +266,12 @@ fn text_of(file: &[u8], encoding: Encoding, mended: &mut Vec<String>) -> Result<
     })
 }
 
-/// The lines of a text, of at least 80 columns each.
+/// The lines of a text, of at least 80 columns each, and which of them were filled.
 fn lines_of(
     text: &str,
     encoding: Encoding,
     mended: &mut Vec<String>,
+    filled: &mut Vec<usize>,
 ) -> Result<Vec<Vec<u8>>, String> {
     let mut rows: Vec<&str> = text.split('\n').collect();
     let unclosed = rows.pop().filter(|row| !row.is_empty());
@@ -228,7 +284,16 @@ fn lines_of(
         mended.push("a line feed was put at the end".to_string());
     }
     rows.extend(unclosed);
-    let (mut lines, mut filled, mut cut) = (Vec::new(), Vec::new(), Vec::new());
+    let behind = rows.iter().skip(COUNT);
+    if behind.clone().all(|row| row.trim_matches(' ').is_empty()) {
+        match behind.count() {
+            0 => {}
+            1 => mended.push("a blank line at the end was dropped".to_string()),
+            blank => mended.push(format!("{blank} blank lines at the end were dropped")),
+        }
+        rows.truncate(COUNT);
+    }
+    let (mut lines, mut cut) = (Vec::new(), Vec::new());
     for (row, number) in rows.into_iter().zip(1..) {
         let mut line = Vec::new();
         for character in row.chars() {
@@ -251,11 +316,11 @@ fn lines_of(
         lines.push(line);
     }
     for (numbers, what) in [
-        (filled, "filled with blanks to column 80"),
-        (cut, "cut after column 80, where blanks stood"),
+        (&*filled, "filled with blanks to column 80"),
+        (&cut, "cut after column 80, where blanks stood"),
     ] {
         if !numbers.is_empty() {
-            let were = numbered("line", &numbers, ["was", "were"]);
+            let were = numbered("line", numbers, ["was", "were"]);
             mended.push(format!("{were} {what}"));
         }
     }

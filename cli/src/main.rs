@@ -566,12 +566,14 @@ fn put_cards(words: &Words) -> Result<(), Trouble> {
     };
     let target = Target::new(to, words.force, &[from, edited])?;
     let file = files::load(edited)?;
-    let listing_name = edited.display().to_string();
+    let record = files::load(from)?;
+    let (listing_name, name) = (edited.display().to_string(), from.display().to_string());
     let is_utf8_too = encoding == Encoding::Latin1 && listing::is_utf8(&file);
     let wrong = |fault: String| {
-        let kind = match is_record(&file) {
-            true => "is a record, not a listing: ",
-            false => "",
+        let kind = match &file {
+            file if is_record(file) => "is a record, not a listing: ",
+            file if is_reel(file) => "is a reel, not a listing: ",
+            _ => "",
         };
         let hint = match is_utf8_too {
             true => "; the file is UTF-8, which --utf8 takes",
@@ -579,10 +581,14 @@ fn put_cards(words: &Words) -> Result<(), Trouble> {
         };
         format!("{kind}{fault}{hint}")
     };
-    let listing = listing::edited(&file, encoding)
+    let own = cards::listing_of(record.get(layout::TAG..layout::BINARY).unwrap_or(&[]));
+    let listing = listing::edited(&file, encoding, &own)
         .map_err(|fault| Trouble::file(format!("{listing_name}: {}", wrong(fault))))?;
-    let record = files::load(from)?;
-    let name = from.display().to_string();
+    if is_utf8_too && listing.has_new_letters(&own) {
+        return Err(Trouble::file(format!(
+            "{listing_name}: the file is UTF-8, which --utf8 takes; as ISO 8859-1 it would have other characters"
+        )));
+    }
     step(
         format_args!("giving {name} the cards of {listing_name}"),
         record.len() as u64,
@@ -593,7 +599,7 @@ fn put_cards(words: &Words) -> Result<(), Trouble> {
     {
         17 => Trouble::refused(
             &listing_name,
-            wrong(refusals::of_listing(&listing.lines, refusal)),
+            wrong(refusals::of_listing(&listing, refusal)),
         ),
         _ => Trouble::refused(&name, refusals::of_record(&record, 1, refusal)),
     })?;
@@ -605,11 +611,11 @@ fn put_cards(words: &Words) -> Result<(), Trouble> {
             listing.mended.join("; ")
         );
     }
-    if is_utf8_too {
-        warn(
-            &listing_name,
-            "the file is UTF-8, and was taken as ISO 8859-1; --utf8 takes it as it is",
-        );
+    // In UTF-8 no control character comes in unasked.
+    if encoding == Encoding::Latin1 {
+        if let Some(sentence) = listing.new_controls(&own) {
+            warn(&listing_name, &sentence);
+        }
     }
     let card = |i: usize| layout::TAG + cards::COLUMNS * i..layout::TAG + cards::COLUMNS * (i + 1);
     let differing: Vec<usize> = (0..cards::COUNT)

@@ -6,7 +6,7 @@ use crate::kinds::{is_record, is_reel};
 use crate::layout::{
     binary_place, number, Shape, BINARY, CARDS, FIRST_PAIR, FIRST_TRACE, HEADERS, SAMPLES, TAG,
 };
-use crate::listing::quoted;
+use crate::listing::{exact, quoted, Edited};
 use aukpocket::{Refusal, LISTING_LENGTH};
 
 /// The most traces that a reel or record has.
@@ -92,15 +92,14 @@ pub fn of_look_up(reel: &[u8], trace: usize, byte_number: u32, refusal: Refusal)
     sentence(refusal, &what)
 }
 
-/// A record's refusal under a target code, by 10 to 14. That it is a reel is said first.
+/// A record's refusal under a target code, by 10 to 14. That it is a reel or a listing is said first.
 pub fn of_record(record: &[u8], code: u32, refusal: Refusal) -> String {
-    if refusal.number == 12 && refusal.beside == 0 && is_reel(record) {
-        return format!(
-            "is a reel, not a record: {}",
-            as_record(record, code, refusal)
-        );
-    }
-    as_record(record, code, refusal)
+    let kind = match (refusal.number, refusal.beside) {
+        (12, 0) if is_reel(record) => "is a reel, not a record: ",
+        (12, 0) if exact(record).is_some() => "is a listing, not a record: ",
+        _ => "",
+    };
+    format!("{kind}{}", as_record(record, code, refusal))
 }
 
 fn as_record(record: &[u8], code: u32, refusal: Refusal) -> String {
@@ -120,10 +119,21 @@ fn as_record(record: &[u8], code: u32, refusal: Refusal) -> String {
 }
 
 /// A listing's refusal, by 17. Each of its lines has 80 columns or more.
-pub fn of_listing(lines: &[Vec<u8>], refusal: Refusal) -> String {
+pub fn of_listing(listing: &Edited, refusal: Refusal) -> String {
+    let lines = &listing.lines;
     let beside = match lines.iter().map(|line| line.len() + 1).sum() {
         LISTING_LENGTH => format!("place {}", refusal.beside),
-        _ => format!("{} characters, not {LISTING_LENGTH}", refusal.beside),
+        _ => {
+            let filled = if listing.filled > 0 {
+                " once its lines are filled"
+            } else {
+                ""
+            };
+            format!(
+                "{} characters{filled}, not {LISTING_LENGTH}",
+                refusal.beside
+            )
+        }
     };
     let what = match lines.iter().position(|line| line.len() > COLUMNS) {
         Some(i) => format!(
