@@ -54,8 +54,7 @@ takeCauses r listing room = then (formCauses r) (then (listingCauses listing) (r
 abbrev pub takenNumbers : List ℕ → List ℕ
 takenNumbers r = heldCount r (heldSamples r) ∷ heldSamples r ∷ length r ∷ []
 
--- Taken, the record with the text x stands at the output's front, and the rest keeps
--- its content; refused, the output is left as it was.
+-- Taken, the record with the text x stands at the output's front, and the rest keeps its content; refused, the output is left as it was.
 abbrev pub takeEnd : List ℕ → List ℕ → List ℕ → Check → Outcome
 takeEnd r x out check.Fine =
     record {

@@ -9,8 +9,8 @@
 --
 -- - `page-one-to-one`: each character appears in code page 037 just once.
 -- - `lines-listed`: where listing is taken, the output's first 3,240 bytes are the 40 lines, character by character.
--- - `record-taken`: where taking back is taken, it returns T, N and the length of a valid record, which has the listing's text, the character of the
---   code 00 as a blank, and all else byte for byte as it was.
+-- - `record-taken`: where taking back is taken, it returns T, N and the length of a valid record, which has the listing's text, the character of
+--   the code 00 as a blank, and all else byte for byte as it was.
 -- - `listed-text`: the text of a valid record, listed and taken back into any valid record, is that text.
 -- - `listed-back`: into the record itself, it gives that record, byte for byte.
 -- - `list-ends`, `list-refused`, `list-taken`, `list-keeps`, `list-rest`, and the same of taking back: demand 1 for both calls.

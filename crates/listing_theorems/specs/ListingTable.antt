@@ -1,5 +1,6 @@
--- The table of causes for both calls on listings, of which document 02 sets 17 and document 01 the others, in the order in which they are looked for. A row says in which case it applies, its
--- number, and what stands beside it; as the order sets, it applies only where no row before it does.
+-- The table of causes for both calls on listings, of which document 02 sets 17 and document 01 the others, in the order in which they are
+-- looked for. A row says in which case it applies, its number, and what stands beside it; as the order sets, it applies only where no row
+-- before it does.
 use mathlib.Core.Path.{_≡_}
 use mathlib.Core.List.{List}
 use Prim.Native.Nat.{ℕ, _+_, _*_, _<_}
