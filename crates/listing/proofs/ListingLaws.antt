@@ -1,6 +1,6 @@
 -- The lengths of a listing and of its text, and the table of card bytes that the way back uses. Assumes nothing.
 use mathlib.Core.Path.{_≡_, refl, sym, ap, ap₂, _∙_}
-use mathlib.Core.List.{List, [], _∷_, _++_, map}
+use mathlib.Core.List.{List, [], _∷_, _++_, map, append-nil}
 use Prim.Native.Nat.{ℕ, zero, suc, _+_, _-_, _*_, _≤_, _<_}
 use native.Mathlib.Nat.{not-suc-le-zero}
 use native.Mathlib.Omega.{arith}
@@ -11,7 +11,7 @@ use lib.Seq.{take-all}
 use Rattle.numbers.specs.Walk.{walk, flat, bytesAt, overwritten}
 use Rattle.numbers.specs.First.{first}
 use Rattle.numbers.specs.Terms.{All, Bytes}
-use Rattle.numbers.proofs.WalkLaws.{cons-eq, walk-same, walk-at, map-walk, size-walk, flat-length, size-bytes, bytes-part}
+use Rattle.numbers.proofs.WalkLaws.{cons-eq, walk-same, walk-at, map-walk, flat-length, size-bytes, bytes-part}
 use Rattle.numbers.proofs.AllLaws.{map-same}
 use Rattle.numbers.proofs.ByteLaws.{bytes-at}
 use Rattle.numbers.proofs.FirstLaws.{found}
@@ -20,35 +20,45 @@ use Rattle.reel.specs.Layout.{cardBytes}
 use Rattle.reel.specs.Meaning.{blank}
 use Rattle.record.specs.Form.{fieldHead, binaryPlace}
 use Rattle.code_page.specs.Page.{charOf, codeIn, inverse}
-use Rattle.listing.specs.Listing.{cardCount, cardLength, lineLength, listingLength, cardStarts, lineStarts, cardLine, listingOf, cardByte, cardOf, textOf, withText}
-use Rattle.listing.specs.Parts.{entryOf, cardBy, textBy}
+use Rattle.listing.specs.Listing.{cardCount, cardLength, lineLength, listingLength, cardLine, listingOf, cardByte, cardOf, textOf, withText}
+use Rattle.listing.specs.Parts.{entryOf, closing, partBy, partsBy, textBy}
 
 -- ## Lengths
 
--- A line has 81 bytes, and a listing 3,240.
+-- What a function gives of each of 80 bytes is 80 bytes.
+pub size-card : (f : ℕ → ℕ) (s : List ℕ) (p : ℕ) → length (map f (bytesAt s p cardLength)) ≡ cardLength
+size-card f s p = length-map (bytesAt s p cardLength) f ∙ size-bytes s p cardLength
+
+-- A part has as many bytes as it is to have, and so have 40 of them.
+pub size-part : (table : List ℕ) (size : ℕ) (s : List ℕ) → cardLength + length (closing size) ≡ size → (p : ℕ) → length (partBy table size s p) ≡ size
+unfolding partBy
+size-part table size s h p =
+    length-append (map (entryOf table) (bytesAt s p cardLength)) (closing size)
+    ∙ ap (λ (n : ℕ). n + length (closing size)) (size-card (entryOf table) s p) ∙ h
+
+pub size-parts : (table : List ℕ) (from size : ℕ) (s : List ℕ) → cardLength + length (closing size) ≡ size → length (partsBy table from size s) ≡ cardCount * size
+unfolding partsBy
+size-parts table from size s h = flat-length (partBy table size s) (λ p. p) size (size-part table size s h) from cardCount 0
+
+-- The lines of cards are such parts, and a listing is 40 of them.
+pub listing-parts : (t text : List ℕ) → partsBy t cardLength lineLength text ≡ listingOf t text
+unfolding partsBy partBy listingOf cardLine
+listing-parts t text = refl
+
 pub size-line : (t text : List ℕ) (p : ℕ) → length (cardLine t text p) ≡ lineLength
-unfolding cardLine
-size-line t text p = simp (length-append, length-map, size-bytes text p cardLength) (omega arith)
+unfolding partBy cardLine
+size-line t text = size-part t lineLength text refl
 
 pub size-listing : (t text : List ℕ) → length (listingOf t text) ≡ listingLength
-unfolding listingOf
-size-listing t text = flat-length (cardLine t text) (λ p. p) lineLength (size-line t text) cardLength cardCount 0
+size-listing t text = ap length (sym (listing-parts t text)) ∙ size-parts t cardLength lineLength text refl
 
--- What a function gives of each of a line's 80 characters is 80 bytes, and of each line of a listing 3,200.
-pub size-card : (f : ℕ → ℕ) (listing : List ℕ) (p : ℕ) → length (map f (bytesAt listing p cardLength)) ≡ cardLength
-size-card f listing p = length-map (bytesAt listing p cardLength) f ∙ size-bytes listing p cardLength
-
-pub size-cards : (f : ℕ → ℕ) (listing : List ℕ) → length (flat (map (λ p. map f (bytesAt listing p cardLength)) lineStarts)) ≡ cardBytes
-size-cards f listing = flat-length (λ p. map f (bytesAt listing p cardLength)) (λ p. p) cardLength (size-card f listing) lineLength cardCount 0
-
--- So a text has 3,200 bytes, by either kind of table.
+-- A text has 3,200 bytes, by either kind of table.
 pub size-by : (bytes listing : List ℕ) → length (textBy bytes listing) ≡ cardBytes
-unfolding textBy
-size-by bytes listing = size-cards (entryOf bytes) listing
+size-by bytes listing = size-parts bytes lineLength cardLength listing refl
 
 pub size-text : (t listing : List ℕ) → length (textOf t listing) ≡ cardBytes
 unfolding textOf cardOf
-size-text t listing = size-cards (cardByte t) listing
+size-text t listing = flat-length (cardOf t listing) (λ p. p) cardLength (size-card (cardByte t) listing) lineLength cardCount 0
 
 -- A record with another text, part by part: tag 01 and its length, the text, and all that stands behind it.
 pub text-parts : (r text : List ℕ) → binaryPlace ≤ length r → length text ≡ cardBytes
@@ -62,14 +72,11 @@ text-parts r text h n =
     let at : fieldHead + length text ≡ binaryPlace = omega arith in
     ap₂ (λ (x y : List ℕ). x ++ (text ++ y)) front (ap (λ (p : ℕ). drop p r) at ∙ behind)
 
--- Nothing of a listing is written, or nothing of a text: all its parts are left.
-pub listing-begun : (t text out : List ℕ) → length out ≡ listingLength → Filling (listingOf t text) out 0 (flat (map (cardLine t text) cardStarts))
-unfolding listingOf
-listing-begun t text out h = start (listingOf t text) out (h ∙ sym (size-listing t text))
-
-pub text-begun : (bytes listing out : List ℕ) → length out ≡ cardBytes → Filling (textBy bytes listing) out 0 (flat (map (cardBy bytes listing) lineStarts))
-unfolding textBy
-text-begun bytes listing out h = start (textBy bytes listing) out (h ∙ sym (size-by bytes listing))
+-- Nothing of the parts is written: all are left.
+pub parts-begun : (table : List ℕ) (from size : ℕ) (s out : List ℕ) → cardLength + length (closing size) ≡ size → length out ≡ cardCount * size
+    → Filling (partsBy table from size s) out 0 (flat (map (partBy table size s) (walk (λ p. p) from cardCount 0)))
+unfolding partsBy
+parts-begun table from size s out h n = start (partsBy table from size s) out (n ∙ sym (size-parts table from size s h))
 
 -- ## The table of card bytes
 
@@ -125,21 +132,19 @@ entry-is t c h =
     let z : 0 + c * 1 ≡ c = omega arith in
     ap (λ (l : List ℕ). getD l c 0) (map-walk blank (codeIn t) 1 256 0) ∙ walk-at (cardByte t) 1 256 0 c h ∙ ap (cardByte t) z
 
-pub size-entries : (t : List ℕ) → length (cardBytesOf t) ≡ 256
-unfolding inverse cardBytesOf
-size-entries t = length-map (walk (codeIn t) 1 256 0) blank ∙ size-walk (codeIn t) 1 256 0
-
 -- The text of a listing by that table is its text by the table t.
 pub text-by : (t listing : List ℕ) → Bytes listing → textBy (cardBytesOf t) listing ≡ textOf t listing
-unfolding textBy textOf cardOf
+unfolding partsBy partBy textOf cardOf
 text-by t listing b =
     ap flat
-    (map-walk (cardBy (cardBytesOf t) listing) (λ p. p) lineLength cardCount 0
-    ∙ walk-same (cardBy (cardBytesOf t) listing) (cardOf t listing) lineLength lineLength cardCount 0 0 (λ j l. same (0 + j * lineLength))
+    (map-walk (partBy (cardBytesOf t) cardLength listing) (λ p. p) lineLength cardCount 0
+    ∙ walk-same (partBy (cardBytesOf t) cardLength listing) (cardOf t listing) lineLength lineLength cardCount 0 0 (λ j l. same (0 + j * lineLength))
     ∙ sym (map-walk (cardOf t listing) (λ p. p) lineLength cardCount 0))
   where
-    same : (p : ℕ) → cardBy (cardBytesOf t) listing p ≡ cardOf t listing p
-    same p = map-same (entryOf (cardBytesOf t)) (cardByte t) (bytesAt listing p cardLength) (each (bytesAt listing p cardLength) (bytes-at listing b p cardLength))
+    same : (p : ℕ) → partBy (cardBytesOf t) cardLength listing p ≡ cardOf t listing p
+    same p =
+        append-nil (map (entryOf (cardBytesOf t)) (bytesAt listing p cardLength))
+        ∙ map-same (entryOf (cardBytesOf t)) (cardByte t) (bytesAt listing p cardLength) (each (bytesAt listing p cardLength) (bytes-at listing b p cardLength))
       where
         each : (l : List ℕ) → Bytes l → All (λ c. entryOf (cardBytesOf t) c ≡ cardByte t c) l
         each [] h = tt

@@ -1,18 +1,17 @@
 // The listing of a record's cards, and the way back. The functions inside are lent the table that they use: of the character of each
 // code, or of the card byte of each character. Each that puts something is lent exactly the bytes that it writes.
 ghost use mathlib.Core.Path.{_≡_};
-ghost use mathlib.Core.List.{_++_, _∷_, [], map};
-ghost use Prim.Native.Nat.{_≤_};
+ghost use mathlib.Core.List.{_++_, map};
+ghost use Prim.Native.Nat.{_+_, _*_, _≤_};
 ghost use lib.ListN.{length, set};
 ghost use Rattle.numbers.specs.Walk.{walk};
 ghost use Rattle.numbers.specs.Cause.{firstOf};
 ghost use Rattle.record.specs.Form.{binaryPlace, formCauses, recordJudged};
 ghost use Rattle.record.specs.Answer.{outcome};
-ghost use Rattle.reel.specs.Layout.{cardBytes};
-ghost use Rattle.code_page.specs.Page.{charOf, latin};
-ghost use Rattle.listing.specs.Listing.{cardCount, cardLength, lineLength, listingLength, lineFeed, listingOf, withText, lineCause, listingCauses};
+ghost use Rattle.code_page.specs.Page.{latin};
+ghost use Rattle.listing.specs.Listing.{cardCount, cardLength, lineLength, listingLength, withText, lineCause, listingCauses};
 ghost use Rattle.listing.specs.Calls.{listed, listOutcome, takeOutcome};
-ghost use Rattle.listing.specs.Parts.{entryOf, textBy, takeBy};
+ghost use Rattle.listing.specs.Parts.{entryOf, closing, partsBy, textBy, takeBy};
 use numbers::Check;
 use numbers::Place;
 use record::Answer;
@@ -44,27 +43,31 @@ fn put_entries(table: &[u8], src: &[u8], out: &mut [u8])
     }
 }
 
-// The line of a card: its characters, closed by a line feed.
-fn put_line(table: &[u8], card: &[u8], out: &mut [u8])
-    requires { ⌜ (length (now table) ≡ 256) × (length (now card) ≡ cardLength) × (length (now out) ≡ lineLength) ⌝ }
-    ensures { λ _. ⌜ now (out .exit) ≡ map (charOf (now (table .entry))) (now (card .entry)) ++ lineFeed ∷ [] ⌝ }
+// A part of 80 bytes, or of 81: the entries of a table for 80 bytes, closed by a line feed where there is room for one.
+fn put_part(table: &[u8], src: &[u8], out: &mut [u8])
+    requires { ⌜ (length (now table) ≡ 256) × (length (now src) ≡ cardLength) × (cardLength + length (closing (length (now out))) ≡ length (now out)) ⌝ }
+    ensures { λ _. ⌜ now (out .exit) ≡ map (entryOf (now (table .entry))) (now (src .entry)) ++ closing (length (now (out .entry))) ⌝ }
 {
-    put_entries(table, card, &mut out[0..80]);
+    if out.len() <= 80 {
+        put_entries(table, src, out);
+        return;
+    }
+    put_entries(table, src, &mut out[0..80]);
     out[80] = 0x0a;
 }
 
-// The listing of a text, which fills out.
-fn put_listing(table: &[u8], text: &[u8], out: &mut [u8])
-    requires { ⌜ (length (now table) ≡ 256) × (length (now text) ≡ cardBytes) × (length (now out) ≡ listingLength) ⌝ }
-    ensures { λ _. ⌜ now (out .exit) ≡ listingOf (now (table .entry)) (now (text .entry)) ⌝ }
+// 40 parts, which fill out, of bytes that stand `from` apart: the lines of cards, or the cards of lines.
+fn put_parts(table: &[u8], src: &[u8], from: usize, size: usize, out: &mut [u8])
+    requires { ⌜ (length (now table) ≡ 256) × (cardLength ≤ from) × (from ≤ lineLength) × (size ≤ lineLength) × (cardLength + length (closing size) ≡ size) × (length (now src) ≡ cardCount * from) × (length (now out) ≡ cardCount * size) ⌝ }
+    ensures { λ _. ⌜ now (out .exit) ≡ partsBy (now (table .entry)) from size (now (src .entry)) ⌝ }
 {
     let mut at = 0;
     let mut o = 0;
     let mut left: usize = 40;
     while 0 < left {
-        let e = o + 81;
-        put_line(table, &text[at..at + 80], &mut out[o..e]);
-        at += 80;
+        let e = o + size;
+        put_part(table, &src[at..at + 80], &mut out[o..e]);
+        at += from;
         o = e;
         left -= 1;
     }
@@ -81,7 +84,7 @@ fn list_checked(table: &[u8], record: &[u8], out: &mut [u8]) -> Listed
             place: Place(3240),
         };
     }
-    put_listing(table, &record[3..3203], &mut out[..3240]);
+    put_parts(table, &record[3..3203], 80, 81, &mut out[..3240]);
     Listed::Taken { length: 3240 }
 }
 
@@ -150,23 +153,6 @@ fn card_bytes(codes: [u8; 256], zero: u8) -> [u8; 256]
     bytes
 }
 
-// The text of a listing, which fills out.
-fn put_text(bytes: &[u8], listing: &[u8], out: &mut [u8])
-    requires { ⌜ (length (now bytes) ≡ 256) × (length (now listing) ≡ listingLength) × (length (now out) ≡ cardBytes) ⌝ }
-    ensures { λ _. ⌜ now (out .exit) ≡ textBy (now (bytes .entry)) (now (listing .entry)) ⌝ }
-{
-    let mut at = 0;
-    let mut o = 0;
-    let mut left: usize = 40;
-    while 0 < left {
-        let e = o + 80;
-        put_entries(bytes, &listing[at..at + 80], &mut out[o..e]);
-        at += 81;
-        o = e;
-        left -= 1;
-    }
-}
-
 // The record with the text of a listing, which fills out.
 fn put_record(bytes: &[u8], record: &[u8], listing: &[u8], out: &mut [u8])
     requires { ⌜ (length (now bytes) ≡ 256) × (binaryPlace ≤ length (now «record»)) × (length (now listing) ≡ listingLength) × (length (now out) ≡ length (now «record»)) ⌝ }
@@ -174,7 +160,7 @@ fn put_record(bytes: &[u8], record: &[u8], listing: &[u8], out: &mut [u8])
 {
     let e = record.len();
     slices::copy(&record[0..3], &mut out[0..3]);
-    put_text(bytes, listing, &mut out[3..3203]);
+    put_parts(bytes, listing, 81, 80, &mut out[3..3203]);
     slices::copy(&record[3203..e], &mut out[3203..e]);
 }
 

@@ -1,6 +1,9 @@
 -- `listing::list_checked` meets its contract. Assumes nothing.
 use Rattle.listing.proofs.EndLaws.{long, list-short, list-taken}
-use Rattle.listing.specs.Listing.{listingLength, listingOf}
+use Rattle.listing.proofs.ListingLaws.{listing-parts}
+use Rattle.listing.specs.Listing.{cardLength, lineLength, listingLength}
+use Rattle.listing.specs.Parts.{partsBy}
+use Rattle.numbers.specs.Walk.{bytesAt}
 use Rattle.record.specs.Form.{fieldHead, binaryPlace}
 use Rattle.reel.specs.Layout.{cardBytes}
 use Rattle.numbers.proofs.WalkLaws.{bytes-between, size-bytes}
@@ -15,24 +18,24 @@ use Rattle.listing.proofs.list_checked.Tie as tie
 returns : tie.Need-returns
 returns c = let s = c .before .before .before .before in list-short (s .args .table .now) (s .args .«record» .now) (s .args .out .now) (s .pre .1) (c .if1 .taken)
 
-part-put-listing-end : tie.Need-part-put-listing-end
-part-put-listing-end c = let s = c .before .before .before .before in omega (arith, long (s .args .«record» .now) (s .pre .1))
+part-put-parts-end : tie.Need-part-put-parts-end
+part-put-parts-end c = let s = c .before .before .before .before in omega (arith, long (s .args .«record» .now) (s .pre .1))
 
-slice-aggregate-put-listing : tie.Need-slice-aggregate-put-listing
-slice-aggregate-put-listing c = sym (length-take-le listingLength (c .before .before .before .before .before .before .args .out .now) (c .before .before .if1 .left))
+slice-aggregate-put-parts : tie.Need-slice-aggregate-put-parts
+slice-aggregate-put-parts c = sym (length-take-le listingLength (c .before .before .before .before .before .before .args .out .now) (c .before .before .if1 .left))
 
-put-listing-requires : tie.Need-put-listing-requires
-put-listing-requires c κs =
+put-parts-requires : tie.Need-put-parts-requires
+put-parts-requires c κs =
     let s = c .before .before .before .before .before .before in
     let r = s .args .«record» .now in
-    (s .pre .0, ap length (bytes-between r fieldHead binaryPlace cardBytes (long r (s .pre .1)) refl) ∙ size-bytes r fieldHead cardBytes, length-take-le listingLength (s .args .out .now) (c .before .before .if1 .left))
+    (s .pre .0, omega arith, omega arith, omega arith, refl, ap length (bytes-between r fieldHead binaryPlace cardBytes (long r (s .pre .1)) refl) ∙ size-bytes r fieldHead cardBytes, length-take-le listingLength (s .args .out .now) (c .before .before .if1 .left))
 
 returns-2 : tie.Need-returns-2
 returns-2 c =
     let s = c .before .before .before .before .before .before .before .before .before in
     let a = s .args in
     let r = a .«record» .now in
-    list-taken (a .table .now) r (a .out .now) (s .pre .1) (c .before .before .before .before .before .if1 .left) _ (c .before .before .put-listing .ensures ∙ ap (listingOf (a .table .now)) (bytes-between r fieldHead binaryPlace cardBytes (long r (s .pre .1)) refl))
+    list-taken (a .table .now) r (a .out .now) (s .pre .1) (c .before .before .before .before .before .if1 .left) _ (c .before .before .put-parts .ensures ∙ ap (partsBy (a .table .now) cardLength lineLength) (bytes-between r fieldHead binaryPlace cardBytes (long r (s .pre .1)) refl) ∙ listing-parts (a .table .now) (bytesAt r fieldHead cardBytes))
 
 pub list-checked-spec : {M : Type 1} → statement M
 list-checked-spec =
@@ -41,9 +44,9 @@ list-checked-spec =
     returns
     (λ c. search needs)
     (λ c. search needs)
-    part-put-listing-end
+    part-put-parts-end
     (λ c. c .before .if1 .left)
-    slice-aggregate-put-listing
-    put-listing-requires
+    slice-aggregate-put-parts
+    put-parts-requires
     (λ c. search needs)
     returns-2)

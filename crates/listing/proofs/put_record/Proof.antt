@@ -30,7 +30,7 @@ returns c =
     let whole : length (a .out .now) ≡ length (x ++ (y ++ z)) = s .pre .3 ∙ sym (size-over r y fieldHead (omega (arith, y-size, s .pre .1))) ∙ ap length parts in
     let w₀ = start _ (a .out .now) whole in
     let w₁ = lend x (y ++ z) fieldHead w₀ (omega arith) (size-bytes r 0 fieldHead) (copied _ _ (front .copy .ensures) (omega (arith, front .before .before .copy-arg .given .2, front .before .copy-arg2 .given .2)) ∙ bytes-between r 0 fieldHead fieldHead (omega (arith, s .pre .1)) refl) in
-    let w₂ = lend y z binaryPlace w₁ (omega arith) y-size (text .put-text .ensures) in
+    let w₂ = lend y z binaryPlace w₁ (omega arith) y-size (text .put-parts .ensures) in
     close z (length r) w₂ (s .pre .1) (size-bytes r binaryPlace (length r - binaryPlace)) (copied _ _ (behind .copy2 .ensures) (omega (arith, behind .before .before .copy-arg3 .given .2, behind .before .copy-arg4 .given .2)) ∙ bytes-between r binaryPlace (length r) (length r - binaryPlace) (omega arith) (omega (arith, s .pre .1))) ∙ sym parts
 
 pub put-record-spec : {M : Type 1} → statement M
