@@ -9,15 +9,16 @@ use borrow.Author.Tests.{leb-true, ne-eqb, ltb-false}
 use lib.Dec.{T, leb, ltb, eqb}
 use lib.ListN.{length}
 use Rattle.numbers.specs.Walk.{pick, walk}
-use Rattle.numbers.specs.Cause.{refuseIf, firstOf}
+use Rattle.numbers.specs.Cause.{refuseIf, then, firstOf}
+use Rattle.numbers.specs.Places.{bytePlace}
 use Rattle.numbers.specs.declared.Check.the-variants.{Fine, Refused}
-use Rattle.numbers.proofs.CauseLaws.{passed, then-fine}
+use Rattle.numbers.proofs.CauseLaws.{then-assoc, passed, then-fine}
 use Rattle.value.specs.Value.{isCode, exactValue}
 use Rattle.sample.specs.Reading.{badGain, readWord, pairTaken}
 use Rattle.sample.specs.declared.Sample.the-variants as sample
-use Rattle.reel.specs.Layout.{firstTrace, samplesOf, codeOf, intervalOf, sampleBytes, stride, strideOf, overIn, tracesOf}
-use Rattle.reel.specs.Parts.{wordRefused}
-use Rattle.reel.specs.Causes.{mostSamples, mostTraces, within, limitCauses, sizeCauses, wordCause, traceCauses, behindCauses, causesOf}
+use Rattle.reel.specs.Layout.{firstTrace, traceHeader, elevationScalar, coordinateScalar, number16, samplesOf, codeOf, intervalOf, sampleBytes, stride, strideOf, overIn, tracesOf}
+use Rattle.reel.specs.Parts.{wordRefused, headCauses}
+use Rattle.reel.specs.Causes.{mostSamples, mostTraces, within, neither, limitCauses, sizeCauses, scalarCause, wordCause, traceCauses, behindCauses, causesOf}
 
 -- ## Rows
 
@@ -33,6 +34,23 @@ gain-refused w at = go (badGain 4 w) (exactValue 4 w)
 pub no-gain : (s : List ℕ) (code : ℕ) → (code ≡ 4 → ⊥) → (w k at : ℕ) → firstOf (walk (wordCause s code) w k at) ≡ Fine
 no-gain s code h w zero at = refl
 no-gain s code h w (suc k) at = rw (ne-eqb code 4 h) (no-gain s code h w k (at + w))
+
+-- ## A trace
+
+-- its causes are those of its header, and then those of its words
+pub trace-parts : (s : List ℕ) (code n i at : ℕ) → traceCauses s code n i at ≡ then (headCauses s n i at) (firstOf (walk (wordCause s code) (sampleBytes code) n (at + traceHeader)))
+unfolding traceCauses headCauses
+trace-parts s code n i at =
+    let a = refuseIf (neither (number16 s (bytePlace at 115)) n) 7 (bytePlace at 115) in
+    let b = refuseIf (neither (number16 s (bytePlace at 117)) i) 8 (bytePlace at 117) in
+    let c = scalarCause s at elevationScalar in
+    let d = scalarCause s at coordinateScalar in
+    let w = firstOf (walk (wordCause s code) (sampleBytes code) n (at + traceHeader)) in
+    sym (then-assoc a (then b (then c d)) w ∙ ap (then a) (then-assoc b (then c d) w ∙ ap (then b) (then-assoc c d w)))
+
+-- so where it has none, its words have none
+pub words-fine : (s : List ℕ) (code n i at : ℕ) → traceCauses s code n i at ≡ Fine → firstOf (walk (wordCause s code) (sampleBytes code) n (at + traceHeader)) ≡ Fine
+words-fine s code n i at e = then-fine (headCauses s n i at) _ (sym (trace-parts s code n i at) ∙ e) .1
 
 -- ## Codes
 

@@ -1,4 +1,5 @@
--- The causes 1 to 9 against a reel, in the order of document 01's table, each with what stands beside it.
+-- The causes 1 to 9 and 18 against a reel, in the order of document 01's table and, for 18, of document 02 (CR 2), each with what stands
+-- beside it.
 use Prim.Native.Nat.{ℕ, _+_, _-_, _*_}
 use mathlib.Core.List.{List, [], _∷_}
 use mathlib.Core.Bool.{Bool, not, _&&_}
@@ -12,8 +13,9 @@ use Rattle.numbers.specs.declared.Check.the-variants.{Fine, Refused}
 use Rattle.reel.specs.declared.Judged.{Judged}
 use Rattle.reel.specs.declared.Judged.the-variants as variant
 use Rattle.value.specs.Value.{isCode}
+use Rattle.scalars.specs.Scalar.{isScalar}
 use Rattle.sample.specs.Reading.{badGain}
-use Rattle.reel.specs.Layout.{firstTrace, traceHeader, number16, intervalOf, samplesOf, codeOf, sampleBytes, strideOf, wholeIn, overIn, tracesOf}
+use Rattle.reel.specs.Layout.{Field, firstTrace, traceHeader, elevationScalar, coordinateScalar, fieldNumber, number16, intervalOf, samplesOf, codeOf, sampleBytes, strideOf, wholeIn, overIn, tracesOf}
 
 -- The most samples of a trace, and the most traces of a reel.
 abbrev pub mostSamples : ℕ
@@ -52,24 +54,31 @@ sizeCauses size w t over =
     ∷ refuseIf (ltb mostTraces t) 6 (firstTrace + mostTraces * w)
     ∷ [])
 
+-- 18: a scalar, the field f of the trace at the place `at`, that isn't allowed.
+abbrev pub scalarCause : List ℕ → ℕ → Field → Check
+scalarCause s at f = refuseIf (not (isScalar (fieldNumber s at f))) 18 (bytePlace at (f .begins))
+
 -- 9: the first byte of a gain word not 00.
 abbrev pub wordCause : List ℕ → ℕ → ℕ → Check
 wordCause s code at = refuseIf (badGain code (bytesAt s at 4)) 9 at
 
--- 7, 8, then 9 at the first such word, of the trace at the place `at`, in a reel of n samples a trace, interval i and code `code`.
+-- 7, 8, 18 for field 69, 18 for field 71, then 9 at the first such word, of the trace at the place `at`, in a reel of n samples a trace,
+-- interval i and code `code`.
 unfoldable pub traceCauses : List ℕ → ℕ → ℕ → ℕ → ℕ → Check
 traceCauses s code n i at =
     then (refuseIf (neither (number16 s (bytePlace at 115)) n) 7 (bytePlace at 115))
     (then (refuseIf (neither (number16 s (bytePlace at 117)) i) 8 (bytePlace at 117))
-    (firstOf (walk (wordCause s code) (sampleBytes code) n (at + traceHeader))))
+    (then (scalarCause s at elevationScalar)
+    (then (scalarCause s at coordinateScalar)
+    (firstOf (walk (wordCause s code) (sampleBytes code) n (at + traceHeader))))))
 
--- 5 and 6, then trace by trace 7, 8, 9, of traces of w bytes.
+-- 5 and 6, then trace by trace 7, 8, 18, 9, of traces of w bytes.
 unfoldable pub behindCauses : List ℕ → ℕ → ℕ → ℕ → ℕ → Check
 behindCauses s code n i w =
     then (sizeCauses (length s) w (wholeIn (length s) w) (overIn (length s) w))
     (firstOf (walk (traceCauses s code n i) w (wholeIn (length s) w) firstTrace))
 
--- 1 to 6 in that order; then trace by trace 7, 8, 9.
+-- 1 to 6 in that order; then trace by trace 7, 8, 18, 9.
 unfoldable pub causesOf : List ℕ → Check
 causesOf s =
     then (refuseIf (ltb (length s) firstTrace) 1 (length s))

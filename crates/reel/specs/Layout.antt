@@ -50,6 +50,13 @@ traceWidths =
 unfoldable pub traceFields : List Field
 traceFields = fieldsFrom 1 traceWidths
 
+-- Field 69, the scalar of the elevations, and field 71, that of the coordinates.
+abbrev pub elevationScalar : Field
+elevationScalar = record { begins = 69; width = 2 }
+
+abbrev pub coordinateScalar : Field
+coordinateScalar = record { begins = 71; width = 2 }
+
 -- The signed number in a field of a header whose byte number 1 stands at the place `start`.
 abbrev pub fieldNumber : List ℕ → ℕ → Field → ℤ
 fieldNumber s start f = signedOf (8 * f .width) (number (bytesAt s (bytePlace start (f .begins)) (f .width)))

@@ -4,9 +4,12 @@ use mathlib.Core.Path.{_≡_}
 use mathlib.Core.List.{List, [], _∷_, _++_, map}
 use lib.Dec.{eqb}
 use lib.IntN.{ℤ, pos, natAbs}
+use lib.ListN.{length}
 use Rattle.numbers.specs.Walk.{pick, walk, bytesAt}
 use Rattle.value.specs.Value.{exactValue}
-use Rattle.reel.specs.Layout.{Field, cardBytes, firstTrace, traceHeader, binaryFields, traceFields, fieldNumber, intervalOf, samplesOf, codeOf, sampleBytes, strideOf, tracesOf}
+use Rattle.scalars.specs.Scalar.{scaledValues}
+use Rattle.reel.specs.Layout.{Field, cardBytes, firstTrace, traceHeader, binaryFields, traceFields, elevationScalar, coordinateScalar, fieldNumber, intervalOf, samplesOf, codeOf, sampleBytes, strideOf, tracesOf}
+use Rattle.reel.specs.Causes.{within}
 
 -- A card byte 00 is taken as the EBCDIC blank 40, which is 64.
 abbrev pub blank : ℕ → ℕ
@@ -35,15 +38,51 @@ traceNumber s n i at f =
     pick (eqb (f .begins) 115) (filled n (fieldNumber s at f))
     (pick (eqb (f .begins) 117) (filled i (fieldNumber s at f)) (fieldNumber s at f))
 
--- What a trace means: the numbers of its 71 fields, and the N exact values of its samples under the reel's format code.
-pub record Trace : Type 0 where
+-- "Field 69 acts on fields 41 to 65, and field 71 on fields 73 to 85" (document 02, CR 2): the fields that begin at a byte number from a to
+-- b, and those that don't. From 41 to 85 no other field begins: the scalars 69 and 71 stand between the two groups.
+abbrev pub fieldsWithin : ℕ → ℕ → List Field → List Field
+fieldsWithin a b [] = []
+fieldsWithin a b (f ∷ fs) = pick (within a b (f .begins)) (f ∷ []) [] ++ fieldsWithin a b fs
+
+abbrev pub fieldsOutside : ℕ → ℕ → List Field → List Field
+fieldsOutside a b [] = []
+fieldsOutside a b (f ∷ fs) = pick (within a b (f .begins)) [] (f ∷ []) ++ fieldsOutside a b fs
+
+-- The seven elevations, the four coordinates, and the 58 fields that no scalar acts on and that are none.
+unfoldable pub elevationFields : List Field
+elevationFields = fieldsWithin 41 65 traceFields
+
+unfoldable pub coordinateFields : List Field
+coordinateFields = fieldsWithin 73 85 traceFields
+
+unfoldable pub bareFields : List Field
+bareFields = fieldsOutside 41 85 traceFields
+
+-- What a trace header means: the numbers of the 58 bare fields, and the scaled values of the elevations and of the coordinates, whole
+-- numbers over 10,000. "69 and 71 themselves no longer count."
+pub record Header : Type 0 where
   pub numbers : List ℤ
+  pub elevations : List ℤ
+  pub coordinates : List ℤ
+
+-- What a header means, by the number of each of its fields.
+unfoldable pub headerOf : (Field → ℤ) → Header
+headerOf number =
+    record {
+      numbers = map number bareFields;
+      elevations = scaledValues (number elevationScalar) (map number elevationFields);
+      coordinates = scaledValues (number coordinateScalar) (map number coordinateFields);
+    }
+
+-- What a trace means: its header, and the N exact values of its samples under the reel's format code.
+pub record Trace : Type 0 where
+  pub header : Header
   pub values : List ℤ
 
 unfoldable pub traceMeaning : List ℕ → ℕ → ℕ → ℕ → ℕ → Trace
 traceMeaning s code n i at =
     record {
-      numbers = map (traceNumber s n i at) traceFields;
+      header = headerOf (traceNumber s n i at);
       values = walk (λ p. exactValue code (bytesAt s p 4)) (sampleBytes code) n (at + traceHeader);
     }
 
@@ -61,10 +100,17 @@ meaningOf s =
       traces = walk (traceMeaning s (codeOf s) (samplesOf s) (intervalOf s)) (strideOf s) (tracesOf s) firstTrace;
     }
 
--- Two reels to which no cause of 1 to 9 applies mean the same when card text, header numbers, T and sample values all agree.
-pub record MeanTheSame (s₁ s₂ : List ℕ) : Type 0 where
-  pub cards : cardText s₁ ≡ cardText s₂
-  pub binary : binaryNumbers s₁ ≡ binaryNumbers s₂
-  pub count : tracesOf s₁ ≡ tracesOf s₂
-  pub numbers : map (λ (t : Trace). t .numbers) (meaningOf s₁ .traces) ≡ map (λ (t : Trace). t .numbers) (meaningOf s₂ .traces)
-  pub values : map (λ (t : Trace). t .values) (meaningOf s₁ .traces) ≡ map (λ (t : Trace). t .values) (meaningOf s₂ .traces)
+-- Two meanings are the same when card text, header numbers, T, the scaled values of elevations and coordinates, and sample values all
+-- agree. N is one of the header numbers.
+pub record SameMeaning (m₁ m₂ : Meaning) : Type 0 where
+  pub cards : m₁ .cards ≡ m₂ .cards
+  pub binary : m₁ .binary ≡ m₂ .binary
+  pub count : length (m₁ .traces) ≡ length (m₂ .traces)
+  pub numbers : map (λ (t : Trace). t .header .numbers) (m₁ .traces) ≡ map (λ (t : Trace). t .header .numbers) (m₂ .traces)
+  pub elevations : map (λ (t : Trace). t .header .elevations) (m₁ .traces) ≡ map (λ (t : Trace). t .header .elevations) (m₂ .traces)
+  pub coordinates : map (λ (t : Trace). t .header .coordinates) (m₁ .traces) ≡ map (λ (t : Trace). t .header .coordinates) (m₂ .traces)
+  pub values : map (λ (t : Trace). t .values) (m₁ .traces) ≡ map (λ (t : Trace). t .values) (m₂ .traces)
+
+-- Two reels to which no cause of 1 to 9 and 18 applies mean the same when their meanings are the same.
+abbrev pub MeanTheSame : List ℕ → List ℕ → Type 0
+MeanTheSame s₁ s₂ = SameMeaning (meaningOf s₁) (meaningOf s₂)

@@ -1,4 +1,4 @@
-// A reel's causes 1 to 9 and its own numbers.
+// A reel's causes, 1 to 9 and 18, and its own numbers.
 ghost use mathlib.Core.Path.{_≡_};
 ghost use Prim.Native.Nat.{_+_, _-_, _*_, _/_, _%_, _^_, _<_, _≤_};
 ghost use lib.ListN.{length};
@@ -8,9 +8,9 @@ ghost use Rattle.numbers.specs.Cause.{refuseIf, then, firstOf};
 ghost use Rattle.numbers.specs.declared.Check.the-variants.{Fine};
 ghost use Rattle.numbers.specs.Places.{placeNo, byteNo, bytePlace};
 ghost use Rattle.value.specs.Value.{isCode};
-ghost use Rattle.reel.specs.Layout.{firstTrace, number16, sampleBytes, stride};
-ghost use Rattle.reel.specs.Causes.{within, neither, limitCauses, sizeCauses, wordCause, traceCauses, behindCauses, causesOf, reelJudged};
-ghost use Rattle.reel.specs.Parts.{wordRefused};
+ghost use Rattle.reel.specs.Layout.{firstTrace, traceHeader, number16, sampleBytes, stride};
+ghost use Rattle.reel.specs.Causes.{within, neither, limitCauses, sizeCauses, scalarCause, wordCause, traceCauses, behindCauses, causesOf, reelJudged};
+ghost use Rattle.reel.specs.Parts.{wordRefused, headCauses};
 use numbers::ByteNo;
 use numbers::Check;
 use numbers::Place;
@@ -54,10 +54,12 @@ pub fn check_limits(n: usize, least: usize, most: usize, number: u8, place: Plac
     Check::Fine
 }
 
-// A cause that applies where a trace's own number, which stands at a place, is neither 0 nor the reel's.
-fn check_own(reel: &[u8], place: Place, own: usize, number: u8) -> Check
-    ensures { λ r. ⌜ r ≡ refuseIf (neither (number16 (now (reel .entry)) (placeNo place)) own) number (placeNo place) ⌝ }
+// A cause that applies where a trace's own number, by the byte number where it begins, is neither 0 nor the reel's.
+fn check_own(reel: &[u8], at: usize, b: ByteNo, own: usize, number: u8) -> Check
+    requires { ⌜ (1 ≤ byteNo b) × (at + byteNo b < length (now reel)) ⌝ }
+    ensures { λ r. ⌜ r ≡ refuseIf (neither (number16 (now (reel .entry)) (bytePlace at (byteNo b))) own) number (bytePlace at (byteNo b)) ⌝ }
 {
+    let place = places::field_at(Place(at), b);
     let n = slices::number16_at(reel, place) as usize;
     if n == 0 {
         return Check::Fine;
@@ -66,6 +68,19 @@ fn check_own(reel: &[u8], place: Place, own: usize, number: u8) -> Check
         return Check::Fine;
     }
     Check::Refused { number, place }
+}
+
+// 18: a scalar of the trace at a place, by the byte number where it begins, that isn't allowed.
+fn check_scalar(reel: &[u8], at: usize, b: ByteNo) -> Check
+    requires { ⌜ (1 ≤ byteNo b) × (at + byteNo b < length (now reel)) ⌝ }
+    ensures { λ r. ⌜ r ≡ scalarCause (now (reel .entry)) at (record { begins = byteNo b; width = 2 }) ⌝ }
+{
+    let place = places::field_at(Place(at), b);
+    let scalar = numbers::signed16(slices::number16_at(reel, place));
+    if scalars::is_scalar(scalar) {
+        return Check::Fine;
+    }
+    Check::Refused { number: 18, place }
 }
 
 // 2, 3 and 4: the format code, N and the interval.
@@ -134,18 +149,34 @@ fn check_gains(reel: &[u8], n: usize, start: usize) -> Check
     Check::Fine
 }
 
-// 7, 8 and 9, of the trace at a place. Only gain words can be refused.
+// 7, 8 and 18, of the trace at a place.
+fn check_head(reel: &[u8], n: usize, i: usize, at: usize) -> Check
+    requires { ⌜ at + traceHeader ≤ length (now reel) ⌝ }
+    ensures { λ r. ⌜ r ≡ headCauses (now (reel .entry)) n i at ⌝ }
+{
+    let a = check_own(reel, at, ByteNo(115), n, 7);
+    let Check::Fine = a else {
+        return a;
+    };
+    let b = check_own(reel, at, ByteNo(117), i, 8);
+    let Check::Fine = b else {
+        return b;
+    };
+    let c = check_scalar(reel, at, ByteNo(69));
+    let Check::Fine = c else {
+        return c;
+    };
+    check_scalar(reel, at, ByteNo(71))
+}
+
+// 7, 8, 18 and 9, of the trace at a place. Only gain words can be refused.
 fn check_trace(reel: &[u8], code: usize, n: usize, i: usize, v: usize, at: usize) -> Check
     requires { ⌜ (v ≡ sampleBytes code) × (at + (240 + n * v) ≤ length (now reel)) ⌝ }
     ensures { λ r. ⌜ r ≡ traceCauses (now (reel .entry)) code n i at ⌝ }
 {
-    let a = check_own(reel, places::field_at(Place(at), ByteNo(115)), n, 7);
+    let a = check_head(reel, n, i, at);
     let Check::Fine = a else {
         return a;
-    };
-    let b = check_own(reel, places::field_at(Place(at), ByteNo(117)), i, 8);
-    let Check::Fine = b else {
-        return b;
     };
     if code == 4 {
         return check_gains(reel, n, at + 240);
@@ -153,7 +184,7 @@ fn check_trace(reel: &[u8], code: usize, n: usize, i: usize, v: usize, at: usize
     Check::Fine
 }
 
-// 7, 8 and 9, trace by trace.
+// 7, 8, 18 and 9, trace by trace.
 fn check_traces(reel: &[u8], code: usize, n: usize, i: usize, v: usize, w: usize, t: usize) -> Check
     requires { ⌜ (v ≡ sampleBytes code) × (w ≡ stride n v) × (3600 + t * w ≤ length (now reel)) ⌝ }
     ensures { λ r. ⌜ r ≡ firstOf (walk (traceCauses (now (reel .entry)) code n i) w t 3600) ⌝ }
@@ -191,7 +222,7 @@ pub fn width_of(code: usize) -> usize
     4
 }
 
-// 5 to 9.
+// 5 to 9 and 18.
 fn check_behind(reel: &[u8], code: usize, n: usize, i: usize, v: usize, w: usize) -> Check
     requires { ⌜ (v ≡ sampleBytes code) × (w ≡ stride n v) × (w ≤ 40000) × (3600 ≤ length (now reel)) ⌝ }
     ensures { λ r. ⌜ r ≡ behindCauses (now (reel .entry)) code n i w ⌝ }
@@ -205,7 +236,7 @@ fn check_behind(reel: &[u8], code: usize, n: usize, i: usize, v: usize, w: usize
     check_traces(reel, code, n, i, v, w, t)
 }
 
-// 2 to 9.
+// 2 to 9 and 18.
 fn check_numbers(reel: &[u8], code: usize, n: usize, i: usize) -> Check
     requires { ⌜ 3600 ≤ length (now reel) ⌝ }
     ensures { λ r. ⌜ r ≡ then (limitCauses code n i) (behindCauses (now (reel .entry)) code n i (stride n (sampleBytes code))) ⌝ }
@@ -218,7 +249,7 @@ fn check_numbers(reel: &[u8], code: usize, n: usize, i: usize) -> Check
     check_behind(reel, code, n, i, v, 240 + n * v)
 }
 
-// The causes 1 to 9.
+// The causes 1 to 9 and 18.
 fn check_causes(reel: &[u8]) -> Check
     ensures { λ r. ⌜ r ≡ causesOf (now (reel .entry)) ⌝ }
 {
@@ -257,7 +288,7 @@ fn own_numbers(reel: &[u8]) -> Judged
     }
 }
 
-// Whether a cause of 1 to 9 applies to a reel, and its own numbers where none does.
+// Whether a cause of 1 to 9 and 18 applies to a reel, and its own numbers where none does.
 pub fn judge_reel(reel: &[u8]) -> Judged
     ensures { λ r. ⌜ r ≡ reelJudged (now (reel .entry)) ⌝ }
 {

@@ -1,0 +1,178 @@
+// Elevations and coordinates with their scalars: the power of a scalar, and a group at the smallest
+// power at which all its numbers are whole and fit 32 signed bits.
+ghost use mathlib.Core.Path.{_≡_};
+ghost use mathlib.Core.List.{[], _∷_};
+ghost use Prim.Native.Nat.{_+_, _*_, _^_, _<_, _≤_, max};
+ghost use lib.IntN.{pos, natAbs, _*ℤ_};
+ghost use lib.Signed.{mag};
+ghost use Rattle.scalars.specs.Scalar.{zerosIn, isScalar, powerOf, scalarOf, scaledBy, scaledValues, smallest, isSmallest, powers};
+ghost use Rattle.scalars.specs.Parts.{largest, Raised, groupOf};
+
+// A group's seven numbers and their scalar. A group of fewer is filled up with zeros, which every power
+// serves.
+pub struct Group {
+    pub numbers: [i32; 7],
+    pub scalar: i16,
+}
+
+fn magnitude(z: i32) -> u32
+    ensures { λ r. ⌜ (r ≡ natAbs z) × (r ≤ 2 ^ 31) ⌝ }
+{
+    value::magnitude32(numbers::bits32(z))
+}
+
+fn greater(a: u32, b: u32) -> u32
+    ensures { λ r. ⌜ r ≡ max a b ⌝ }
+{
+    if a < b { b } else { a }
+}
+
+// The zeros of 10, 100, 1,000 and 10,000; 0 for every other number.
+fn zeros_in(n: u32) -> u32
+    ensures { λ r. ⌜ (r ≡ zerosIn n) × (r ≤ 4) ⌝ }
+{
+    match n {
+        10 => 1,
+        100 => 2,
+        1000 => 3,
+        10000 => 4,
+        _ => 0,
+    }
+}
+
+// The largest magnitude of a group.
+fn largest_of(g: [i32; 7]) -> u32
+    ensures { λ r. ⌜ (r ≡ largest g) × (r ≤ 2 ^ 31) ⌝ }
+{
+    let a = greater(magnitude(g[5]), magnitude(g[6]));
+    let b = greater(magnitude(g[4]), a);
+    let c = greater(magnitude(g[3]), b);
+    let d = greater(magnitude(g[2]), c);
+    let e = greater(magnitude(g[1]), d);
+    greater(magnitude(g[0]), e)
+}
+
+// Whether a reel may hold this scalar.
+pub fn is_scalar(scalar: i16) -> bool
+    ensures { λ r. ⌜ r ≡ isScalar scalar ⌝ }
+{
+    match magnitude(scalar as i32) {
+        0 | 1 | 10 | 100 | 1000 | 10000 => true,
+        _ => false,
+    }
+}
+
+// The power of a scalar, 0 to 8 for the powers of ten from -4 to 4.
+fn power(scalar: i16) -> u32
+    ensures { λ r. ⌜ r ≡ powerOf scalar ⌝ }
+{
+    let zeros = zeros_in(magnitude(scalar as i32));
+    if scalar < 0 { 4 - zeros } else { 4 + zeros }
+}
+
+// How many zeros, p at most, can be put behind a magnitude within 2^31.
+fn raised(m: u32, p: u32) -> u32
+    requires { ⌜ m ≤ 2 ^ 31 ⌝ }
+    ensures { λ r. ⌜ Raised m p r ⌝ }
+{
+    let mut f = m;
+    let mut d = 0;
+    while d < p {
+        if 214_748_364 < f {
+            return d;
+        }
+        f *= 10;
+        d += 1;
+    }
+    d
+}
+
+// The smallest power that serves a group under a scalar.
+fn smallest_power(group: [i32; 7], scalar: i16) -> u32
+    ensures { λ r. ⌜ r ≡ smallest (scaledValues scalar group) ⌝ }
+{
+    let p = power(scalar);
+    p - raised(largest_of(group), p)
+}
+
+// Ten to a power: one to a hundred million.
+fn ten_to(d: u32) -> i32
+    requires { ⌜ d < powers ⌝ }
+    ensures { λ r. ⌜ r ≡ pos (10 ^ d) ⌝ }
+{
+    match d {
+        0 => 1,
+        1 => 10,
+        2 => 100,
+        3 => 1000,
+        4 => 10000,
+        5 => 100000,
+        6 => 1000000,
+        7 => 10000000,
+        _ => 100000000,
+    }
+}
+
+// A product that fits.
+fn times(n: i32, f: i32) -> i32
+    requires { ⌜ mag (n *ℤ f) < 2 ^ 31 ⌝ }
+    ensures { λ r. ⌜ r ≡ n *ℤ f ⌝ }
+{
+    n * f
+}
+
+// The scalar of a power.
+fn scalar_of(q: u32) -> i16
+    requires { ⌜ q < powers ⌝ }
+    ensures { λ r. ⌜ r ≡ scalarOf q ⌝ }
+{
+    match q {
+        0 => -10000,
+        1 => -1000,
+        2 => -100,
+        3 => -10,
+        4 => 1,
+        5 => 10,
+        6 => 100,
+        7 => 1000,
+        _ => 10000,
+    }
+}
+
+// A group's numbers, with zeros behind each.
+fn times_all(g: [i32; 7], d: u32) -> [i32; 7]
+    requires { ⌜ (d < powers) × (largest g * 10 ^ d ≤ 2 ^ 31) ⌝ }
+    ensures { λ r. ⌜ r ≡ scaledBy d g ⌝ }
+{
+    let f = ten_to(d);
+    [
+        times(g[0], f),
+        times(g[1], f),
+        times(g[2], f),
+        times(g[3], f),
+        times(g[4], f),
+        times(g[5], f),
+        times(g[6], f),
+    ]
+}
+
+// A group under a scalar as a record holds it: its numbers at the smallest power that serves it, and
+// the scalar of that power.
+pub fn at_smallest(group: [i32; 7], scalar: i16) -> Group
+    ensures { λ r. ⌜ r ≡ groupOf (scaledValues scalar group) ⌝ }
+{
+    let p = power(scalar);
+    let d = raised(largest_of(group), p);
+    let numbers = times_all(group, d);
+    Group {
+        numbers,
+        scalar: scalar_of(p - d),
+    }
+}
+
+// Whether a record may hold a group under this scalar: it must be that of the smallest power.
+pub fn is_smallest(group: [i32; 7], scalar: i16) -> bool
+    ensures { λ r. ⌜ r ≡ isSmallest group scalar ⌝ }
+{
+    scalar == scalar_of(smallest_power(group, scalar))
+}
