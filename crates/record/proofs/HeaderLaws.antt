@@ -1,15 +1,14 @@
--- The headers around the fields that a record changes: the binary header around its format code, a trace header around 115 and 117.
--- Assumes nothing.
+-- The binary header around its format code, and the card text. Assumes nothing.
 use mathlib.Core.Path.{_≡_, refl}
 use mathlib.Core.List.{List, _∷_, _++_, map}
 use Prim.Native.Nat.{ℕ}
 use lib.ListN.{length, replicate, length-map}
 use lib.IntN.{pos}
 use Rattle.numbers.proofs.WalkLaws.{size-bytes}
-use Rattle.reel.specs.Layout.{Field, fieldsFrom, binaryWidths, binaryFields, traceWidths, traceFields, fieldNumber}
-use Rattle.reel.specs.Meaning.{cardText, binaryNumbers, filled, traceNumber}
+use Rattle.reel.specs.Layout.{fieldsFrom, binaryWidths, binaryFields, fieldNumber}
+use Rattle.reel.specs.Meaning.{cardText, binaryNumbers}
 use Rattle.record.specs.Record.{withCode}
-use Rattle.record.proofs.NumberLaws.{total}
+use Rattle.headers.proofs.NumberLaws.{total}
 
 -- the widths before the format code and behind it
 unfoldable pub binary-front : List ℕ
@@ -31,39 +30,14 @@ pub with-code : (code : ℕ) (s : List ℕ)
 unfolding binaryNumbers binaryFields binaryWidths binary-front binary-back
 with-code code s = refl
 
--- the widths before field 115 and behind field 117
-unfoldable pub trace-front : List ℕ
-trace-front = replicate 7 4 ++ (replicate 4 2 ++ (replicate 8 4 ++ (replicate 2 2 ++ (replicate 4 4 ++ replicate 13 2))))
+-- 27 fields in 60 bytes; the lists before and behind have their bytes
+pub counts : (length binaryFields ≡ 27) × (total binaryWidths ≡ 60)
+unfolding binaryFields binaryWidths
+counts = (refl, refl)
 
-unfoldable pub trace-back : List ℕ
-trace-back = replicate 31 2
-
-pub trace-widths : traceWidths ≡ trace-front ++ (2 ∷ 2 ∷ trace-back)
-unfolding traceWidths trace-front trace-back
-trace-widths = refl
-
--- fields 115 and 117
-abbrev pub countField : Field
-countField = record { begins = 115; width = 2 }
-
-abbrev pub intervalField : Field
-intervalField = record { begins = 117; width = 2 }
-
-pub trace-numbers : (s : List ℕ) (n i at : ℕ)
-    → map (traceNumber s n i at) traceFields
-    ≡ map (fieldNumber s at) (fieldsFrom 1 trace-front)
-    ++ (filled n (fieldNumber s at countField) ∷ filled i (fieldNumber s at intervalField) ∷ map (fieldNumber s at) (fieldsFrom 119 trace-back))
-unfolding traceFields traceWidths trace-front trace-back
-trace-numbers s n i at = refl
-
--- 27 fields in 60 bytes and 71 in 180; the lists before and behind have their bytes
-pub counts : (length binaryFields ≡ 27) × (total binaryWidths ≡ 60) × (length traceFields ≡ 71) × (total traceWidths ≡ 180)
-unfolding binaryFields binaryWidths traceFields traceWidths
-counts = (refl, refl, refl, refl)
-
-pub parts : (total binary-front ≡ 24) × (total binary-back ≡ 34) × (total trace-front ≡ 114) × (total trace-back ≡ 62)
-unfolding binary-front binary-back trace-front trace-back
-parts = (refl, refl, refl, refl)
+pub parts : (total binary-front ≡ 24) × (total binary-back ≡ 34)
+unfolding binary-front binary-back
+parts = (refl, refl)
 
 -- the card text has 3,200 bytes
 pub size-cards : (s : List ℕ) → length (cardText s) ≡ 3200

@@ -1,4 +1,4 @@
--- `read_reel::own_at` meets its contract. Assumes nothing.
+-- `headers::own_at` meets its contract. Assumes nothing.
 use Rattle.reel.specs.Layout.{number16}
 use Rattle.numbers.proofs.PlaceLaws.{field-place}
 use Rattle.numbers.specs.Places.{placeNo, byteNo, bytePlace}
@@ -7,8 +7,8 @@ use borrow.Author.Tests.{eq-eqb, ne-eqb}
 use Prim.Native.Nat.{_+_, _^_, _<_}
 use mathlib.Core.Path.{_≡_, sym, ap, _∙_}
 use native.Mathlib.Omega.{arith}
-use Rattle.read_reel.proofs.own_at.Statement.{statement}
-use Rattle.read_reel.proofs.own_at.Tie as tie
+use Rattle.headers.proofs.own_at.Statement.{statement}
+use Rattle.headers.proofs.own_at.Tie as tie
 
 -- the number that the field holds
 held : (c : tie.After-number16-at) → let a = c .before .before .before .args in c .number16-at .result ≡ number16 (a .reel .now) (bytePlace (a .at) (byteNo (a .b)))

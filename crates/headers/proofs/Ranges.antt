@@ -1,8 +1,11 @@
 -- Header numbers are determined by their bytes. Assumes nothing.
 use mathlib.Core.Path.{_≡_, refl, sym, ap, ap₂, _∙_}
 use mathlib.Core.List.{List, [], _∷_, _++_, map}
+use mathlib.Core.Bool.{Bool, true, _&&_}
 use Prim.Native.Nat.{ℕ, suc, _+_, _-_, _*_, _^_, _<_}
 use native.Mathlib.Omega.{arith}
+use borrow.Author.Tests.{ltb-true}
+use lib.Dec.{ltb}
 use lib.ListN.{length, length-append}
 use lib.IntN.{ℤ}
 use lib.Signed.{mag}
@@ -10,12 +13,13 @@ use Rattle.numbers.specs.Walk.{bytesAt}
 use Rattle.numbers.specs.BigEndian.{number, bytesOf}
 use Rattle.numbers.specs.TwosComplement.{signedOf, bitsOf}
 use Rattle.numbers.specs.Terms.{Bytes}
+use Rattle.numbers.proofs.BoolLaws.{and-true}
 use Rattle.numbers.proofs.WalkLaws.{split, cons-eq}
 use Rattle.numbers.proofs.ByteLaws.{length-bytes, number-bytes, number-at}
 use Rattle.numbers.proofs.SignLaws.{signed-bits, bits-lt, mag-signed}
 use Rattle.reel.specs.Layout.{fieldsFrom, fieldNumber}
-use Rattle.record.specs.Record.{numberBytes}
-use Rattle.record.proofs.NumberLaws.{pow-bytes, total}
+use Rattle.headers.specs.Header.{numberBytes}
+use Rattle.headers.proofs.NumberLaws.{pow-bytes, total}
 
 -- each number has a field of some bytes, and fits it
 abbrev pub Fit : List ℕ → List ℤ → Type 0
@@ -81,3 +85,13 @@ Some (w ∷ ws) = (0 < w) × Some ws
 pub fields-fit : (s : List ℕ) → Bytes s → (start b : ℕ) (ws : List ℕ) → Some ws → Fit ws (map (fieldNumber s start) (fieldsFrom b ws))
 fields-fit s h start b [] p = tt
 fields-fit s h start b (w ∷ ws) p = (p .0, number-fits s h (start + (b - 1)) w (p .0), fields-fit s h start (b + w) ws (p .1))
+
+-- that every field has some bytes is computed
+unfoldable pub allSome : List ℕ → Bool
+allSome [] = true
+allSome (w ∷ ws) = ltb 0 w && allSome ws
+
+pub some-of : (ws : List ℕ) → allSome ws ≡ true → Some ws
+unfolding allSome
+some-of [] e = tt
+some-of (w ∷ ws) e = let t = and-true (ltb 0 w) (allSome ws) e in (ltb-true 0 w (t .0), some-of ws (t .1))

@@ -14,7 +14,7 @@ use Rattle.numbers.specs.TwosComplement.{signedOf, bitsOf}
 use Rattle.numbers.proofs.ByteLaws.{number-at, bytes-again, bytes-append}
 use Rattle.numbers.proofs.SignLaws.{bits-signed}
 use Rattle.reel.specs.Layout.{fieldsFrom, fieldNumber}
-use Rattle.record.specs.Record.{numberBytes}
+use Rattle.headers.specs.Header.{numberBytes}
 
 -- ## One number
 

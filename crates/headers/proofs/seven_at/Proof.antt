@@ -1,0 +1,86 @@
+-- `headers::seven_at` meets its contract. Assumes nothing.
+use mathlib.Core.Path.{_≡_, sym, ap, _∙_}
+use mathlib.Core.List.{List, _++_}
+use Prim.Native.Nat.{_+_}
+use lib.IntN.{ℤ, pos}
+use lib.ListN.{replicate}
+use mir.Syntax.{w32}
+use mir.Val.{toZ, ofZ}
+use mir.Facts.{toZ-ofZ}
+use Rattle.headers.specs.Parts.{number4}
+use Rattle.headers.proofs.GroupLaws.{numbers-seven, numbers-four}
+use native.Mathlib.Omega.{arith}
+use borrow.Author.Needs.{sfits-of, needs}
+use Rattle.headers.proofs.seven_at.Statement.{statement}
+use Rattle.headers.proofs.seven_at.Tie as tie
+
+number-at-requires : tie.Need-number-at-requires
+number-at-requires c κs = search needs
+
+add-number-at : tie.Need-add-number-at
+add-number-at c = search needs
+
+number-at-requires-2 : tie.Need-number-at-requires-2
+number-at-requires-2 c κs = search needs
+
+add-number-at-2 : tie.Need-add-number-at-2
+add-number-at-2 c = search needs
+
+number-at-requires-3 : tie.Need-number-at-requires-3
+number-at-requires-3 c κs = search needs
+
+add-number-at-3 : tie.Need-add-number-at-3
+add-number-at-3 c = search needs
+
+number-at-requires-4 : tie.Need-number-at-requires-4
+number-at-requires-4 c κs = search needs
+
+add-number-at-4 : tie.Need-add-number-at-4
+add-number-at-4 c = search needs
+
+number-at-requires-5 : tie.Need-number-at-requires-5
+number-at-requires-5 c κs = search needs
+
+add-number-at-5 : tie.Need-add-number-at-5
+add-number-at-5 c = search needs
+
+number-at-requires-6 : tie.Need-number-at-requires-6
+number-at-requires-6 c κs = search needs
+
+add-number-at-6 : tie.Need-add-number-at-6
+add-number-at-6 c = search needs
+
+number-at-requires-7 : tie.Need-number-at-requires-7
+number-at-requires-7 c κs = search needs
+
+returns : tie.Need-returns
+returns c =
+    let a = c .before .before .before .before .before .before .before .before .args in
+    let s = a .s .now in
+    let r0 : toZ w32 (ofZ w32 (c .before .before .before .before .before .before .number-at .result)) ≡ number4 s (a .at) = toZ-ofZ {w = w32} (sfits-of (c .before .before .before .before .before .before .number-at .ok)) ∙ c .before .before .before .before .before .before .number-at .ensures in
+    let r1 : toZ w32 (ofZ w32 (c .before .before .before .before .before .number-at2 .result)) ≡ number4 s (a .at + 4) = toZ-ofZ {w = w32} (sfits-of (c .before .before .before .before .before .number-at2 .ok)) ∙ c .before .before .before .before .before .number-at2 .ensures in
+    let r2 : toZ w32 (ofZ w32 (c .before .before .before .before .number-at3 .result)) ≡ number4 s (a .at + 8) = toZ-ofZ {w = w32} (sfits-of (c .before .before .before .before .number-at3 .ok)) ∙ c .before .before .before .before .number-at3 .ensures in
+    let r3 : toZ w32 (ofZ w32 (c .before .before .before .number-at4 .result)) ≡ number4 s (a .at + 12) = toZ-ofZ {w = w32} (sfits-of (c .before .before .before .number-at4 .ok)) ∙ c .before .before .before .number-at4 .ensures in
+    let r4 : toZ w32 (ofZ w32 (c .before .before .number-at5 .result)) ≡ number4 s (a .at + 16) = toZ-ofZ {w = w32} (sfits-of (c .before .before .number-at5 .ok)) ∙ c .before .before .number-at5 .ensures in
+    let r5 : toZ w32 (ofZ w32 (c .before .number-at6 .result)) ≡ number4 s (a .at + 20) = toZ-ofZ {w = w32} (sfits-of (c .before .number-at6 .ok)) ∙ c .before .number-at6 .ensures in
+    let r6 : toZ w32 (ofZ w32 (c .number-at7 .result)) ≡ number4 s (a .at + 24) = toZ-ofZ {w = w32} (sfits-of (c .number-at7 .ok)) ∙ c .number-at7 .ensures in
+    rw (r0, r1, r2, r3, r4, r5, r6) (sym (numbers-seven s (a .at)))
+
+pub seven-at-spec : {M : Type 1} → statement M
+seven-at-spec =
+    tie.close
+    (tie.spec
+    number-at-requires
+    add-number-at
+    number-at-requires-2
+    add-number-at-2
+    number-at-requires-3
+    add-number-at-3
+    number-at-requires-4
+    add-number-at-4
+    number-at-requires-5
+    add-number-at-5
+    number-at-requires-6
+    add-number-at-6
+    number-at-requires-7
+    returns)
