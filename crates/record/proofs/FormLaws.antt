@@ -21,6 +21,7 @@ use Rattle.value.specs.declared.Written.the-variants as written
 use Rattle.reel.specs.Layout.{number16}
 use Rattle.reel.specs.Causes.{mostSamples, mostTraces, mostInterval, within}
 use Rattle.reel.proofs.CheckLaws.{both-true, in-limits}
+use Rattle.headers.specs.Header.{smallestCauses}
 use Rattle.record.specs.Form.{isField, fieldCause, cardsCauses, heldSamples, heldInterval, binaryCauses, tracesPlace, heldStride, pairCause, samplesCauses, headerCauses, traceForm, tagsFrom, heldCount, endCauses, bodyCauses, formCauses, recordFound, numbersIn}
 use Rattle.record.specs.declared.Judged.the-variants as judged
 use Rattle.record.specs.Parts.{headForm, formFrom}
@@ -46,21 +47,24 @@ trace-form s n i at =
 header-then : (s : List ℕ) (n i at : ℕ) (d : Check)
     → then (headerCauses s n i at) d
     ≡ then (fieldCause s 3 180 at)
+    (then (smallestCauses s (at + 3))
     (then (refuseIf (not (eqb (number16 s (bytePlace (at + 3) 115)) n)) 13 (bytePlace (at + 3) 115))
-    (then (refuseIf (not (eqb (number16 s (bytePlace (at + 3) 117)) i)) 13 (bytePlace (at + 3) 117)) d))
+    (then (refuseIf (not (eqb (number16 s (bytePlace (at + 3) 117)) i)) 13 (bytePlace (at + 3) 117)) d)))
 unfolding headerCauses
 header-then s n i at d =
     let a = fieldCause s 3 180 at in
+    let z = smallestCauses s (at + 3) in
     let b = refuseIf (not (eqb (number16 s (bytePlace (at + 3) 115)) n)) 13 (bytePlace (at + 3) 115) in
     let c = refuseIf (not (eqb (number16 s (bytePlace (at + 3) 117)) i)) 13 (bytePlace (at + 3) 117) in
-    then-assoc a (then b c) d ∙ ap (then a) (then-assoc b c d)
+    then-assoc a (then z (then b c)) d ∙ ap (then a) (then-assoc z (then b c) d ∙ ap (then z) (then-assoc b c d))
 
 -- so a trace's causes,
 pub trace-parts : (s : List ℕ) (n i at : ℕ)
     → traceForm s n i at
     ≡ then (fieldCause s 3 180 at)
+    (then (smallestCauses s (at + 3))
     (then (refuseIf (not (eqb (number16 s (bytePlace (at + 3) 115)) n)) 13 (bytePlace (at + 3) 115))
-    (then (refuseIf (not (eqb (number16 s (bytePlace (at + 3) 117)) i)) 13 (bytePlace (at + 3) 117)) (samplesCauses s n (at + 183))))
+    (then (refuseIf (not (eqb (number16 s (bytePlace (at + 3) 117)) i)) 13 (bytePlace (at + 3) 117)) (samplesCauses s n (at + 183)))))
 unfolding traceForm
 trace-parts s n i at = header-then s n i at (samplesCauses s n (at + 183))
 
@@ -68,8 +72,9 @@ trace-parts s n i at = header-then s n i at (samplesCauses s n (at + 183))
 pub head-form : (s : List ℕ) (n i at : ℕ)
     → headForm s n i at
     ≡ then (fieldCause s 3 180 at)
+    (then (smallestCauses s (at + 3))
     (then (refuseIf (not (eqb (number16 s (bytePlace (at + 3) 115)) n)) 13 (bytePlace (at + 3) 115))
-    (then (refuseIf (not (eqb (number16 s (bytePlace (at + 3) 117)) i)) 13 (bytePlace (at + 3) 117)) (fieldCause s 4 (pairLength * n) (at + 183))))
+    (then (refuseIf (not (eqb (number16 s (bytePlace (at + 3) 117)) i)) 13 (bytePlace (at + 3) 117)) (fieldCause s 4 (pairLength * n) (at + 183)))))
 unfolding headForm
 head-form s n i at = header-then s n i at (fieldCause s 4 (pairLength * n) (at + 183))
 

@@ -1,5 +1,4 @@
 -- Laws of header numbers and their bytes.
-pub mod NumberLaws
 pub mod HeaderLaws
 pub mod FormLaws
 pub mod JudgedLaws

@@ -16,7 +16,7 @@ use Rattle.reel.specs.Layout.{fieldsFrom, binaryWidths, binaryFields, fieldNumb
 use Rattle.reel.specs.Meaning.{otherThan}
 use Rattle.record.specs.Form.{binarySize}
 use Rattle.record.specs.Record.{binaryBytes}
-use Rattle.record.proofs.NumberLaws.{fields-again, numbers-append}
+use Rattle.headers.proofs.NumberLaws.{fields-again, numbers-append}
 use Rattle.record.proofs.HeaderLaws.{binary-front, binary-back}
 
 -- a header in s whose byte number 1 would stand at the place `start`

@@ -17,6 +17,7 @@ use Rattle.record.specs.declared.Judged.the-variants as judged
 use Rattle.value.specs.Pair.{isCanonical, pairLength, pairIn}
 use Rattle.reel.specs.Layout.{cardBytes, number16}
 use Rattle.reel.specs.Causes.{mostSamples, mostTraces, mostInterval, within}
+use Rattle.headers.specs.Header.{headerSize, smallestCauses}
 
 -- ## A field
 
@@ -95,10 +96,6 @@ binaryCauses s = then (fieldCause s 2 binarySize binaryPlace) (numberCauses (hel
 abbrev pub tracesPlace : ℕ
 tracesPlace = binaryPlace + (fieldHead + binarySize)
 
--- The bytes of a trace's 71 fields, 1 to 180.
-abbrev pub headerSize : ℕ
-headerSize = 180
-
 -- From a trace's tag 03 to its tag 04, 183 bytes, and to the first pair behind that tag and its length, 186.
 abbrev pub toSamples : ℕ
 toSamples = fieldHead + headerSize
@@ -118,13 +115,14 @@ pairCause s at = refuseIf (not (isCanonical (pairIn (bytesAt s at pairLength))))
 unfoldable pub samplesCauses : List ℕ → ℕ → ℕ → Check
 samplesCauses s n at = then (fieldCause s 4 (pairLength * n) at) (firstOf (walk (pairCause s) pairLength n (at + fieldHead)))
 
--- A trace's header: tag 03 with its 180 bytes, of which fields 115 and 117 must be like the reel's n and i. Byte number 1 stands behind the
--- tag and its length.
+-- A trace's header: tag 03 with its 180 bytes, of which fields 69 and 71 must be the scalars of the smallest powers, and 115 and 117 like
+-- the reel's n and i: "in tag 03 the order is 69, 71, 115, 117" (document 02, CR 2). Byte number 1 stands behind the tag and its length.
 unfoldable pub headerCauses : List ℕ → ℕ → ℕ → ℕ → Check
 headerCauses s n i at =
     then (fieldCause s 3 headerSize at)
+    (then (smallestCauses s (at + fieldHead))
     (then (refuseIf (not (eqb (number16 s (bytePlace (at + fieldHead) 115)) n)) 13 (bytePlace (at + fieldHead) 115))
-    (refuseIf (not (eqb (number16 s (bytePlace (at + fieldHead) 117)) i)) 13 (bytePlace (at + fieldHead) 117)))
+    (refuseIf (not (eqb (number16 s (bytePlace (at + fieldHead) 117)) i)) 13 (bytePlace (at + fieldHead) 117))))
 
 -- A trace: its header, then its samples.
 unfoldable pub traceForm : List ℕ → ℕ → ℕ → ℕ → Check

@@ -4,19 +4,19 @@ use mathlib.Core.List.{List, map}
 use lib.IntN.{ℤ}
 use Rattle.numbers.specs.Walk.{walk, bytesAt}
 use Rattle.value.specs.Pair.{valueOf, pairLength, pairIn}
-use Rattle.reel.specs.Layout.{cardBytes, binaryFields, traceFields, fieldNumber}
-use Rattle.reel.specs.Meaning.{otherThan, Trace, Meaning}
+use Rattle.reel.specs.Layout.{cardBytes, binaryFields, fieldNumber}
+use Rattle.reel.specs.Meaning.{otherThan, headerOf, Trace, Meaning}
 use Rattle.record.specs.Form.{fieldHead, binaryStart, toPairs, heldSamples, heldStride, heldCount, tracesPlace}
 
 -- The value of the pair at a place.
 abbrev pub heldValue : List ℕ → ℕ → ℤ
 heldValue s at = valueOf (pairIn (bytesAt s at pairLength))
 
--- The trace of n samples whose tag 03 stands at the place `at`: its numbers stand behind that tag, its pairs behind tag 04.
+-- The trace of n samples whose tag 03 stands at the place `at`: its header stands behind that tag, its pairs behind tag 04.
 unfoldable pub heldTrace : List ℕ → ℕ → ℕ → Trace
 heldTrace s n at =
     record {
-      numbers = map (fieldNumber s (at + fieldHead)) traceFields;
+      header = headerOf (fieldNumber s (at + fieldHead));
       values = walk (heldValue s) pairLength n (at + toPairs);
     }
 

@@ -1,24 +1,19 @@
--- The record of a meaning: tagged fields in the order that document 01 sets.
+-- The record of a meaning: tagged fields in the order that document 01 sets. The bytes of a trace header, which document 02 changes (CR 2),
+-- are those of `Header` in `headers`.
 use Prim.Native.Nat.{ℕ, _+_, _*_}
 use mathlib.Core.List.{List, [], _∷_, _++_, map}
 use lib.ListN.{length, take, drop}
 use lib.IntN.{ℤ, pos}
 use Rattle.numbers.specs.Walk.{flat}
 use Rattle.numbers.specs.BigEndian.{bytesOf}
-use Rattle.numbers.specs.TwosComplement.{bitsOf}
 use Rattle.value.specs.Pair.{pairOf, pairLength, pairBytes}
-use Rattle.reel.specs.Layout.{binaryWidths, traceWidths}
+use Rattle.reel.specs.Layout.{binaryWidths}
 use Rattle.reel.specs.Meaning.{Trace, Meaning, meaningOf}
+use Rattle.headers.specs.Header.{numberBytes, headerBytes}
 
 -- A tagged field: one byte of tag, two bytes of length, the content.
 unfoldable pub field : ℕ → List ℕ → List ℕ
 field tag l = tag ∷ (bytesOf 2 (length l) ++ l)
-
--- Header numbers, each in its field's bytes.
-abbrev pub numberBytes : List ℕ → List ℤ → List ℕ
-numberBytes [] zs = []
-numberBytes (w ∷ ws) [] = []
-numberBytes (w ∷ ws) (z ∷ zs) = bytesOf w (bitsOf (8 * w) z) ++ numberBytes ws zs
 
 -- The 27 binary numbers, with a format code: it is the tenth of them, and its number is not among the 26 of a meaning.
 abbrev pub withCode : ℕ → List ℤ → List ℤ
@@ -36,9 +31,9 @@ valueBytes v = pairBytes (pairOf v .e) (pairOf v .m)
 unfoldable pub samplesField : List ℤ → List ℕ
 samplesField vs = field 4 (flat (map valueBytes vs))
 
--- A trace: tag 03 with its 71 fields, then its samples.
+-- A trace: tag 03 with the 180 bytes of its header, then its samples.
 unfoldable pub traceBytes : Trace → List ℕ
-traceBytes t = field 3 (numberBytes traceWidths (t .numbers)) ++ samplesField (t .values)
+traceBytes t = field 3 (headerBytes (t .header)) ++ samplesField (t .values)
 
 -- The record of a meaning: tag 01 with the card bytes, tag 02 with the binary fields, the traces, and tag 05 with their count.
 unfoldable pub recordOf : Meaning → List ℕ

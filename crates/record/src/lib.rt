@@ -224,13 +224,17 @@ pub fn check_head(record: &[u8], n: u16, i: u16, at: Place) -> Check
     let Check::Fine = a else {
         return a;
     };
-    let b = check_like(record, p + 3, ByteNo(115), n);
+    let b = headers::judge_header(record, Place(p + 3));
     let Check::Fine = b else {
         return b;
     };
-    let c = check_like(record, p + 3, ByteNo(117), i);
+    let c = check_like(record, p + 3, ByteNo(115), n);
     let Check::Fine = c else {
         return c;
+    };
+    let d = check_like(record, p + 3, ByteNo(117), i);
+    let Check::Fine = d else {
+        return d;
     };
     check_field(record, 4, 6 * n as usize, p + 183)
 }

@@ -1,6 +1,7 @@
 -- `record::check_head` meets its contract. Assumes nothing.
 use Rattle.record.proofs.FormLaws.{head-form, field-room}
 use Rattle.record.specs.Form.{fieldCause}
+use Rattle.headers.specs.Header.{headerSize, smallestCauses, headerJudged}
 use Rattle.reel.specs.Layout.{number16}
 use Rattle.numbers.proofs.CauseLaws.{then-stop, then-next}
 use Rattle.numbers.specs.Cause.{refuseIf}
@@ -13,6 +14,7 @@ use Prim.Native.Nat.{_+_, _≤_}
 use mathlib.Core.Path.{_≡_, sym, _∙_}
 use native.Mathlib.Omega.{arith}
 use borrow.Author.Needs.{needs}
+use borrow.Author.Tests.{le-leb}
 use Rattle.record.proofs.check_head.Statement.{statement}
 use Rattle.record.proofs.check_head.Tie as tie
 
@@ -23,18 +25,28 @@ fine c = sym (c .before .before .check-field .ensures) ∙ c .enum-told .given .
 room : (c : tie.After-enum-told) → let a = c .before .before .before .before .args in placeNo (a .at) + 183 ≤ length (a .«record» .now)
 room c = let a = c .before .before .before .before .args in field-room (a .«record» .now) 3 180 (placeNo (a .at)) (fine c)
 
--- field 115, and field 117, unlike the reel's
-row115 : (c : tie.After-check-like) → let a = c .before .before .before .before .before .args in c .check-like .result ≡ refuseIf (not (eqb (number16 (a .«record» .now) (bytePlace (placeNo (a .at) + 3) 115)) (a .n))) 13 (bytePlace (placeNo (a .at) + 3) 115)
+-- the scalars; field 115, and field 117, unlike the reel's
+rowScalars : (c : tie.After-judge-header) → let a = c .before .before .before .before .before .args in c .judge-header .result ≡ smallestCauses (a .«record» .now) (placeNo (a .at) + 3)
+unfolding headerJudged
+rowScalars c =
+    let a = c .before .before .before .before .before .args in
+    let l : placeNo (a .at) + 3 + headerSize ≤ length (a .«record» .now) = omega (arith, room (c .before)) in
+    c .judge-header .ensures ∙ rw (le-leb (placeNo (a .at) + 3 + headerSize) (length (a .«record» .now)) l)
+
+fineScalars : (c : tie.After-enum-told3) → let a = c .before .before .before .before .before .before .before .args in smallestCauses (a .«record» .now) (placeNo (a .at) + 3) ≡ Fine
+fineScalars c = sym (rowScalars (c .before .before)) ∙ c .enum-told3 .given .1
+
+row115 : (c : tie.After-check-like) → let a = c .before .before .before .before .before .before .before .before .args in c .check-like .result ≡ refuseIf (not (eqb (number16 (a .«record» .now) (bytePlace (placeNo (a .at) + 3) 115)) (a .n))) 13 (bytePlace (placeNo (a .at) + 3) 115)
 row115 c = c .check-like .ensures
 
-fine115 : (c : tie.After-enum-told3) → let a = c .before .before .before .before .before .before .before .args in refuseIf (not (eqb (number16 (a .«record» .now) (bytePlace (placeNo (a .at) + 3) 115)) (a .n))) 13 (bytePlace (placeNo (a .at) + 3) 115) ≡ Fine
-fine115 c = sym (row115 (c .before .before)) ∙ c .enum-told3 .given .1
+fine115 : (c : tie.After-enum-told5) → let a = c .before .before .before .before .before .before .before .before .before .before .args in refuseIf (not (eqb (number16 (a .«record» .now) (bytePlace (placeNo (a .at) + 3) 115)) (a .n))) 13 (bytePlace (placeNo (a .at) + 3) 115) ≡ Fine
+fine115 c = sym (row115 (c .before .before)) ∙ c .enum-told5 .given .1
 
-row117 : (c : tie.After-check-like2) → let a = c .before .before .before .before .before .before .before .before .args in c .check-like2 .result ≡ refuseIf (not (eqb (number16 (a .«record» .now) (bytePlace (placeNo (a .at) + 3) 117)) (a .i))) 13 (bytePlace (placeNo (a .at) + 3) 117)
+row117 : (c : tie.After-check-like2) → let a = c .before .before .before .before .before .before .before .before .before .before .before .args in c .check-like2 .result ≡ refuseIf (not (eqb (number16 (a .«record» .now) (bytePlace (placeNo (a .at) + 3) 117)) (a .i))) 13 (bytePlace (placeNo (a .at) + 3) 117)
 row117 c = c .check-like2 .ensures
 
-fine117 : (c : tie.After-enum-told5) → let a = c .before .before .before .before .before .before .before .before .before .before .args in refuseIf (not (eqb (number16 (a .«record» .now) (bytePlace (placeNo (a .at) + 3) 117)) (a .i))) 13 (bytePlace (placeNo (a .at) + 3) 117) ≡ Fine
-fine117 c = sym (row117 (c .before .before)) ∙ c .enum-told5 .given .1
+fine117 : (c : tie.After-enum-told7) → let a = c .before .before .before .before .before .before .before .before .before .before .before .before .before .args in refuseIf (not (eqb (number16 (a .«record» .now) (bytePlace (placeNo (a .at) + 3) 117)) (a .i))) 13 (bytePlace (placeNo (a .at) + 3) 117) ≡ Fine
+fine117 c = sym (row117 (c .before .before)) ∙ c .enum-told7 .given .1
 
 returns : tie.Need-returns
 returns c =
@@ -42,38 +54,30 @@ returns c =
     let a = c .before .before .before .before .args in
     e ∙ then-stop _ _ (sym e ∙ c .enum-told2 .given .1) ∙ sym (head-form (a .«record» .now) (a .n) (a .i) (placeNo (a .at)))
 
-add-check-like : tie.Need-add-check-like
-add-check-like c = omega (arith, room c)
-
-check-like-requires : tie.Need-check-like-requires
-check-like-requires c κs = (omega arith, omega (arith, room c))
-
 returns-2 : tie.Need-returns-2
 returns-2 c =
-    let e = row115 (c .before .before) in
+    let e = rowScalars (c .before .before) in
     let a = c .before .before .before .before .before .before .before .args in
     e ∙ then-stop _ _ (sym e ∙ c .enum-told4 .given .1) ∙ then-next _ _ (fine (c .before .before .before)) ∙ sym (head-form (a .«record» .now) (a .n) (a .i) (placeNo (a .at)))
 
-add-check-like-2 : tie.Need-add-check-like-2
-add-check-like-2 c = omega (arith, room (c .before .before .before))
-
-check-like-requires-2 : tie.Need-check-like-requires-2
-check-like-requires-2 c κs = (omega arith, omega (arith, room (c .before .before .before)))
-
 returns-3 : tie.Need-returns-3
 returns-3 c =
-    let e = row117 (c .before .before) in
+    let e = row115 (c .before .before) in
     let a = c .before .before .before .before .before .before .before .before .before .before .args in
-    e ∙ then-stop _ _ (sym e ∙ c .enum-told6 .given .1) ∙ then-next _ _ (fine115 (c .before .before .before)) ∙ then-next _ _ (fine (c .before .before .before .before .before .before))
+    e ∙ then-stop _ _ (sym e ∙ c .enum-told6 .given .1) ∙ then-next _ _ (fineScalars (c .before .before .before)) ∙ then-next _ _ (fine (c .before .before .before .before .before .before))
     ∙ sym (head-form (a .«record» .now) (a .n) (a .i) (placeNo (a .at)))
-
-add-check-field : tie.Need-add-check-field
-add-check-field c = omega (arith, room (c .before .before .before .before .before .before))
 
 returns-4 : tie.Need-returns-4
 returns-4 c =
-    let a = c .before .before .before .before .before .before .before .before .before .before .before .args in
-    c .check-field2 .ensures ∙ then-next _ _ (fine117 (c .before)) ∙ then-next _ _ (fine115 (c .before .before .before .before)) ∙ then-next _ _ (fine (c .before .before .before .before .before .before .before))
+    let e = row117 (c .before .before) in
+    let a = c .before .before .before .before .before .before .before .before .before .before .before .before .before .args in
+    e ∙ then-stop _ _ (sym e ∙ c .enum-told8 .given .1) ∙ then-next _ _ (fine115 (c .before .before .before)) ∙ then-next _ _ (fineScalars (c .before .before .before .before .before .before)) ∙ then-next _ _ (fine (c .before .before .before .before .before .before .before .before .before))
+    ∙ sym (head-form (a .«record» .now) (a .n) (a .i) (placeNo (a .at)))
+
+returns-5 : tie.Need-returns-5
+returns-5 c =
+    let a = c .before .before .before .before .before .before .before .before .before .before .before .before .before .before .args in
+    c .check-field2 .ensures ∙ then-next _ _ (fine117 (c .before)) ∙ then-next _ _ (fine115 (c .before .before .before .before)) ∙ then-next _ _ (fineScalars (c .before .before .before .before .before .before .before)) ∙ then-next _ _ (fine (c .before .before .before .before .before .before .before .before .before .before))
     ∙ sym (head-form (a .«record» .now) (a .n) (a .i) (placeNo (a .at)))
 
 pub check-head-spec : {M : Type 1} → statement M
@@ -84,17 +88,22 @@ check-head-spec =
     (λ c. c .match .keys1)
     (λ c. c .match .keys2)
     returns
-    add-check-like
-    check-like-requires
+    (λ c. omega (arith, room c))
+    (λ c κs. tt)
     (λ c. c .match2 .keys1)
     (λ c. c .match2 .keys2)
     returns-2
-    add-check-like-2
-    check-like-requires-2
+    (λ c. omega (arith, room (c .before .before .before)))
+    (λ c κs. (omega arith, omega (arith, room (c .before .before .before))))
     (λ c. c .match3 .keys1)
     (λ c. c .match3 .keys2)
     returns-3
+    (λ c. omega (arith, room (c .before .before .before .before .before .before)))
+    (λ c κs. (omega arith, omega (arith, room (c .before .before .before .before .before .before))))
+    (λ c. c .match4 .keys1)
+    (λ c. c .match4 .keys2)
+    returns-4
     (λ c. search needs)
-    add-check-field
+    (λ c. omega (arith, room (c .before .before .before .before .before .before .before .before .before)))
     (λ c κs. tt)
-    returns-4)
+    returns-5)
