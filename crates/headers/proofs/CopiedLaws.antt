@@ -3,10 +3,10 @@
 use mathlib.Core.Path.{_≡_, refl, sym, ap, ap₂, _∙_}
 use mathlib.Core.Bool.{Bool, true, false}
 use mathlib.Core.List.{List, [], _∷_, _++_, map, append-assoc}
-use Prim.Native.Nat.{ℕ, zero, suc, _+_, _-_, _*_, _^_, _≤_, _<_}
+use Prim.Native.Nat.{ℕ, zero, suc, _+_, _*_, _^_, _≤_, _<_}
 use native.Mathlib.Nat.{add-zero, zero-add}
 use native.Mathlib.Omega.{arith}
-use borrow.Author.Tests.{eqb-true, ne-eqb}
+use borrow.Author.Tests.{eqb-true, eq-eqb, ne-eqb, le-leb}
 use lib.Dec.{eqb}
 use lib.ListN.{length, take, drop, replicate, length-map, length-append}
 use lib.IntN.{ℤ, pos, natAbs, _*ℤ_}
@@ -20,12 +20,12 @@ use Rattle.numbers.proofs.WalkLaws.{cons-eq, size-bytes}
 use Rattle.numbers.proofs.Filling.{over-part}
 use Rattle.scalars.specs.Scalar.{powerOf, scaledValues, groupNumbers, groupScalar}
 use Rattle.scalars.proofs.Laws.{length-held}
-use Rattle.reel.specs.Layout.{Field, fieldsFrom, traceWidths, traceFields, fieldNumber, number16}
+use Rattle.reel.specs.Layout.{fieldsFrom, traceWidths, traceFields, fieldNumber, number16}
 use Rattle.reel.specs.Meaning.{filled, traceNumber}
-use Rattle.headers.proofs.NumberLaws.{total, fields-again, numbers-append}
+use Rattle.headers.proofs.NumberLaws.{fields-again, numbers-append}
 use Rattle.headers.proofs.TraceLaws.{trace-back, countField, intervalField}
-use Rattle.reel.specs.Meaning.{elevationFields, coordinateFields, bareFields, Header, headerOf}
-use Rattle.headers.specs.Header.{numberBytes, headerNumbers, headerBytes, headerSize}
+use Rattle.reel.specs.Meaning.{elevationFields, coordinateFields, bareFields, headerOf}
+use Rattle.headers.specs.Header.{numberBytes, headerNumbers, headerBytes, headerSize, headerRead}
 use Rattle.headers.specs.Parts.{number2, numbersIn, groupBytes, elevationsAt, coordinatesAt, elevationsCopied, coordinatesCopied, ownOr, groupsCopied, headerCopied}
 use Rattle.headers.proofs.GroupLaws.{elevations-in, coordinates-in, size-in, size-elevations, size-coordinates}
 use Rattle.headers.proofs.HeaderBytes.{widths-front, widths-behind, widths-are}
@@ -232,3 +232,8 @@ pub size-copied : (s : List ℕ) (n i at : ℕ) → length (headerCopied s n i a
 unfolding behindCopied
 size-copied s n i at =
     ap length (copied-parts s n i at) ∙ simp (length-append, size-bytes, size-elevations, size-coordinates)
+
+-- LAW. Reading the header of a trace into an output of its length.
+pub header-read : (s : List ℕ) (n i at : ℕ) (out : List ℕ) → at + headerSize ≤ length s → length out ≡ headerSize → headerRead s n i at out ≡ headerBytes (headerOf (traceNumber s n i at))
+unfolding headerRead
+header-read s n i at out h l = rw (le-leb (at + headerSize) (length s) h, eq-eqb (length out) headerSize l)

@@ -1,21 +1,19 @@
 -- The groups of a header in their bytes. Assumes nothing.
-use mathlib.Core.Path.{_≡_, refl, sym, ap, ap₂, _∙_}
-use mathlib.Core.Bool.{true, false}
+use mathlib.Core.Path.{_≡_, refl, sym, ap, _∙_}
 use mathlib.Core.List.{List, [], _∷_, _++_, map}
-use Prim.Native.Nat.{ℕ, zero, suc, _+_, _-_, _*_, _^_, _≤_, _<_}
+use Prim.Native.Nat.{ℕ, _+_, _*_, _^_, _≤_, _<_}
 use native.Mathlib.Numerals.{add-one}
 use native.Mathlib.Omega.{arith}
 use lib.ListN.{length, getD, take, drop, replicate, length-map, length-append, drop-of-length-le}
 use lib.Seq.{drop-cons, getD-take, take-at, take-all, length-take-le}
 use lib.IntN.{ℤ, pos, _*ℤ_}
-use Rattle.numbers.specs.Walk.{walk, flat}
 use Rattle.numbers.specs.BigEndian.{bytesOf}
 use Rattle.numbers.specs.TwosComplement.{bitsOf}
 use Rattle.numbers.specs.Terms.{All}
 use Rattle.numbers.proofs.WalkLaws.{size-walk, flat-size}
-use Rattle.scalars.specs.Scalar.{scaledBy, scaledValues, groupNumbers, groupScalar, isSmallest, sameNumber, powerOf}
+use Rattle.scalars.specs.Scalar.{scaledValues, groupNumbers, groupScalar, isSmallest, sameNumber, powerOf}
 use Rattle.scalars.proofs.Laws.{length-held, scaled-padded, numbers-padded, scalar-padded}
-use Rattle.reel.specs.Layout.{Field, traceWidths, traceFields, fieldNumber}
+use Rattle.reel.specs.Layout.{traceWidths, traceFields, fieldNumber}
 use Rattle.reel.specs.Meaning.{elevationFields, coordinateFields}
 use Rattle.headers.specs.Parts.{number2, number4, numbersIn, groupBytes, elevationsAt, coordinatesAt, elevationsCopied, coordinatesCopied}
 

@@ -1,32 +1,29 @@
 -- A header's meaning and its 180 bytes in a record determine each other. Each byte is below 256; nothing else is assumed.
-use mathlib.Core.Path.{_≡_, refl, sym, ap, ap₂, _∙_, subst}
+use mathlib.Core.Path.{_≡_, refl, sym, ap, _∙_}
 use mathlib.Core.List.{List, [], _∷_, _++_, map}
-use mathlib.Core.Bool.{Bool, true, false, not}
-use Prim.Native.Nat.{ℕ, zero, suc, _+_, _-_, _*_, _^_, _≤_, _<_}
+use mathlib.Core.Bool.{true}
+use Prim.Native.Nat.{ℕ, zero, suc, _+_}
 use native.Mathlib.Nat.{add-zero}
 use native.Mathlib.Omega.{arith}
 use borrow.Author.Tests.{not-false}
-use lib.ListN.{length, getD, take, drop, replicate, length-append, length-drop, length-map, take-append-drop}
-use lib.Seq.{take-at, drop-at, getD-drop, length-take-le}
-use lib.IntN.{ℤ, pos}
-use lib.Signed.{mag}
+use lib.ListN.{length, take, drop, replicate, length-append, length-map}
+use lib.Seq.{take-at, drop-at}
+use lib.IntN.{ℤ}
 use Rattle.numbers.specs.Walk.{bytesAt}
-use Rattle.numbers.specs.Cause.{refuseIf, then}
 use Rattle.numbers.specs.declared.Check.the-variants.{Fine}
 use Rattle.numbers.proofs.CauseLaws.{passed, then-fine}
 use Rattle.numbers.specs.Terms.{Bytes}
-use Rattle.scalars.specs.Scalar.{powers, powerOf, scaledValues, smallest, groupNumbers, groupScalar, isScalar, isSmallest}
+use Rattle.scalars.specs.Scalar.{powers, powerOf, smallest, groupNumbers, groupScalar, isSmallest}
 use Rattle.scalars.proofs.Fit32.{Fit32}
 use Rattle.scalars.proofs.Powers.{power-lt, smallest-lt}
-use Rattle.scalars.proofs.Laws.{fit-held, scalar-fits16, length-held, smallest-held, scalar-held}
-use Rattle.reel.specs.Layout.{Field, traceWidths, traceFields, elevationScalar, coordinateScalar, fieldNumber}
-use Rattle.reel.specs.Meaning.{traceNumber}
-use Rattle.headers.proofs.NumberLaws.{total, fields-again}
+use Rattle.scalars.proofs.Laws.{fit-held, scalar-fits16, length-held}
+use Rattle.reel.specs.Layout.{Field, traceWidths, traceFields, elevationScalar, fieldNumber}
+use Rattle.headers.proofs.NumberLaws.{fields-again}
 use Rattle.headers.proofs.TraceLaws.{trace-counts}
-use Rattle.headers.proofs.Ranges.{Fit, Some, allSome, some-of, fit-append, size-numbers, numbers-inj, fields-fit}
-use Rattle.reel.specs.Meaning.{elevationFields, coordinateFields, Header, headerOf}
-use Rattle.headers.specs.Header.{numberBytes, headerNumbers, headerBytes, smallestCause, smallestCauses}
-use Rattle.headers.proofs.Listed.{front, elevationsIn, scalarsOn, elevationScalarIn, coordinateScalarIn, coordinatesIn, behind, joined, listed, header-listed, Scaled, listed-numbers, numbers-only, numbers-listed}
+use Rattle.headers.proofs.Ranges.{Fit, Some, allSome, some-of, fit-append, numbers-size, size-numbers, numbers-inj, fields-fit}
+use Rattle.reel.specs.Meaning.{elevationFields, coordinateFields, bareFields, Header, headerOf}
+use Rattle.headers.specs.Header.{numberBytes, headerNumbers, headerBytes, headerSize, smallestCause, smallestCauses}
+use Rattle.headers.proofs.Listed.{front, elevationsIn, scalarsOn, elevationScalarIn, coordinateScalarIn, coordinatesIn, behind, listed, header-listed, Scaled, listed-numbers, numbers-only, numbers-listed}
 
 -- ## Fields that fit, in parts
 
@@ -122,6 +119,20 @@ numbers-fit h p =
     rw widths-are
     (fit-append widths-front (replicate 7 4 ++ (2 ∷ 2 ∷ (replicate 4 4 ++ widths-behind))) (take 12 (h .numbers)) _ (p .before)
     (fit-append (replicate 7 4) (2 ∷ 2 ∷ (replicate 4 4 ++ widths-behind)) (groupNumbers (h .elevations)) (groupScalar (h .elevations) ∷ groupScalar (h .coordinates) ∷ back) e z))
+
+-- ## Its 71 numbers and 180 bytes, whatever its fields hold
+
+pub header-count : (f : Field → ℤ) → length (headerNumbers (headerOf f)) ≡ 71
+unfolding headerNumbers headerOf bareFields elevationFields coordinateFields traceFields traceWidths
+header-count f = simp (length-append, length-held)
+
+widths-count : length traceWidths ≡ 71
+unfolding traceWidths
+widths-count = refl
+
+pub size-header : (f : Field → ℤ) → length (headerBytes (headerOf f)) ≡ headerSize
+unfolding headerBytes
+size-header f = numbers-size traceWidths (headerNumbers (headerOf f)) (widths-count ∙ sym (header-count f)) ∙ trace-counts .1
 
 -- ## Headers and bytes
 

@@ -1,15 +1,15 @@
 -- A header's meaning and the list of its 71 numbers determine each other. No byte plays a part here. Assumes nothing.
-use mathlib.Core.Path.{_≡_, refl, sym, ap, ap₂, _∙_, subst}
+use mathlib.Core.Path.{_≡_, refl, sym, ap, _∙_}
 use mathlib.Core.List.{List, [], _∷_, _++_, map}
-use mathlib.Core.Bool.{Bool, true, false}
-use Prim.Native.Nat.{ℕ, zero, suc, _+_, _-_, _≤_, _<_}
+use mathlib.Core.Bool.{true}
+use Prim.Native.Nat.{ℕ, _+_, _≤_, _<_}
 use native.Mathlib.Omega.{arith}
-use lib.ListN.{length, getD, take, drop, replicate, length-append, length-drop, length-map, take-append-drop}
+use lib.ListN.{length, getD, take, drop, length-drop, take-append-drop}
 use lib.Seq.{take-at, drop-at, getD-drop, length-take-le}
 use lib.IntN.{ℤ, pos}
 use Rattle.scalars.specs.Scalar.{powers, scaledValues, smallest, groupNumbers, groupScalar, isScalar, isSmallest}
 use Rattle.scalars.proofs.Laws.{scale-back, held-again, length-held, smallest-held, scalar-held}
-use Rattle.reel.specs.Layout.{Field, traceWidths, traceFields, elevationScalar, coordinateScalar}
+use Rattle.reel.specs.Layout.{Field, traceWidths, traceFields}
 use Rattle.reel.specs.Meaning.{elevationFields, coordinateFields, bareFields, Header, headerOf}
 use Rattle.headers.specs.Header.{headerNumbers}
 

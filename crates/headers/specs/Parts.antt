@@ -1,6 +1,6 @@
 -- The groups of a header in their bytes, and a record's header as the code writes it: for the functions inside this crate.
 use Prim.Native.Nat.{ℕ, _+_}
-use mathlib.Core.List.{List, [], _∷_, _++_, map}
+use mathlib.Core.List.{List, _++_, map}
 use lib.Dec.{eqb}
 use lib.IntN.{ℤ}
 use Rattle.numbers.specs.Walk.{pick, walk, flat, bytesAt, overwritten}

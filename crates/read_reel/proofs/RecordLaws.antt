@@ -1,41 +1,34 @@
 -- The record that the code writes is the record of what the reel means. Assumes nothing.
 use mathlib.Core.Path.{_≡_, refl, sym, ap, ap₂, _∙_}
 use mathlib.Core.List.{List, [], _∷_, _++_, map, append-assoc, append-nil}
-use mathlib.Core.Bool.{Bool, true, false}
-use Prim.Native.Nat.{ℕ, zero, suc, _+_, _-_, _*_, _^_, _<_}
-use native.Mathlib.Nat.{add-zero, mul-comm}
-use native.Mathlib.Omega.{arith}
-use borrow.Author.Tests.{eqb-true, le-leb, ne-eqb}
-use lib.Dec.{eqb}
+use mathlib.Core.Bool.{true}
+use Prim.Native.Nat.{ℕ, zero, suc, _+_, _-_, _*_}
+use native.Mathlib.Nat.{mul-comm}
+use borrow.Author.Tests.{le-leb}
 use lib.ListN.{length, length-append}
-use lib.IntN.{pos, natAbs}
 use Rattle.numbers.specs.Terms.{Bytes}
-use Rattle.numbers.specs.Walk.{pick, walk, flat, bytesAt, overwritten}
+use Rattle.numbers.specs.Walk.{walk, flat, bytesAt, overwritten}
 use Rattle.numbers.specs.Places.{bytePlace}
-use Rattle.numbers.specs.Cause.{refuseIf, firstOf}
+use Rattle.numbers.specs.Cause.{firstOf}
 use Rattle.numbers.specs.BigEndian.{bytesOf}
-use Rattle.numbers.specs.TwosComplement.{signedOf, bitsOf}
 use Rattle.numbers.specs.declared.Check.the-variants.{Fine}
-use Rattle.numbers.proofs.WalkLaws.{size-walk, size-bytes}
-use Rattle.numbers.proofs.Filling.{over-part, over-bytes}
+use Rattle.numbers.proofs.WalkLaws.{size-walk}
 use Rattle.numbers.proofs.CauseLaws.{passed, then-fine}
-use Rattle.numbers.proofs.ByteLaws.{number-at, bytes-append}
-use Rattle.numbers.proofs.SignLaws.{abs-zero, bits-signed}
 use Rattle.value.specs.Value.{isCode, exactValue}
 use Rattle.sample.specs.Reading.{badGain}
-use Rattle.reel.specs.Layout.{cardBytes, fieldsFrom, traceWidths, traceFields, fieldNumber, firstTrace, traceHeader, number16, samplesOf, intervalOf, codeOf, sampleBytes, strideOf, tracesOf}
-use Rattle.reel.specs.Causes.{neither, wordCause, traceCauses, causesOf}
-use Rattle.reel.specs.Meaning.{cardText, binaryNumbers, filled, traceNumber, traceMeaning, meaningOf}
-use Rattle.reel.proofs.CheckLaws.{Numbers, reel-fine}
-use Rattle.record.specs.Record.{field, numberBytes, binaryBytes, valueBytes, samplesField, traceBytes, recordOf, reelRecord}
-use Rattle.record.proofs.NumberLaws.{fields-again, numbers-append}
+use Rattle.reel.specs.Layout.{cardBytes, firstTrace, traceHeader, samplesOf, intervalOf, codeOf, sampleBytes, strideOf, tracesOf}
+use Rattle.reel.specs.Causes.{wordCause, traceCauses, causesOf}
+use Rattle.reel.specs.Meaning.{cardText, binaryNumbers, traceNumber, headerOf, traceMeaning, meaningOf}
+use Rattle.reel.proofs.CheckLaws.{words-fine, Numbers, reel-fine}
+use Rattle.record.specs.Record.{field, binaryBytes, valueBytes, samplesField, traceBytes, recordOf, reelRecord}
 use Rattle.record.specs.Form.{binarySize, codePlace}
-use Rattle.record.proofs.HeaderLaws.{trace-front, trace-back, countField, intervalField, size-cards}
+use Rattle.record.proofs.HeaderLaws.{size-cards}
 use Rattle.record.proofs.StoredLaws.{size-binary, code-stored}
 use Rattle.read_samples.specs.Samples.{sampleCopied, places, samplePairs}
-use Rattle.read_reel.specs.Copied.{tagBytes, fieldsCopied, headCopied, ownOr, recordHeaderCopied, recordTraceCopied, recordCopied}
+use Rattle.read_reel.specs.Copied.{tagBytes, fieldsCopied, headCopied, recordTraceCopied, recordCopied}
 use Rattle.read_samples.proofs.SampleLaws.{size-samples}
-use Rattle.read_reel.proofs.CopiedLaws.{size-header}
+use Rattle.headers.specs.Header.{headerBytes}
+use Rattle.headers.proofs.HeaderBytes.{size-header}
 
 -- ## Fields
 
@@ -61,55 +54,6 @@ head-is s h =
     ∙ append-assoc cards (tagBytes 2 binarySize) binary
     ∙ sym (ap₂ (λ (x y : List ℕ). x ++ y) (field-is 1 cardBytes (cardText s) (size-cards s)) (field-is 2 binarySize binary (size-binary s h 0 0)))
 
--- ## A trace header
-
--- a number that is filled in, by its bits
-fill-bits : (own v : ℕ) → v < 2 ^ 16 → bitsOf 16 (filled own (signedOf 16 v)) ≡ ownOr own v
-fill-bits own zero h = refl
-fill-bits own (suc k) h = go (eqb (natAbs (signedOf 16 (suc k))) 0) refl
-  where
-    back : bitsOf 16 (signedOf 16 (suc k)) ≡ suc k
-    back = bits-signed 16 (suc k) (omega arith) h
-
-    some : suc k ≡ 0 → ⊥
-    some e = omega arith
-
-    go : (b : Bool) → eqb (natAbs (signedOf 16 (suc k))) 0 ≡ b → bitsOf 16 (pick b (pos own) (signedOf 16 (suc k))) ≡ ownOr own (suc k)
-    go true q = absurd (some (sym back ∙ ap (bitsOf 16) (abs-zero (signedOf 16 (suc k)) (eqb-true _ 0 q))))
-    go false q = back ∙ rw (ne-eqb (suc k) 0 some)
-
--- the bytes around the two fields, and what is stored over them
-filled-is : (s : List ℕ) (n i at : ℕ)
-    → recordHeaderCopied s n i at ≡ bytesAt s at 114 ++ (bytesOf 2 (ownOr n (number16 s (at + 114))) ++ (bytesOf 2 (ownOr i (number16 s (at + 116))) ++ bytesAt s (at + 118) 62))
-unfolding recordHeaderCopied
-filled-is s n i at =
-    let x = bytesAt s at 114 in
-    let y = bytesOf 2 (ownOr n (number16 s (at + 114))) in
-    let u = bytesOf 2 (ownOr i (number16 s (at + 116))) in
-    let a = at + 114 + 2 in
-    let z = bytesAt s (a + 2) 62 in
-    let first : overwritten (bytesAt s at 180) 114 y ≡ (x ++ y) ++ (bytesAt s a 2 ++ z) =
-    over-bytes s at 114 64 y ∙ ap (λ (l : List ℕ). x ++ (y ++ l)) (bytes-append s a 2 62) ∙ sym (append-assoc x y (bytesAt s a 2 ++ z)) in
-    let size : length (x ++ y) ≡ 116 = simp (length-append, size-bytes) in
-    let next : a + 2 ≡ at + 118 = omega arith in
-    ap (λ (l : List ℕ). overwritten l 116 u) first
-    ∙ over-part (x ++ y) (bytesAt s a 2) z u 116 size (size-bytes s a 2)
-    ∙ append-assoc x y (u ++ z)
-    ∙ ap (λ (p : ℕ). x ++ (y ++ (u ++ bytesAt s p 62))) next
-
-header-is : (s : List ℕ) → Bytes s → (n i at : ℕ) → numberBytes traceWidths (map (traceNumber s n i at) traceFields) ≡ recordHeaderCopied s n i at
-unfolding traceWidths traceFields trace-front trace-back
-header-is s h n i at =
-    let f = fieldNumber s at in
-    let zero-at : at + (1 - 1) ≡ at = add-zero at in
-    let a = fields-again s h at 1 trace-front (omega arith) ∙ ap (λ (p : ℕ). bytesAt s p 114) zero-at in
-    let b = ap (bytesOf 2) (fill-bits n (number16 s (at + 114)) (number-at s h (at + 114) 2)) in
-    let c = ap (bytesOf 2) (fill-bits i (number16 s (at + 116)) (number-at s h (at + 116) 2)) in
-    let d = fields-again s h at 119 trace-back (omega arith) in
-    numbers-append trace-front (2 ∷ 2 ∷ trace-back) (map f (fieldsFrom 1 trace-front)) (filled n (f countField) ∷ filled i (f intervalField) ∷ map f (fieldsFrom 119 trace-back)) refl
-    ∙ ap₂ (λ (x y : List ℕ). x ++ y) a (ap₂ (λ (x y : List ℕ). x ++ y) b (ap₂ (λ (x y : List ℕ). x ++ y) c d))
-    ∙ sym (filled-is s n i at)
-
 -- ## Samples
 
 -- a word that is not refused
@@ -125,25 +69,22 @@ samples-walk s code w h (suc k) at e =
 
 -- ## Traces
 
-module _ (s : List ℕ) (b : Bytes s) (code n i : ℕ) (h : isCode code ≡ true) where
+module _ (s : List ℕ) (code n i : ℕ) (h : isCode code ≡ true) where
   samples-are : (at : ℕ) → firstOf (walk (wordCause s code) (sampleBytes code) n at) ≡ Fine
       → flat (map valueBytes (walk (λ p. exactValue code (bytesAt s p 4)) (sampleBytes code) n at)) ≡ samplePairs s code n at
   unfolding samplePairs
   samples-are at e = samples-walk s code (sampleBytes code) h n at e
 
   trace-is : (at : ℕ) → traceCauses s code n i at ≡ Fine → traceBytes (traceMeaning s code n i at) ≡ recordTraceCopied s code n i at
-  unfolding traceBytes traceMeaning samplesField traceCauses recordTraceCopied
+  unfolding traceBytes traceMeaning samplesField recordTraceCopied
   trace-is at e =
-      let c = then-fine (refuseIf (neither (number16 s (at + 114)) n) 7 (at + 114)) _ e in
-      let d = then-fine (refuseIf (neither (number16 s (at + 116)) i) 8 (at + 116)) _ (c .1) in
-      let header = numberBytes traceWidths (map (traceNumber s n i at) traceFields) in
+      let header = headerBytes (headerOf (traceNumber s n i at)) in
       let samples = flat (map valueBytes (walk (λ p. exactValue code (bytesAt s p 4)) (sampleBytes code) n (at + traceHeader))) in
-      let hi : header ≡ recordHeaderCopied s n i at = header-is s b n i at in
-      let si : samples ≡ samplePairs s code n (at + traceHeader) = samples-are (at + traceHeader) (d .1) in
-      let hf : field 3 header ≡ tagBytes 3 180 ++ recordHeaderCopied s n i at = field-is 3 180 header (ap length hi ∙ size-header s n i at) ∙ ap (λ (l : List ℕ). tagBytes 3 180 ++ l) hi in
+      let si : samples ≡ samplePairs s code n (at + traceHeader) = samples-are (at + traceHeader) (words-fine s code n i at e) in
+      let hf : field 3 header ≡ tagBytes 3 180 ++ header = field-is 3 180 header (size-header (traceNumber s n i at)) in
       let sf : field 4 samples ≡ tagBytes 4 (6 * n) ++ samplePairs s code n (at + traceHeader) =
       field-is 4 (6 * n) samples (ap length si ∙ size-samples s code n (at + traceHeader) ∙ mul-comm n 6) ∙ ap (λ (l : List ℕ). tagBytes 4 (6 * n) ++ l) si in
-      ap₂ (λ (x y : List ℕ). x ++ y) hf sf ∙ append-assoc (tagBytes 3 180) (recordHeaderCopied s n i at) (tagBytes 4 (6 * n) ++ samplePairs s code n (at + traceHeader))
+      ap₂ (λ (x y : List ℕ). x ++ y) hf sf ∙ append-assoc (tagBytes 3 180) header (tagBytes 4 (6 * n) ++ samplePairs s code n (at + traceHeader))
 
   traces-walk : (w k at : ℕ) → firstOf (walk (traceCauses s code n i) w k at) ≡ Fine
       → flat (map traceBytes (walk (traceMeaning s code n i) w k at)) ≡ flat (map (recordTraceCopied s code n i) (places w k at))
@@ -166,7 +107,7 @@ record-is s b e =
     let i = intervalOf s in
     let w = strideOf s in
     let t = tracesOf s in
-    let z = traces-walk s b code n i (code-sound code n i (h .numbers)) w t firstTrace (h .traces) in
+    let z = traces-walk s code n i (code-sound code n i (h .numbers)) w t firstTrace (h .traces) in
     let v : field 5 (bytesOf 4 (length (walk (traceMeaning s code n i) w t firstTrace))) ≡ tagBytes 5 4 ++ bytesOf 4 t =
     ap (λ (k : ℕ). field 5 (bytesOf 4 k)) (size-walk (traceMeaning s code n i) w t firstTrace) ∙ field-is 5 4 (bytesOf 4 t) refl in
     sym (append-assoc (field 1 (cardText s)) (field 2 (binaryBytes 0 (binaryNumbers s))) _)

@@ -3,21 +3,21 @@
 ghost use mathlib.Core.Path.{_≡_};
 ghost use mathlib.Core.Bool.{true};
 ghost use mathlib.Core.List.{_++_, map};
-ghost use Prim.Native.Nat.{_+_, _*_, _<_, _≤_};
+ghost use Prim.Native.Nat.{_+_, _*_, _≤_};
 ghost use lib.ListN.{length};
 ghost use Rattle.numbers.specs.Walk.{flat, overwritten};
-ghost use Rattle.numbers.specs.Places.{placeNo, byteNo, bytePlace};
+ghost use Rattle.numbers.specs.Places.{placeNo};
 ghost use Rattle.numbers.specs.BigEndian.{bytesOf};
 ghost use Rattle.value.specs.Value.{isCode};
-ghost use Rattle.reel.specs.Layout.{firstTrace, number16, sampleBytes, stride};
+ghost use Rattle.reel.specs.Layout.{firstTrace, sampleBytes, stride};
 ghost use Rattle.reel.specs.Causes.{mostSamples, mostTraces, reelJudged};
 ghost use Rattle.reel.specs.Meaning.{blank};
 ghost use Rattle.read_samples.specs.Samples.{places};
-ghost use Rattle.record.specs.Form.{tracesPlace, headerSize, heldStride};
+ghost use Rattle.record.specs.Form.{tracesPlace, heldStride};
 ghost use Rattle.record.specs.Record.{recordLength};
 ghost use Rattle.record.specs.Answer.{outcome};
 ghost use Rattle.read_reel.specs.Reading.{readOutcome};
-ghost use Rattle.read_reel.specs.Copied.{tagBytes, fieldsCopied, headCopied, ownOr, fieldFilled, recordHeaderCopied, recordTraceCopied, recordCopied};
+ghost use Rattle.read_reel.specs.Copied.{tagBytes, fieldsCopied, headCopied, recordTraceCopied, recordCopied};
 use numbers::ByteNo;
 use numbers::Place;
 use record::Answer;
@@ -53,18 +53,6 @@ fn put_cards(src: &[u8], out: &mut [u8])
     }
 }
 
-// The number in a field of the trace at a place, or the reel's own where it is 0.
-fn own_at(reel: &[u8], own: u16, at: usize, b: ByteNo) -> u16
-    requires { ⌜ (1 ≤ byteNo b) × (at + byteNo b ≤ length (now reel)) ⌝ }
-    ensures { λ r. ⌜ r ≡ ownOr own (number16 (now (reel .entry)) (bytePlace at (byteNo b))) ⌝ }
-{
-    let v = slices::number16_at(reel, places::field_at(Place(at), b));
-    if v == 0 {
-        return own;
-    }
-    v
-}
-
 // Stores a number over the two bytes at a place.
 fn put_over(n: u16, at: Place, out: &mut [u8])
     requires { ⌜ placeNo at + 2 ≤ length (now out) ⌝ }
@@ -72,24 +60,6 @@ fn put_over(n: u16, at: Place, out: &mut [u8])
 {
     let p = at.0;
     slices::put16(n, &mut out[p..p + 2]);
-}
-
-// Fills in a field of the trace at a place, in a copy of its header.
-fn fill_field(reel: &[u8], own: u16, at: usize, b: ByteNo, out: &mut [u8])
-    requires { ⌜ (1 ≤ byteNo b) × (byteNo b < length (now out)) × (at + length (now out) ≤ length (now reel)) ⌝ }
-    ensures { λ _. ⌜ now (out .exit) ≡ fieldFilled (now (reel .entry)) own at (byteNo b) (now (out .entry)) ⌝ }
-{
-    put_over(own_at(reel, own, at, b), places::field_at(Place(0), b), out);
-}
-
-// A trace's 71 fields, with N and the interval filled in.
-fn put_header(reel: &[u8], n: u16, i: u16, at: usize, out: &mut [u8])
-    requires { ⌜ (at + headerSize ≤ length (now reel)) × (length (now out) ≡ headerSize) ⌝ }
-    ensures { λ _. ⌜ now (out .exit) ≡ recordHeaderCopied (now (reel .entry)) n i at ⌝ }
-{
-    slices::copy(&reel[at..at + 180], out);
-    fill_field(reel, n, at, ByteNo(115), out);
-    fill_field(reel, i, at, ByteNo(117), out);
 }
 
 // A trace: its header and its samples, each behind its tag.
@@ -100,7 +70,7 @@ fn put_trace(reel: &[u8], code: usize, n: u16, i: u16, at: usize, out: &mut [u8]
     let size = 6 * n;
     let e = 186 + size as usize;
     put_tag(3, 180, &mut out[0..3]);
-    put_header(reel, n, i, at, &mut out[3..183]);
+    headers::read_header(reel, n, i, Place(at), &mut out[3..183]);
     put_tag(4, size, &mut out[183..186]);
     read_samples::read_samples(reel, code, n as usize, Place(at + 240), &mut out[186..e]);
 }
@@ -172,7 +142,7 @@ fn put_record(reel: &[u8], code: usize, n: u16, i: u16, w: usize, t: usize, out:
     put_count(t as u32, &mut out[e..e + 7]);
 }
 
-// A reel to which no cause of 1 to 9 applies, by its own numbers.
+// A reel to which no cause of 1 to 9 and 18 applies, by its own numbers.
 fn read_checked(
     reel: &[u8],
     code: usize,

@@ -68,6 +68,12 @@ pub trace-parts : (s : List ℕ) (n i at : ℕ)
 unfolding traceForm
 trace-parts s n i at = header-then s n i at (samplesCauses s n (at + 183))
 
+-- where it has none, its scalars are those of the smallest powers
+pub scalars-fine : (s : List ℕ) (n i at : ℕ) → traceForm s n i at ≡ Fine → smallestCauses s (at + 3) ≡ Fine
+scalars-fine s n i at e =
+    let a = then-fine (fieldCause s 3 180 at) _ (sym (trace-parts s n i at) ∙ e) in
+    then-fine (smallestCauses s (at + 3)) _ (a .1) .0
+
 -- and those of its fields alone
 pub head-form : (s : List ℕ) (n i at : ℕ)
     → headForm s n i at

@@ -1,7 +1,7 @@
 -- The record of a meaning: tagged fields in the order that document 01 sets. The bytes of a trace header, which document 02 changes (CR 2),
 -- are those of `Header` in `headers`.
 use Prim.Native.Nat.{ℕ, _+_, _*_}
-use mathlib.Core.List.{List, [], _∷_, _++_, map}
+use mathlib.Core.List.{List, _∷_, _++_, map}
 use lib.ListN.{length, take, drop}
 use lib.IntN.{ℤ, pos}
 use Rattle.numbers.specs.Walk.{flat}

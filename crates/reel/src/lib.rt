@@ -8,7 +8,7 @@ ghost use Rattle.numbers.specs.Cause.{refuseIf, then, firstOf};
 ghost use Rattle.numbers.specs.declared.Check.the-variants.{Fine};
 ghost use Rattle.numbers.specs.Places.{placeNo, byteNo, bytePlace};
 ghost use Rattle.value.specs.Value.{isCode};
-ghost use Rattle.reel.specs.Layout.{firstTrace, traceHeader, number16, sampleBytes, stride};
+ghost use Rattle.reel.specs.Layout.{traceHeader, number16, sampleBytes, stride};
 ghost use Rattle.reel.specs.Causes.{within, neither, limitCauses, sizeCauses, scalarCause, wordCause, traceCauses, behindCauses, causesOf, reelJudged};
 ghost use Rattle.reel.specs.Parts.{wordRefused, headCauses};
 use numbers::ByteNo;

@@ -2,12 +2,12 @@
 use mathlib.Core.Path.{_≡_, refl}
 use mathlib.Core.Bool.{true, false}
 use mathlib.Core.List.{List, [], _∷_}
-use Prim.Native.Nat.{ℕ, zero, suc, _-_, _^_, _<_}
+use Prim.Native.Nat.{zero, _-_, _^_}
 use lib.IntN.{ℤ, pos, negℤ}
 use lib.ListN.{replicate}
 use Rattle.numbers.specs.TwosComplement.{bitsOf}
 use Rattle.numbers.specs.First.{first}
-use Rattle.scalars.specs.Scalar.{powerOf, scalarOf, scaledValues, smallest, groupNumbers, groupScalar, isSmallest, isScalar}
+use Rattle.scalars.specs.Scalar.{powerOf, scalarOf, scaledValues, smallest, groupNumbers, groupScalar, isSmallest}
 
 -- What a record holds of the numbers ns under a scalar.
 record Holds (scalar : ℤ) (ns : List ℤ) (held : ℤ) (ms : List ℤ) : Type 0 where

@@ -1,25 +1,23 @@
 -- The laws of a group under its scalar. Assumes nothing.
 use mathlib.Core.Path.{_≡_, refl, sym, ap, ap₂, _∙_, subst}
-use mathlib.Core.Logic.{_⊎_, inl, inr, ⊎-elim}
+use mathlib.Core.Logic.{inr}
 use mathlib.Core.Bool.{Bool, true, false, not, _&&_, _||_}
-use mathlib.Core.List.{List, [], _∷_, _++_, map}
+use mathlib.Core.List.{List, [], _∷_, _++_}
 use Prim.Native.Nat.{ℕ, zero, suc, _+_, _-_, _*_, _^_, _≤_, _<_}
-use native.Mathlib.Nat.{zero-mod, zero-div, zero-mul, mul-one, add-zero, eq-or-lt-of-le}
+use native.Mathlib.Nat.{zero-mod, zero-div, zero-mul}
 use native.Mathlib.Omega.{arith}
 use borrow.Author.Tests.{eq-eqb, ne-eqb, eqb-true, le-leb, leb-true, leb-false, not-true, not-false}
-use lib.Dec.{T, eqb, leb, ltb}
+use lib.Dec.{T, eqb, leb}
 use lib.IntN.{ℤ, pos, negsuc, natAbs, _*ℤ_}
 use lib.ListN.{length, length-map, replicate}
 use lib.Signed.{mag}
-use Rattle.numbers.specs.Walk.{pick}
-use Rattle.numbers.proofs.SignLaws.{below-or}
 use Rattle.numbers.proofs.WalkLaws.{cons-eq}
 use Rattle.numbers.specs.First.{first}
 use Rattle.value.specs.Writing.{isNegative, isMultiple, holds, numberOf, inBits}
 use Rattle.numbers.proofs.FirstLaws.{found}
 use Rattle.value.proofs.Magnitudes.{in-bits}
-use Rattle.scalars.specs.Scalar.{bare, powers, zerosIn, isAmong, isScalar, powerOf, scalarOf, scaledBy, scaledValues, serves, smallest, numbersAt, groupNumbers, groupScalar, sameNumber, isSmallest}
-use Rattle.scalars.specs.Parts.{largest, Raised}
+use Rattle.scalars.specs.Scalar.{powers, isScalar, powerOf, scalarOf, scaledBy, scaledValues, serves, smallest, numbersAt, groupNumbers, groupScalar, sameNumber, isSmallest}
+use Rattle.scalars.specs.Parts.{largest}
 use Rattle.scalars.proofs.Fit32.{Fit32, largest-fits}
 use Rattle.numbers.proofs.BoolLaws.{and-true}
 use Rattle.value.proofs.Held.{in-mag, quot-mul, mul-quot}

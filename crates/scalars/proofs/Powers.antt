@@ -1,10 +1,10 @@
 -- Which powers serve a group: up to the power of its own scalar, those at which its largest magnitude stays within 2 ^ 31. Assumes
 -- nothing.
-use mathlib.Core.Path.{_≡_, refl, sym, ap, ap₂, _∙_, subst}
-use mathlib.Core.Logic.{_⊎_, inl, inr, ⊎-elim}
+use mathlib.Core.Path.{_≡_, refl, sym, ap, _∙_, subst}
+use mathlib.Core.Logic.{_⊎_, ⊎-elim}
 use mathlib.Core.Bool.{Bool, true, false, _&&_}
-use mathlib.Core.List.{List, [], _∷_, map}
-use Prim.Native.Nat.{ℕ, zero, suc, _+_, _-_, _*_, _/_, _%_, _^_, _≤_, _<_, max}
+use mathlib.Core.List.{List, [], _∷_}
+use Prim.Native.Nat.{ℕ, zero, suc, _+_, _-_, _*_, _^_, _≤_, _<_, max}
 use native.Mathlib.Nat.{mul-assoc, one-le-pow, pow-le-pow-right, mul-le-mul-left, mul-le-mul-right, le-max-left, le-max-right, pow-suc, sub-add-cancel, zero-mul, max-eq-left, max-eq-right, eq-or-lt-of-le, le-trans}
 use native.Mathlib.Omega.{arith}
 use borrow.Author.Tests.{lt-ltb, le-ltb, le-leb, lt-leb}
@@ -16,7 +16,6 @@ use lib.Signed.{mag}
 use Rattle.numbers.specs.Walk.{pick}
 use Rattle.numbers.proofs.SignLaws.{below-or}
 use Rattle.numbers.proofs.WalkLaws.{cons-eq}
-use Rattle.numbers.specs.First.{first}
 use Rattle.value.specs.Writing.{isNegative, numberOf, holds}
 use Rattle.value.specs.Value.{signMagnitude}
 use Rattle.numbers.proofs.FirstLaws.{first-at, found}

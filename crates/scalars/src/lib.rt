@@ -1,7 +1,6 @@
 // Elevations and coordinates with their scalars: the power of a scalar, and a group at the smallest
 // power at which all its numbers are whole and fit 32 signed bits.
 ghost use mathlib.Core.Path.{_≡_};
-ghost use mathlib.Core.List.{[], _∷_};
 ghost use Prim.Native.Nat.{_+_, _*_, _^_, _<_, _≤_, max};
 ghost use lib.IntN.{pos, natAbs, _*ℤ_};
 ghost use lib.Signed.{mag};

@@ -3,8 +3,6 @@ use mathlib.Core.Path.{_≡_, refl, sym, ap, ap₂, _∙_}
 use mathlib.Core.List.{List, _++_, map, append-assoc}
 use mathlib.Core.Bool.{true}
 use Prim.Native.Nat.{ℕ, zero, suc, _+_, _-_}
-use native.Mathlib.Nat.{add-zero}
-use native.Mathlib.Omega.{arith}
 use borrow.Author.Tests.{not-false}
 use lib.ListN.{length, replicate}
 use Rattle.numbers.specs.Terms.{Bytes}
@@ -17,14 +15,15 @@ use Rattle.numbers.proofs.CauseLaws.{passed, then-fine}
 use Rattle.numbers.proofs.WalkLaws.{size-bytes}
 use Rattle.value.specs.Value.{isCode}
 use Rattle.value.specs.Pair.{isCanonical, pairLength, pairIn}
-use Rattle.reel.specs.Layout.{cardBytes, traceHeader, traceWidths, traceFields, fieldNumber}
-use Rattle.record.specs.Record.{numberBytes, binaryBytes}
-use Rattle.record.specs.Form.{fieldHead, binarySize, binaryStart, headerSize, toPairs, heldSamples, heldInterval, heldStride, heldCount, tracesPlace, pairCause, traceForm, cardsCauses, binaryCauses, bodyCauses, formCauses}
+use Rattle.reel.specs.Layout.{cardBytes, traceHeader}
+use Rattle.headers.specs.Header.{headerSize}
+use Rattle.record.specs.Record.{binaryBytes}
+use Rattle.record.specs.Form.{fieldHead, binarySize, binaryStart, toPairs, heldSamples, heldInterval, heldStride, heldCount, tracesPlace, pairCause, traceForm, cardsCauses, binaryCauses, bodyCauses, formCauses}
 use Rattle.record.specs.Held.{heldValue, heldTrace, heldBy}
 use Rattle.record.specs.Parts.{headForm}
-use Rattle.record.proofs.NumberLaws.{fields-again}
+use Rattle.headers.proofs.HeaderBytes.{bytes-again}
 use Rattle.record.proofs.StoredLaws.{code-stored}
-use Rattle.record.proofs.FormLaws.{trace-form}
+use Rattle.record.proofs.FormLaws.{trace-form, scalars-fine}
 use Rattle.write_reel.specs.Reel.{sampleWritten, binaryHeader, traceWritten, reelOf}
 use Rattle.write_samples.specs.Samples.{wordBytes, writtenAt, sampleWords}
 use Rattle.write_reel.specs.Copied.{reelHeaderCopied, reelTraceCopied, partsCopied, reelCopied}
@@ -48,18 +47,15 @@ samples-walk s code h w (suc k) at e =
 -- ## Traces
 
 module _ (s : List ℕ) (b : Bytes s) (code n i : ℕ) (h : isCode code ≡ true) where
-  header-is : (at : ℕ) → numberBytes traceWidths (map (fieldNumber s (at + 3)) traceFields) ≡ bytesAt s (at + 3) 180
-  unfolding traceFields traceWidths
-  header-is at = fields-again s b (at + 3) 1 traceWidths (omega arith) ∙ ap (λ (p : ℕ). bytesAt s p 180) (add-zero (at + 3))
-
   trace-is : (at : ℕ) → traceForm s n i at ≡ Fine → traceWritten code (heldTrace s n at) ≡ reelTraceCopied s code n at
   unfolding traceWritten heldTrace reelTraceCopied sampleWords
   trace-is at e =
       let t = then-fine (headForm s n i at) _ (sym (trace-form s n i at) ∙ e) in
+      let header-is = bytes-again s b (at + fieldHead) (scalars-fine s n i at e) in
       let header = bytesAt s (at + fieldHead) headerSize in
       let zeros : List ℕ = replicate (traceHeader - headerSize) 0 in
       let words = flat (map (wordBytes code) (walk (writtenAt s code) pairLength n (at + toPairs))) in
-      ap₂ (λ (x y : List ℕ). x ++ (zeros ++ y)) (header-is at) (samples-walk s code h pairLength n (at + toPairs) (t .1))
+      ap₂ (λ (x y : List ℕ). x ++ (zeros ++ y)) header-is (samples-walk s code h pairLength n (at + toPairs) (t .1))
       ∙ sym (append-assoc header zeros words)
       ∙ ap (λ (l : List ℕ). l ++ words) (sym (header-bytes traceHeader s (at + fieldHead) headerSize))
 

@@ -8,7 +8,8 @@ use Rattle.numbers.specs.Places.{bytePlace}
 use Rattle.numbers.specs.BigEndian.{bytesOf}
 use Rattle.reel.specs.Layout.{cardBytes, traceHeader}
 use Rattle.write_samples.specs.Samples.{sampleWords}
-use Rattle.record.specs.Form.{fieldHead, binarySize, binaryStart, headerSize, toPairs, heldStride, tracesPlace}
+use Rattle.headers.specs.Header.{headerSize}
+use Rattle.record.specs.Form.{fieldHead, binarySize, binaryStart, toPairs, heldStride, tracesPlace}
 use Rattle.write_reel.specs.Reel.{binaryHeader}
 
 -- Unassigned bytes in place of a slice's content.

@@ -5,11 +5,12 @@ use lib.ListN.{replicate}
 use lib.IntN.{ℤ}
 use Rattle.numbers.specs.Walk.{flat}
 use Rattle.value.specs.Writing.{wordOf}
-use Rattle.reel.specs.Layout.{cardBytes, firstTrace, traceHeader, stride, sampleBytes, traceWidths}
+use Rattle.reel.specs.Layout.{cardBytes, firstTrace, traceHeader, stride, sampleBytes}
 use Rattle.reel.specs.Meaning.{Trace, Meaning}
 use Rattle.write_samples.specs.Samples.{wordBytes}
-use Rattle.record.specs.Record.{numberBytes, binaryBytes}
-use Rattle.record.specs.Form.{binarySize, headerSize}
+use Rattle.headers.specs.Header.{headerBytes, headerSize}
+use Rattle.record.specs.Record.{binaryBytes}
+use Rattle.record.specs.Form.{binarySize}
 
 -- A sample under a code: the bytes of its value's word, of which code 3 has the first two.
 abbrev pub sampleWritten : ℕ → ℤ → List ℕ
@@ -19,10 +20,10 @@ sampleWritten code v = wordBytes code (wordOf code v)
 abbrev pub binaryHeader : ℕ
 binaryHeader = firstTrace - cardBytes
 
--- A trace: its 71 fields, the 60 unassigned bytes of its header, which are 0, and its samples.
+-- A trace: the bytes of its 71 fields as a record holds them, the 60 unassigned bytes of its header, which are 0, and its samples.
 unfoldable pub traceWritten : ℕ → Trace → List ℕ
 traceWritten code t =
-    numberBytes traceWidths (t .numbers) ++ (replicate (traceHeader - headerSize) 0 ++ flat (map (sampleWritten code) (t .values)))
+    headerBytes (t .header) ++ (replicate (traceHeader - headerSize) 0 ++ flat (map (sampleWritten code) (t .values)))
 
 -- The reel of a meaning: the card bytes, the binary fields with the target's format code, the 340 unassigned bytes of that header,
 -- which are 0, and the traces.

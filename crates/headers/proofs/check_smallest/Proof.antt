@@ -11,7 +11,6 @@ use Rattle.scalars.specs.Scalar.{isSmallest}
 use Rattle.headers.specs.Header.{smallestCauses}
 use Rattle.headers.specs.Parts.{number2, numbersIn}
 use Rattle.headers.proofs.GroupLaws.{elevations-in, coordinates-in, test-padded}
-use native.Mathlib.Omega.{arith}
 use borrow.Author.Needs.{sfits-of, needs}
 use Rattle.headers.proofs.check_smallest.Statement.{statement}
 use Rattle.headers.proofs.check_smallest.Tie as tie

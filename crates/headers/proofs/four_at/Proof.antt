@@ -8,8 +8,7 @@ use mir.Syntax.{w32}
 use mir.Val.{toZ, ofZ}
 use mir.Facts.{toZ-ofZ}
 use Rattle.headers.specs.Parts.{number4}
-use Rattle.headers.proofs.GroupLaws.{numbers-seven, numbers-four}
-use native.Mathlib.Omega.{arith}
+use Rattle.headers.proofs.GroupLaws.{numbers-four}
 use borrow.Author.Needs.{sfits-of, needs}
 use Rattle.headers.proofs.four_at.Statement.{statement}
 use Rattle.headers.proofs.four_at.Tie as tie

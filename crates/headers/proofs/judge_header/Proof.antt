@@ -6,7 +6,6 @@ use mathlib.Core.Bool.{Bool, true, false}
 use Prim.Native.Nat.{_+_}
 use lib.ListN.{length}
 use mathlib.Core.Path.{_≡_, sym, ap, _∙_}
-use borrow.Author.Needs.{needs}
 use borrow.Author.Tests.{not-true, not-false, leb-true}
 use Rattle.headers.proofs.judge_header.Statement.{statement}
 use Rattle.headers.proofs.judge_header.Tie as tie

@@ -1,9 +1,9 @@
 -- `headers::put_elevations` meets its contract. Assumes nothing.
-use mathlib.Core.Path.{_≡_, refl, sym, ap, _∙_}
-use mathlib.Core.List.{List, _++_}
-use Prim.Native.Nat.{ℕ, _+_}
-use lib.IntN.{ℤ, pos}
-use lib.ListN.{replicate, take, length}
+use mathlib.Core.Path.{_≡_, ap, _∙_}
+use mathlib.Core.List.{List}
+use Prim.Native.Nat.{_+_}
+use lib.IntN.{ℤ}
+use lib.ListN.{take}
 use mir.Syntax.{w16}
 use mir.Val.{SFits}
 use mir.Facts.{toZ-ofZ}
@@ -11,12 +11,11 @@ use Rattle.numbers.specs.BigEndian.{bytesOf}
 use Rattle.numbers.specs.TwosComplement.{bitsOf}
 use Rattle.numbers.proofs.WalkLaws.{copied}
 use Rattle.numbers.proofs.Filling.{in-turn}
-use Rattle.scalars.specs.Scalar.{scaledValues, groupNumbers, groupScalar}
+use Rattle.scalars.specs.Scalar.{groupNumbers, groupScalar}
 use Rattle.scalars.specs.Parts.{groupOf}
 use Rattle.scalars.specs.declared.Group.{Group}
-use Rattle.headers.specs.Parts.{number2, numbersIn, groupBytes, elevationsAt, coordinatesAt, elevationsCopied, coordinatesCopied}
-use Rattle.headers.proofs.GroupLaws.{size-in, size-held, all-seven, scalar-of-padded, numbers-of-padded}
-use native.Mathlib.Omega.{arith}
+use Rattle.headers.specs.Parts.{number2, numbersIn, groupBytes, elevationsAt, elevationsCopied}
+use Rattle.headers.proofs.GroupLaws.{size-in, size-held, all-seven}
 use borrow.Author.Needs.{sfits-of, needs}
 use Rattle.headers.proofs.put_elevations.Statement.{statement}
 use Rattle.headers.proofs.put_elevations.Tie as tie

@@ -7,7 +7,7 @@ use Rattle.headers.specs.Parts.{elevationsCopied, coordinatesCopied, gro
 use Rattle.headers.proofs.GroupLaws.{size-elevations, size-coordinates}
 use Prim.Native.Nat.{ℕ, _+_}
 use mathlib.Core.List.{List}
-use mathlib.Core.Path.{_≡_, refl, sym, ap, _∙_}
+use mathlib.Core.Path.{refl, ap, _∙_}
 use native.Mathlib.Omega.{arith}
 use borrow.Author.Needs.{needs}
 use Rattle.headers.proofs.put_groups.Statement.{statement}

@@ -5,7 +5,7 @@ use Rattle.numbers.proofs.ByteLaws.{all-bytes}
 use mathlib.Core.Bool.{true, false}
 use Prim.Native.Nat.{_+_}
 use lib.ListN.{length}
-use mathlib.Core.Path.{_≡_, sym, ap, _∙_}
+use mathlib.Core.Path.{_≡_, sym, _∙_}
 use native.Mathlib.Omega.{arith}
 use borrow.Author.Needs.{needs}
 use borrow.Author.Tests.{not-true, not-false, leb-true, eq-eqb, ne-eqb}

@@ -1,15 +1,11 @@
 -- `headers::seven_at` meets its contract. Assumes nothing.
-use mathlib.Core.Path.{_≡_, sym, ap, _∙_}
-use mathlib.Core.List.{List, _++_}
+use mathlib.Core.Path.{_≡_, sym, _∙_}
 use Prim.Native.Nat.{_+_}
-use lib.IntN.{ℤ, pos}
-use lib.ListN.{replicate}
 use mir.Syntax.{w32}
 use mir.Val.{toZ, ofZ}
 use mir.Facts.{toZ-ofZ}
 use Rattle.headers.specs.Parts.{number4}
-use Rattle.headers.proofs.GroupLaws.{numbers-seven, numbers-four}
-use native.Mathlib.Omega.{arith}
+use Rattle.headers.proofs.GroupLaws.{numbers-seven}
 use borrow.Author.Needs.{sfits-of, needs}
 use Rattle.headers.proofs.seven_at.Statement.{statement}
 use Rattle.headers.proofs.seven_at.Tie as tie

@@ -1,8 +1,12 @@
 -- `read_reel::put_trace` meets its contract. Assumes nothing.
 use Rattle.read_samples.proofs.SampleLaws.{size-samples, samples-read}
-use Rattle.read_reel.proofs.CopiedLaws.{size-header, size-trace}
+use Rattle.read_reel.proofs.CopiedLaws.{size-trace}
+use Rattle.headers.specs.Header.{headerBytes}
+use Rattle.headers.proofs.HeaderBytes.{size-header}
+use Rattle.headers.proofs.CopiedLaws.{header-read}
+use Rattle.reel.specs.Meaning.{traceNumber, headerOf}
 use Rattle.read_samples.specs.Samples.{samplePairs}
-use Rattle.read_reel.specs.Copied.{tagBytes, recordHeaderCopied, recordTraceCopied}
+use Rattle.read_reel.specs.Copied.{tagBytes, recordTraceCopied}
 use Rattle.reel.specs.Layout.{traceHeader}
 use Rattle.numbers.proofs.Filling.{start, lend, close}
 use lib.ListN.{length}
@@ -28,11 +32,8 @@ part-put-tag-end c = omega (arith, c .before .before .pre .3)
 put-tag-requires : tie.Need-put-tag-requires
 put-tag-requires c κs = c .put-tag-arg .given .2
 
-part-put-header-end : tie.Need-part-put-header-end
-part-put-header-end c = omega (arith, c .before .before .before .before .before .before .pre .3, c .before .out .given .1)
-
-put-header-requires : tie.Need-put-header-requires
-put-header-requires c κs = (omega (arith, c .before .before .before .before .before .before .before .pre .2), c .put-header-arg .given .2)
+part-read-header-end : tie.Need-part-read-header-end
+part-read-header-end c = omega (arith, c .before .before .before .before .before .before .pre .3, c .before .out .given .1)
 
 part-put-tag-end-2 : tie.Need-part-put-tag-end-2
 part-put-tag-end-2 c = omega (arith, c .before .before .before .before .before .before .before .before .before .before .pre .3, c .before .before .before .before .before .out .given .1, c .before .out2 .given .1)
@@ -40,8 +41,8 @@ part-put-tag-end-2 c = omega (arith, c .before .before .before .before .before .
 put-tag-requires-2 : tie.Need-put-tag-requires-2
 put-tag-requires-2 c κs = c .put-tag-arg2 .given .2
 
-add-t20 : tie.Need-add-t20
-add-t20 c = omega (arith, c .before .before .before .before .before .before .before .before .before .before .before .before .before .before .pre .2, c .before .before .before .before .before .before .before .before .before .before .before .before .before .before .good .0)
+add-t21 : tie.Need-add-t21
+add-t21 c = omega (arith, c .before .before .before .before .before .before .before .before .before .before .before .before .before .before .pre .2, c .before .before .before .before .before .before .before .before .before .before .before .before .before .before .good .0)
 
 part-read-samples-end : tie.Need-part-read-samples-end
 part-read-samples-end c = omega (arith, c .before .before .before .before .before .before .before .before .before .before .before .before .before .before .pre .3, c .before .before .before .before .before .before .before .before .before .out .given .1, c .before .before .before .before .before .out2 .given .1, c .before .out3 .given .1)
@@ -52,11 +53,11 @@ returns c =
     let b = c .before .before .before .before .before .before .before .before .before .before .before .before .before .before .before .before .before .before in
     let a = b .args in
     let s = a .reel .now in
-    let y = recordHeaderCopied s (a .n) (a .i) (a .at) in
+    let y = headerBytes (headerOf (traceNumber s (a .n) (a .i) (a .at))) in
     let z = samplePairs s (a .code) (a .n) (a .at + traceHeader) in
     let w₀ = start _ (a .out .now) (b .pre .3 ∙ sym (size-trace s (a .code) (a .n) (a .i) (a .at))) in
     let w₁ = lend (tagBytes 3 180) (y ++ (tagBytes 4 (6 * a .n) ++ z)) 3 w₀ (omega arith) refl (c .before .before .before .before .before .before .before .before .before .before .before .before .before .before .put-tag .ensures) in
-    let w₂ = lend y (tagBytes 4 (6 * a .n) ++ z) 183 w₁ (omega arith) (size-header s (a .n) (a .i) (a .at)) (c .before .before .before .before .before .before .before .before .before .before .put-header .ensures) in
+    let w₂ = lend y (tagBytes 4 (6 * a .n) ++ z) 183 w₁ (omega arith) (size-header (traceNumber s (a .n) (a .i) (a .at))) (c .before .before .before .before .before .before .before .before .before .before .read-header .ensures ∙ header-read s (a .n) (a .i) (a .at) _ (omega (arith, b .pre .2)) (c .before .before .before .before .before .before .before .before .before .before .before .read-header-arg .given .2)) in
     let w₃ = lend (tagBytes 4 (6 * a .n)) z 186 w₂ (omega arith) refl (c .before .before .before .before .before .before .put-tag2 .ensures) in
     close z (186 + 6 * a .n) w₃ (omega arith) (size-samples s (a .code) (a .n) (a .at + traceHeader) ∙ omega arith) (c .before .before .read-samples .ensures ∙ samples-read s (a .code) (a .n) (a .at + traceHeader) _ (b .pre .0) (omega (arith, b .pre .2)) (c .before .before .before .read-samples-arg .given .2 ∙ omega arith))
 
@@ -78,13 +79,13 @@ put-trace-spec =
     put-tag-requires
     (λ c. omega arith)
     (λ c. omega arith)
-    part-put-header-end
-    put-header-requires
+    part-read-header-end
+    (λ c κs. tt)
     (λ c. omega arith)
     (λ c. omega arith)
     part-put-tag-end-2
     put-tag-requires-2
-    add-t20
+    add-t21
     (λ c. omega arith)
     (λ c. omega arith)
     part-read-samples-end

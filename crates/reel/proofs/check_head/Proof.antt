@@ -1,6 +1,6 @@
 -- `reel::check_head` meets its contract. Assumes nothing.
 use Rattle.reel.specs.Causes.{neither, scalarCause}
-use Rattle.reel.specs.Layout.{elevationScalar, coordinateScalar, number16}
+use Rattle.reel.specs.Layout.{elevationScalar, number16}
 use Rattle.reel.specs.Parts.{headCauses}
 use Rattle.numbers.proofs.CauseLaws.{then-stop, then-next}
 use Rattle.numbers.specs.declared.Check.the-variants.{Fine}

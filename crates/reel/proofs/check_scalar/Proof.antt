@@ -1,16 +1,14 @@
 -- `reel::check_scalar` meets its contract. Assumes nothing.
 use Rattle.reel.specs.Layout.{number16}
 use Rattle.scalars.specs.Scalar.{isScalar}
-use Rattle.numbers.specs.declared.Check.{Check}
 use Rattle.numbers.specs.declared.Check.the-variants.{Fine, Refused}
 use Rattle.numbers.specs.Cause.{refuseIf}
 use Rattle.numbers.specs.Places.{placeNo, byteNo, bytePlace}
 use Rattle.numbers.specs.TwosComplement.{signedOf}
 use Rattle.numbers.proofs.PlaceLaws.{field-place}
-use mathlib.Core.Bool.{Bool, true, false, not}
+use mathlib.Core.Bool.{Bool, not}
 use Prim.Native.Nat.{ℕ, _+_, _^_, _<_}
 use mathlib.Core.Path.{_≡_, sym, ap, _∙_}
-use lib.IntN.{ℤ}
 use mir.Syntax.{w16}
 use mir.Facts.{toZ-ofZ}
 use borrow.Author.Needs.{sfits-of, needs}

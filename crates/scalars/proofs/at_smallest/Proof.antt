@@ -1,11 +1,10 @@
 -- `scalars::at_smallest` meets its contract. Assumes nothing.
 use mathlib.Core.Path.{_≡_, sym}
-use Prim.Native.Nat.{_-_}
 use native.Mathlib.Omega.{arith}
 use borrow.Author.Needs.{sfits-of, needs}
 use mir.Syntax.{w16}
 use mir.Facts.{toZ-ofZ}
-use Rattle.scalars.specs.Scalar.{powerOf, powers}
+use Rattle.scalars.specs.Scalar.{powerOf}
 use Rattle.scalars.specs.Parts.{largest, Raised}
 use Rattle.scalars.proofs.Fit32.{array-fits}
 use Rattle.scalars.proofs.Powers.{power-lt, group-is}

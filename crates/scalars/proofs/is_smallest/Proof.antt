@@ -1,10 +1,8 @@
 -- `scalars::is_smallest` meets its contract. Assumes nothing.
-use mathlib.Core.Path.{_≡_, refl, sym, ap, _∙_}
-use native.Mathlib.Omega.{arith}
+use mathlib.Core.Path.{_≡_, ap, _∙_}
 use borrow.Author.Needs.{sfits-of, needs}
-use mir.Syntax.{w16}
 use mir.Facts.{toZ-ofZ}
-use Rattle.scalars.specs.Scalar.{powers, scalarOf, smallest, scaledValues, sameNumber, groupScalar, isSmallest}
+use Rattle.scalars.specs.Scalar.{scalarOf, smallest, scaledValues, sameNumber, groupScalar, isSmallest}
 use Rattle.scalars.proofs.Fit32.{array-fits, same-bits}
 use Rattle.scalars.proofs.Powers.{power-lt, smallest-lt}
 use Rattle.scalars.proofs.is_smallest.Statement.{statement}

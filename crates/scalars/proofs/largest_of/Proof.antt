@@ -1,10 +1,9 @@
 -- `scalars::largest_of` meets its contract. Assumes nothing.
-use mathlib.Core.Path.{_≡_, refl, sym, ap, _∙_}
+use mathlib.Core.Path.{_≡_, sym}
 use lib.ListN.{getD}
 use lib.IntN.{pos, natAbs}
 use Rattle.scalars.specs.Parts.{largest}
 use Rattle.scalars.proofs.Fit32.{array-fits, read-at, largest-seven, largest-fits}
-use native.Mathlib.Omega.{arith}
 use borrow.Author.Needs.{needs}
 use Rattle.scalars.proofs.largest_of.Statement.{statement}
 use Rattle.scalars.proofs.largest_of.Tie as tie

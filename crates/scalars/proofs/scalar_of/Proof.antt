@@ -1,7 +1,5 @@
 -- `scalars::scalar_of` meets its contract. Assumes nothing.
-use mathlib.Core.Path.{_≡_, refl}
-use Prim.Native.Nat.{ℕ}
-use native.Mathlib.Omega.{arith}
+use mathlib.Core.Path.{_≡_}
 use Rattle.scalars.specs.Scalar.{scalarOf}
 use Rattle.scalars.proofs.Fit32.{eight}
 use Rattle.scalars.proofs.scalar_of.Statement.{statement}

@@ -5,7 +5,6 @@ use Rattle.scalars.specs.Scalar.{powerOf}
 use Rattle.scalars.specs.Parts.{largest, Raised}
 use Rattle.scalars.proofs.Fit32.{array-fits}
 use Rattle.scalars.proofs.Powers.{power-lt, smallest-is}
-use native.Mathlib.Omega.{arith}
 use borrow.Author.Needs.{needs}
 use Rattle.scalars.proofs.smallest_power.Statement.{statement}
 use Rattle.scalars.proofs.smallest_power.Tie as tie

@@ -1,7 +1,5 @@
 -- `scalars::ten_to` meets its contract. Assumes nothing.
-use mathlib.Core.Path.{_≡_, refl}
-use Prim.Native.Nat.{ℕ}
-use native.Mathlib.Omega.{arith}
+use mathlib.Core.Path.{_≡_}
 use Rattle.scalars.proofs.Fit32.{eight}
 use Rattle.scalars.proofs.ten_to.Statement.{statement}
 use Rattle.scalars.proofs.ten_to.Tie as tie

@@ -3,7 +3,8 @@ use Rattle.write_samples.specs.Samples.{sampleWords}
 use Rattle.write_samples.proofs.WordLaws.{size-samples, samples-written}
 use Rattle.write_reel.proofs.CopiedLaws.{size-bytes-header, size-trace}
 use Rattle.write_reel.specs.Copied.{reelHeaderCopied, reelTraceCopied}
-use Rattle.record.specs.Form.{fieldHead, headerSize, toSamples, toPairs}
+use Rattle.headers.specs.Header.{headerSize}
+use Rattle.record.specs.Form.{fieldHead, toSamples, toPairs}
 use Rattle.reel.specs.Layout.{traceHeader}
 use Rattle.numbers.proofs.Filling.{start, lend, close}
 use Rattle.numbers.proofs.WalkLaws.{bytes-between}
