@@ -75,15 +75,15 @@ words-fit (suc k) (n ∷ ns) e w = (omega arith, w .0, words-fit k ns (omega ari
 -- ## Headers as reels and records have them
 
 -- each of the 58 numbers fits its field too
-pub record Fitting (h : Header) : Type 0 where
+pub record HeaderFits (h : Header) : Type 0 where
   pub scaled : Scaled h
   pub before : Fit widths-front (take 12 (h .numbers))
   pub after : Fit widths-behind (drop 12 (h .numbers))
 
 -- LAW. 71 numbers that fit their fields mean such a header.
-pub fitting : (zs : List ℤ) → Fit traceWidths zs → Fitting (listed zs)
+pub listed-fits : (zs : List ℤ) → Fit traceWidths zs → HeaderFits (listed zs)
 unfolding listed
-fitting zs p =
+listed-fits zs p =
     let a = fit-split widths-front (replicate 7 4 ++ (2 ∷ 2 ∷ (replicate 4 4 ++ widths-behind))) zs 12 size-front (rw widths-are at p) in
     let b = fit-split (replicate 7 4) (2 ∷ 2 ∷ (replicate 4 4 ++ widths-behind)) (drop 12 zs) 7 refl (a .1) in
     let c = fit-split (2 ∷ 2 ∷ []) (replicate 4 4 ++ widths-behind) (scalarsOn zs) 2 refl (b .1) in
@@ -106,7 +106,7 @@ fitting zs p =
     }
 
 -- LAW. The 71 numbers of such a header fit their fields.
-pub numbers-fit : (h : Header) → Fitting h → Fit traceWidths (headerNumbers h)
+pub numbers-fit : (h : Header) → HeaderFits h → Fit traceWidths (headerNumbers h)
 unfolding headerNumbers
 numbers-fit h p =
     let s = p .scaled in
@@ -136,20 +136,20 @@ size-header f = numbers-size traceWidths (headerNumbers (headerOf f)) (widths-co
 
 -- ## Headers and bytes
 
--- THEOREM. Headers are the same exactly when their 180 bytes in a record are.
-pub bytes-only : (h k : Header) → Fitting h → Fitting k → headerBytes h ≡ headerBytes k → h ≡ k
+-- LAW. Headers are the same exactly when their 180 bytes in a record are.
+pub bytes-only : (h k : Header) → HeaderFits h → HeaderFits k → headerBytes h ≡ headerBytes k → h ≡ k
 unfolding headerBytes
 bytes-only h k p q e = numbers-only h k (p .scaled) (q .scaled) (numbers-inj traceWidths (headerNumbers h) (headerNumbers k) (numbers-fit h p) (numbers-fit k q) e)
 
-pub header-size : (h : Header) → Fitting h → length (headerBytes h) ≡ 180
+pub header-size : (h : Header) → HeaderFits h → length (headerBytes h) ≡ 180
 unfolding headerBytes
 header-size h p = size-numbers traceWidths (headerNumbers h) (numbers-fit h p) ∙ trace-counts .1
 
--- THEOREM. Fields that hold the 71 numbers of a header mean the header.
-pub header-again : (f : Field → ℤ) (h : Header) → Fitting h → map f traceFields ≡ headerNumbers h → headerOf f ≡ h
+-- LAW. Fields that hold the 71 numbers of a header mean the header.
+pub header-again : (f : Field → ℤ) (h : Header) → HeaderFits h → map f traceFields ≡ headerNumbers h → headerOf f ≡ h
 header-again f h p e = header-listed f ∙ ap listed e ∙ listed-numbers h (p .scaled)
 
--- THEOREM. A record's header whose scalars are those of the smallest powers, written again, is its bytes.
+-- LAW. A record's header whose scalars are those of the smallest powers, written again, is its bytes.
 traces-some : Some traceWidths
 unfolding allSome traceWidths
 traces-some = some-of traceWidths refl
@@ -178,5 +178,5 @@ bytes-again s b start f =
     let fit = held-fit s b start in
     let c = smallest-fine s start f in
     ap (λ (h : Header). numberBytes traceWidths (headerNumbers h)) (header-listed (fieldNumber s start))
-    ∙ ap (numberBytes traceWidths) (numbers-listed zs (length-map traceFields (fieldNumber s start) ∙ trace-counts .0) (fitting zs fit .scaled) (c .0) (c .1))
+    ∙ ap (numberBytes traceWidths) (numbers-listed zs (length-map traceFields (fieldNumber s start) ∙ trace-counts .0) (listed-fits zs fit .scaled) (c .0) (c .1))
     ∙ whole s b start

@@ -162,7 +162,7 @@ module _ (h : Header) (p : Scaled h) where
       ∙ ap (λ (l : List ℤ). getD l k (pos 0)) rest
       ∙ getD-drop 12 (h .numbers) k (pos 0)
 
-  -- THEOREM. The scalars of the record's header are those of the smallest powers, and a reel may hold them.
+  -- LAW. The scalars of the record's header are those of the smallest powers, and a reel may hold them.
   pub elevations-smallest : isSmallest (elevationsIn (headerNumbers h)) (elevationScalarIn (headerNumbers h)) ≡ true
   elevations-smallest = rw (elevations-are, elevation-scalar-is) (smallest-held (h .elevations) (p .elevations-served))
 

@@ -1,4 +1,3 @@
-pub mod Ranges
 pub mod Same
 pub mod Refusals
 pub mod Output

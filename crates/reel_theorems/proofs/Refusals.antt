@@ -1,6 +1,6 @@
 -- # Refusals are exact
 --
--- The table of the causes 1 to 9 is `ReelTable`, in `specs/`. A reel is refused by a number with a place exactly when that row of the table
+-- The table of the causes 1 to 9 and 18 is `ReelTable`, in `specs/`. A reel is refused by a number with a place exactly when that row of the table
 -- applies to it, and it has no cause exactly when no row does. Assumes nothing.
 use mathlib.Core.Path.{_≡_, refl}
 use mathlib.Core.List.{List}
@@ -12,17 +12,19 @@ use native.Mathlib.Omega.{arith}
 use borrow.Author.Tests.{ltb-true, ltb-false, eqb-true, eqb-false}
 use lib.Dec.{ltb, eqb}
 use lib.ListN.{length, getD}
-use Rattle.numbers.specs.Walk.{bytesAt}
-use Rattle.numbers.specs.Cause.{refuseIf}
+use Rattle.numbers.specs.Walk.{walk, bytesAt}
+use Rattle.numbers.specs.Cause.{refuseIf, firstOf}
+use Rattle.numbers.specs.Places.{bytePlace}
 use Rattle.numbers.specs.declared.Check.{Check}
 use Rattle.numbers.specs.declared.Check.the-variants.{Fine, Refused}
 use Rattle.numbers.specs.Iff.{Iff}
 use Rattle.numbers.specs.Terms.{atPlace, Between, ZeroOr}
-use Rattle.numbers.proofs.RowLaws.{Tests, then-row, then-first, then-second, fine-then, refused-then, holds-then, row-then, no-row, test-between, test-either, test-room, not-enough, too-short, first-is, first-of, walk-fine, walk-holds, walk-refused, walk-row, fine-none}
+use Rattle.numbers.proofs.RowLaws.{Tests, test-by, then-row, then-first, then-second, fine-then, refused-then, holds-then, row-then, no-row, test-between, test-either, test-room, not-enough, too-short, first-is, first-of, walk-fine, walk-holds, walk-refused, walk-row, fine-none}
 use Rattle.value.specs.Value.{isCode}
-use Rattle.reel.specs.Layout.{firstTrace, traceHeader, number16, samplesOf, intervalOf, codeOf, sampleBytes, strideOf, overIn, tracesOf}
-use Rattle.reel.specs.Causes.{mostSamples, mostTraces, mostInterval, within, neither, limitCauses, sizeCauses, wordCause, traceCauses, behindCauses, causesOf}
-use Rattle.reel_theorems.specs.ReelTable.{traceAt, sampleAt, Headed, Whole, Passed, Until, ReelRow, short-reel, bad-code, bad-samples, bad-interval, left-over, many, bad-115, bad-117, bad-gain}
+use Rattle.scalars.specs.Scalar.{isScalar}
+use Rattle.reel.specs.Layout.{Field, elevationScalar, coordinateScalar, fieldNumber, firstTrace, traceHeader, number16, samplesOf, intervalOf, codeOf, sampleBytes, strideOf, overIn, tracesOf}
+use Rattle.reel.specs.Causes.{mostSamples, mostTraces, mostInterval, within, neither, limitCauses, sizeCauses, scalarCause, wordCause, traceCauses, behindCauses, causesOf}
+use Rattle.reel_theorems.specs.ReelTable.{traceAt, sampleAt, Headed, Whole, OwnNumbers, Allowed, Passed, Until, ReelRow, short-reel, bad-code, bad-samples, bad-interval, left-over, many, bad-115, bad-117, bad-69, bad-71, bad-gain}
 
 -- ## Headers and size
 
@@ -63,7 +65,7 @@ module _ (s : List ℕ) where
   few-test : Tests (tracesOf s ≤ 100000) 6 (traceAt s 100000) (refuseIf (ltb mostTraces (tracesOf s)) 6 (firstTrace + mostTraces * strideOf s))
   few-test = test-room 100000 (tracesOf s) 6 (traceAt s 100000)
 
-  -- Where 1 to 4 don't apply, the answer is that of 5 to 9.
+  -- Where 1 to 4 don't apply, the answer is that of the rest.
   from-headed : Headed s → {x : Check} → behindCauses s (codeOf s) (samplesOf s) (intervalOf s) (strideOf s) ≡ x → causesOf s ≡ x
   unfolding causesOf
   from-headed h e =
@@ -93,7 +95,7 @@ module _ (s : List ℕ) where
 
 -- ## Traces
 
--- The first cause of 7 to 9 of the trace at a place.
+-- The first cause of 7, 8, 18 and 9 of the trace at a place.
 abbrev causesAt : List ℕ → ℕ → Check
 causesAt s at = traceCauses s (codeOf s) (samplesOf s) (intervalOf s) at
 
@@ -116,23 +118,30 @@ gain-code code b h = go (eqb code 4) refl
     go false e = absurd (h (λ c. absurd (eqb-false code 4 e c)))
 
 module _ (s : List ℕ) (k : ℕ) where
-  -- The tests of 7 to 9.
+  -- The tests of 7, 8, 18 and 9.
   count-test : Tests (ZeroOr (samplesOf s) (number16 s (traceAt s k + 114))) 7 (traceAt s k + 114) (refuseIf (neither (number16 s (traceAt s k + 114)) (samplesOf s)) 7 (traceAt s k + 114))
   count-test = test-either (samplesOf s) (number16 s (traceAt s k + 114)) 7 (traceAt s k + 114)
 
   own-test : Tests (ZeroOr (intervalOf s) (number16 s (traceAt s k + 116))) 8 (traceAt s k + 116) (refuseIf (neither (number16 s (traceAt s k + 116)) (intervalOf s)) 8 (traceAt s k + 116))
   own-test = test-either (intervalOf s) (number16 s (traceAt s k + 116)) 8 (traceAt s k + 116)
 
+  scalar-test : (f : Field) → Tests (Allowed s k f) 18 (bytePlace (traceAt s k) (f .begins)) (scalarCause s (traceAt s k) f)
+  scalar-test f = test-by (Allowed s k f) (isScalar (fieldNumber s (traceAt s k) f)) 18 (bytePlace (traceAt s k) (f .begins)) (λ e. e) (λ e. e)
+
+  -- Behind a trace header that is right, the answer is that of its words.
+  behind-head : OwnNumbers s k → Allowed s k elevationScalar → Allowed s k coordinateScalar → {x : Check}
+      → firstOf (walk (wordCause s (codeOf s)) (sampleBytes (codeOf s)) (samplesOf s) (traceAt s k + traceHeader)) ≡ x → causesAt s (traceAt s k) ≡ x
+  unfolding traceCauses
+  behind-head o e c q = fine-then count-test (o .count) (fine-then own-test (o .interval) (fine-then (scalar-test elevationScalar) e (fine-then (scalar-test coordinateScalar) c q)))
+
   gain-tests : (j : ℕ) → j < samplesOf s → Tests (codeOf s ≡ 4 → getD s (sampleAt s k j) 0 ≡ 0) 9 (sampleAt s k j) (wordCause s (codeOf s) (sampleAt s k j))
   gain-tests j l = test-gain s (codeOf s) (sampleAt s k j)
 
-  -- Where none of 7 to 9 applies to a trace, it has no cause.
+  -- Where none of them applies to a trace, it has no cause.
   from-passed : Passed s k → causesAt s (traceAt s k) ≡ Fine
-  unfolding traceCauses
   from-passed h =
-      fine-then count-test (h .count)
-      (fine-then own-test (h .interval)
-      (walk-fine (λ j. codeOf s ≡ 4 → getD s (sampleAt s k j) 0 ≡ 0) 9 (wordCause s (codeOf s)) (sampleBytes (codeOf s)) (samplesOf s) (traceAt s k + traceHeader) (sampleAt s k) gain-tests (h .words)))
+      behind-head (h .own) (h .elevations) (h .coordinates)
+      (walk-fine (λ j. codeOf s ≡ 4 → getD s (sampleAt s k j) 0 ≡ 0) 9 (wordCause s (codeOf s)) (sampleBytes (codeOf s)) (samplesOf s) (traceAt s k + traceHeader) (sampleAt s k) gain-tests (h .words))
 
   -- And where it has no cause, none of them applies.
   to-passed : causesAt s (traceAt s k) ≡ Fine → Passed s k
@@ -140,10 +149,13 @@ module _ (s : List ℕ) (k : ℕ) where
   to-passed e =
       let a = holds-then count-test _ e in
       let b = holds-then own-test _ (a .1) in
+      let c = holds-then (scalar-test elevationScalar) _ (b .1) in
+      let d = holds-then (scalar-test coordinateScalar) _ (c .1) in
       record {
-        count = a .0;
-        interval = b .0;
-        words = walk-holds (λ j. codeOf s ≡ 4 → getD s (sampleAt s k j) 0 ≡ 0) 9 (wordCause s (codeOf s)) (sampleBytes (codeOf s)) (samplesOf s) (traceAt s k + traceHeader) (sampleAt s k) gain-tests (b .1);
+        own = record { count = a .0; interval = b .0 };
+        elevations = c .0;
+        coordinates = d .0;
+        words = walk-holds (λ j. codeOf s ≡ 4 → getD s (sampleAt s k j) 0 ≡ 0) 9 (wordCause s (codeOf s)) (sampleBytes (codeOf s)) (samplesOf s) (traceAt s k + traceHeader) (sampleAt s k) gain-tests (d .1);
       }
 
 -- ## From the rows to the causes
@@ -176,11 +188,16 @@ module _ (s : List ℕ) where
   from-row (many h w o) = from-size h (fine-then (over-test s (h .long)) w (refused-then (few-test s) _ (too-short 100000 (tracesOf s) o)))
   from-row (bad-115 k u h) = from-trace k u (refused-then (count-test s k) _ h)
   from-row (bad-117 k u c h) = from-trace k u (fine-then (count-test s k) c (refused-then (own-test s k) _ h))
-  from-row (bad-gain k j u c i g l b h) =
+  from-row (bad-69 k u o h) = from-trace k u (fine-then (count-test s k) (o .count) (fine-then (own-test s k) (o .interval) (refused-then (scalar-test s k elevationScalar) _ h)))
+  from-row (bad-71 k u o e h) =
       from-trace k u
-      (fine-then (count-test s k) c
-      (fine-then (own-test s k) i
-      (walk-refused (λ y. codeOf s ≡ 4 → getD s (sampleAt s k y) 0 ≡ 0) 9 (wordCause s (codeOf s)) (sampleBytes (codeOf s)) (samplesOf s) (traceAt s k + traceHeader) (sampleAt s k) (gain-tests s k) j l (λ y m q. b y m) (λ q. h (q g)))))
+      (fine-then (count-test s k) (o .count)
+      (fine-then (own-test s k) (o .interval)
+      (fine-then (scalar-test s k elevationScalar) e (refused-then (scalar-test s k coordinateScalar) _ h))))
+  from-row (bad-gain k j u o e c g l b h) =
+      from-trace k u
+      (behind-head s k o e c
+      (walk-refused (λ y. codeOf s ≡ 4 → getD s (sampleAt s k y) 0 ≡ 0) 9 (wordCause s (codeOf s)) (sampleBytes (codeOf s)) (samplesOf s) (traceAt s k + traceHeader) (sampleAt s k) (gain-tests s k) j l (λ y m q. b y m) (λ q. h (q g))))
 
 -- ## From the causes to the rows
 
@@ -203,8 +220,10 @@ module _ (s : List ℕ) {n p : ℕ} where
   to-trace k u =
       row-then (count-test s k) (ReelRow s) (bad-115 k u)
       (λ c. row-then (own-test s k) (ReelRow s) (bad-117 k u c)
-      (λ q. walk-row (λ j. codeOf s ≡ 4 → getD s (sampleAt s k j) 0 ≡ 0) 9 (wordCause s (codeOf s)) (sampleBytes (codeOf s)) (samplesOf s) (traceAt s k + traceHeader) (sampleAt s k) (gain-tests s k) (ReelRow s)
-      (λ j l b h. let g = gain-code (codeOf s) (getD s (sampleAt s k j) 0) h in bad-gain k j u c q g l (λ i m. b i m g) (λ z. h (λ x. z)))))
+      (λ q. row-then (scalar-test s k elevationScalar) (ReelRow s) (bad-69 k u (record { count = c; interval = q }))
+      (λ e. row-then (scalar-test s k coordinateScalar) (ReelRow s) (bad-71 k u (record { count = c; interval = q }) e)
+      (λ d. walk-row (λ j. codeOf s ≡ 4 → getD s (sampleAt s k j) 0 ≡ 0) 9 (wordCause s (codeOf s)) (sampleBytes (codeOf s)) (samplesOf s) (traceAt s k + traceHeader) (sampleAt s k) (gain-tests s k) (ReelRow s)
+      (λ j l b h. let g = gain-code (codeOf s) (getD s (sampleAt s k j) 0) h in bad-gain k j u (record { count = c; interval = q }) e d g l (λ i m. b i m g) (λ z. h (λ x. z)))))))
 
   -- What is refused has its row: the first that applies.
   to-row : causesOf s ≡ Refused n (atPlace p) → ReelRow s n p
@@ -217,10 +236,10 @@ module _ (s : List ℕ) {n p : ℕ} where
       (λ z y. let r = first-is (causesAt s) (strideOf s) (tracesOf s) firstTrace n p y in
       to-trace (r .j) (record { reel = to-whole s h z; trace = r .below; before = λ i m. to-passed s i (r .before i m) }) (r .here))))
 
--- THEOREM. A reel has a cause of 1 to 9, with what stands beside it, exactly when that row of the table applies.
+-- THEOREM. A reel has a cause of 1 to 9 and 18, with what stands beside it, exactly when that row of the table applies.
 pub exact-causes : (s : List ℕ) (number place : ℕ) → Iff (causesOf s ≡ Refused number (atPlace place)) (ReelRow s number place)
 exact-causes s number place = (to-row s, from-row s)
 
--- THEOREM. No cause of 1 to 9 applies to a reel exactly when no row of the table does.
+-- THEOREM. No cause of 1 to 9 and 18 applies to a reel exactly when no row of the table does.
 pub no-cause : (s : List ℕ) → Iff (causesOf s ≡ Fine) ((number place : ℕ) → ¬ (ReelRow s number place))
 no-cause s = fine-none (ReelRow s) (causesOf s) (exact-causes s)

@@ -1,15 +1,14 @@
 -- # Records are equal exactly when the reels mean the same
 --
--- The first half of the user's third demand: for any two reels, each in any code, to which no cause of 1 to 9 applies, the records are
+-- The first half of the user's third demand: for any two reels, each in any code, to which no cause of 1 to 9 and 18 applies, the records are
 -- equal byte for byte exactly when the reels mean the same. Each byte of a reel is below 256; nothing else is assumed.
 use mathlib.Core.Path.{_≡_, refl, sym, ap, ap₂, _∙_, subst}
 use mathlib.Core.List.{List, [], _∷_, _++_, map, append-nil}
-use mathlib.Core.Bool.{Bool, true, false, _&&_}
-use borrow.Author.Tests.{ltb-true}
+use mathlib.Core.Bool.{Bool, true, false}
 use Prim.Native.Nat.{ℕ, suc, _+_, _*_, _^_, _<_}
 use native.Mathlib.Nat.{eq-of-mul-eq-mul-right, mul-comm}
 use native.Mathlib.Omega.{arith}
-use lib.Dec.{eqb, ltb}
+use lib.Dec.{eqb}
 use lib.ListN.{length, getD, drop, length-append, length-map}
 use lib.IntN.{ℤ, pos, natAbs}
 use lib.Signed.{mag}
@@ -22,17 +21,20 @@ use Rattle.numbers.specs.Iff.{Iff}
 use Rattle.numbers.proofs.WalkLaws.{all-at, split, cons-eq, flat-size, flat-inj, size-walk}
 use Rattle.numbers.proofs.ByteLaws.{bytes-at, number-at}
 use Rattle.numbers.proofs.SignLaws.{bits-signed}
-use Rattle.numbers.proofs.BoolLaws.{and-true}
 use Rattle.value.specs.Value.{exactValue}
 use Rattle.value.specs.Pair.{pairOf, valueOf, isCanonical, pairIn}
 use Rattle.sample_theorems.proofs.Pairs.{pair-value, bytes-pair, value-canonical}
 use Rattle.reel.specs.Layout.{fieldsFrom, binaryWidths, binaryFields, traceWidths, traceFields, fieldNumber, firstTrace, traceHeader, samplesOf, intervalOf, codeOf, sampleBytes, strideOf, tracesOf}
 use Rattle.reel.specs.Causes.{causesOf}
-use Rattle.reel.specs.Meaning.{cardText, binaryNumbers, filled, traceNumber, Trace, traceMeaning, meaningOf, MeanTheSame}
+use Rattle.reel.specs.Meaning.{cardText, binaryNumbers, filled, traceNumber, Header, headerOf, Trace, traceMeaning, meaningOf, MeanTheSame}
 use Rattle.reel.proofs.CheckLaws.{reel-fine}
-use Rattle.record.specs.Record.{field, numberBytes, withCode, binaryBytes, valueBytes, samplesField, traceBytes, recordOf, reelRecord, recordLength}
-use Rattle.record.proofs.HeaderLaws.{binary-front, binary-back, binary-widths, binary-numbers, with-code, trace-front, trace-back, trace-widths, trace-numbers, countField, intervalField, counts, size-cards}
-use Rattle.reel_theorems.proofs.Ranges.{Fit, Some, fit-append, size-numbers, numbers-inj, number-fits, fields-fit}
+use Rattle.headers.specs.Header.{headerBytes}
+use Rattle.headers.proofs.TraceLaws.{trace-front, trace-back, trace-widths, trace-numbers, countField, intervalField}
+use Rattle.headers.proofs.Ranges.{Fit, Some, allSome, some-of, fit-append, size-numbers, numbers-inj, number-fits, fields-fit}
+use Rattle.headers.proofs.Listed.{header-listed}
+use Rattle.headers.proofs.HeaderBytes.{HeaderFits, listed-fits, header-size, bytes-only}
+use Rattle.record.specs.Record.{field, withCode, binaryBytes, valueBytes, samplesField, traceBytes, recordOf, reelRecord, recordLength}
+use Rattle.record.proofs.HeaderLaws.{binary-front, binary-back, binary-widths, binary-numbers, with-code, counts, size-cards}
 
 -- ## Fields
 
@@ -47,16 +49,6 @@ field-split tag l₁ l₂ r₁ r₂ n e =
     (ap (drop 3) (h .0), h .1)
 
 -- ## Header numbers
-
--- that every field has some bytes is computed
-unfoldable pub allSome : List ℕ → Bool
-allSome [] = true
-allSome (w ∷ ws) = ltb 0 w && allSome ws
-
-pub some-of : (ws : List ℕ) → allSome ws ≡ true → Some ws
-unfolding allSome
-some-of [] e = tt
-some-of (w ∷ ws) e = let t = and-true (ltb 0 w) (allSome ws) e in (ltb-true 0 w (t .0), some-of ws (t .1))
 
 pub binary-front-some : Some binary-front
 unfolding allSome binary-front
@@ -95,11 +87,15 @@ trace-fit s h n i at p q =
     (fit-append trace-front (2 ∷ 2 ∷ trace-back) (map (fieldNumber s at) (fieldsFrom 1 trace-front)) _ (fields-fit s h at 1 trace-front trace-front-some)
     (two, filled-fits n (fieldNumber s at countField) p (number-fits s h (at + 114) 2 two), (two, filled-fits i (fieldNumber s at intervalField) q (number-fits s h (at + 116) 2 two), fields-fit s h at 119 trace-back trace-back-some)))
 
+-- the header of a trace fits
+header-fits : (s : List ℕ) → Bytes s → (n i at : ℕ) → n < 2 ^ 15 → i < 2 ^ 15 → HeaderFits (headerOf (traceNumber s n i at))
+header-fits s h n i at p q = rw (header-listed (traceNumber s n i at)) (listed-fits (map (traceNumber s n i at) traceFields) (trace-fit s h n i at p q))
+
 -- ## Traces
 
 -- what the traces of a reel are like
 pub record Like (n : ℕ) (t : Trace) : Type 0 where
-  pub numbers : Fit traceWidths (t .numbers)
+  pub header : HeaderFits (t .header)
   pub count : length (t .values) ≡ n
   pub canonical : All (λ v. isCanonical (pairOf v) ≡ true) (t .values)
 
@@ -114,30 +110,30 @@ samples-size n t h = flat-size valueBytes (λ v. isCanonical (pairOf v) ≡ true
 trace-size : (n : ℕ) (t : Trace) → Like n t → length (traceBytes t) ≡ 186 + n * 6
 unfolding traceBytes samplesField
 trace-size n t h =
-    let a = size-numbers traceWidths (t .numbers) (h .numbers) ∙ counts .3 in
+    let a = header-size (t .header) (h .header) in
     simp (length-append, size-field) (omega (arith, a, samples-size n t h))
 
-pub trace-eq : {a b : Trace} → a .numbers ≡ b .numbers → a .values ≡ b .values → a ≡ b
+pub trace-eq : {a b : Trace} → a .header ≡ b .header → a .values ≡ b .values → a ≡ b
 trace-eq {a} {b} p q = ap₂ made p q
   where
-    made : List ℤ → List ℤ → Trace
-    made x y = record { numbers = x; values = y }
+    made : Header → List ℤ → Trace
+    made x y = record { header = x; values = y }
 
 trace-inj : (n : ℕ) (t u : Trace) → Like n t → Like n u → traceBytes t ≡ traceBytes u → t ≡ u
 unfolding traceBytes samplesField
 trace-inj n t u p q e =
     let a = flat (map valueBytes (t .values)) in
     let b = flat (map valueBytes (u .values)) in
-    let h = field-split 3 (numberBytes traceWidths (t .numbers)) (numberBytes traceWidths (u .numbers)) (field 4 a) (field 4 b) (size-numbers traceWidths (t .numbers) (p .numbers) ∙ sym (size-numbers traceWidths (u .numbers) (q .numbers))) e in
+    let h = field-split 3 (headerBytes (t .header)) (headerBytes (u .header)) (field 4 a) (field 4 b) (header-size (t .header) (p .header) ∙ sym (header-size (u .header) (q .header))) e in
     let g = field-split 4 a b [] [] (samples-size n t p ∙ sym (samples-size n u q)) (append-nil (field 4 a) ∙ h .1 ∙ sym (append-nil (field 4 b))) in
-    trace-eq (numbers-inj traceWidths (t .numbers) (u .numbers) (p .numbers) (q .numbers) (h .0))
+    trace-eq (bytes-only (t .header) (u .header) (p .header) (q .header) (h .0))
     (flat-inj valueBytes (λ v. isCanonical (pairOf v) ≡ true) 6 (λ v c. refl) value-inj (t .values) (u .values) (p .count ∙ sym (q .count)) (p .canonical) (q .canonical) (g .0))
 
 pub trace-like : (s : List ℕ) → Bytes s → (code n i at : ℕ) → n < 2 ^ 15 → i < 2 ^ 15 → Like n (traceMeaning s code n i at)
 unfolding traceMeaning
 trace-like s h code n i at p q =
     record {
-      numbers = trace-fit s h n i at p q;
+      header = header-fits s h n i at p q;
       count = size-walk (λ k. exactValue code (bytesAt s k 4)) (sampleBytes code) n (at + traceHeader);
       canonical = all-at (λ v. isCanonical (pairOf v) ≡ true) (λ k. exactValue code (bytesAt s k 4)) (λ k. value-canonical code (bytesAt s k 4) (bytes-at s h k 4)) (sampleBytes code) n (at + traceHeader);
     }
@@ -222,17 +218,38 @@ traces-same n l₁ l₂ p q e =
     let h = split (flat (map traceBytes l₁)) (flat (map traceBytes l₂)) _ _ (size-traces n l₁ p ∙ sum ∙ sym (size-traces n l₂ q)) e in
     flat-inj traceBytes (Like n) m (trace-size n) (trace-inj n) l₁ l₂ t p q (h .0)
 
--- a list of traces, by its numbers and its values
-traces-eq : (l₁ l₂ : List Trace) → map (λ (t : Trace). t .numbers) l₁ ≡ map (λ (t : Trace). t .numbers) l₂ → map (λ (t : Trace). t .values) l₁ ≡ map (λ (t : Trace). t .values) l₂ → l₁ ≡ l₂
-traces-eq [] [] p q = refl
-traces-eq [] (u ∷ k) p q = absurd (let z : 0 ≡ suc (length k) = ap length p ∙ ap suc (length-map k (λ (x : Trace). x .numbers)) in omega arith)
-traces-eq (t ∷ l) [] p q = absurd (let z : suc (length l) ≡ 0 = sym (ap suc (length-map l (λ (x : Trace). x .numbers))) ∙ ap length p in omega arith)
-traces-eq (t ∷ l) (u ∷ k) p q =
-    let a : t .numbers ≡ u .numbers = cc in
-    let b : t .values ≡ u .values = cc in
-    cons-eq (trace-eq a b) (traces-eq l k (ap (drop 1) p) (ap (drop 1) q))
+-- a header, by its numbers, its elevations and its coordinates
+header-eq : {a b : Header} → a .numbers ≡ b .numbers → a .elevations ≡ b .elevations → a .coordinates ≡ b .coordinates → a ≡ b
+header-eq {a} {b} p q r = ap₂ (λ (x y : List ℤ). made x y (a .coordinates)) p q ∙ ap (made (b .numbers) (b .elevations)) r
+  where
+    made : List ℤ → List ℤ → List ℤ → Header
+    made x y z = record { numbers = x; elevations = y; coordinates = z }
 
--- what a meaning's traces are
+-- a list of traces, by what each list of a trace's numbers and values is
+traces-eq : (l₁ l₂ : List Trace) → length l₁ ≡ length l₂
+    → map (λ (t : Trace). t .header .numbers) l₁ ≡ map (λ (t : Trace). t .header .numbers) l₂
+    → map (λ (t : Trace). t .header .elevations) l₁ ≡ map (λ (t : Trace). t .header .elevations) l₂
+    → map (λ (t : Trace). t .header .coordinates) l₁ ≡ map (λ (t : Trace). t .header .coordinates) l₂
+    → map (λ (t : Trace). t .values) l₁ ≡ map (λ (t : Trace). t .values) l₂ → l₁ ≡ l₂
+traces-eq [] [] n p e c q = refl
+traces-eq [] (u ∷ k) n p e c q = absurd (let z : 0 ≡ suc (length k) = n in omega arith)
+traces-eq (t ∷ l) [] n p e c q = absurd (let z : suc (length l) ≡ 0 = n in omega arith)
+traces-eq (t ∷ l) (u ∷ k) n p e c q =
+    let a : t .header .numbers ≡ u .header .numbers = cc in
+    let x : t .header .elevations ≡ u .header .elevations = cc in
+    let y : t .header .coordinates ≡ u .header .coordinates = cc in
+    let b : t .values ≡ u .values = cc in
+    cons-eq (trace-eq (header-eq a x y) b) (traces-eq l k (omega arith) (ap (drop 1) p) (ap (drop 1) e) (ap (drop 1) c) (ap (drop 1) q))
+
+-- what a meaning is
+meaning-cards : (s : List ℕ) → meaningOf s .cards ≡ cardText s
+unfolding meaningOf
+meaning-cards s = refl
+
+meaning-binary : (s : List ℕ) → meaningOf s .binary ≡ binaryNumbers s
+unfolding meaningOf
+meaning-binary s = refl
+
 meaning-traces : (s : List ℕ) → meaningOf s .traces ≡ tracesIn s
 unfolding meaningOf tracesIn
 meaning-traces s = refl
@@ -249,18 +266,22 @@ module _ (s₁ s₂ : List ℕ) (b₁ : Bytes s₁) (b₂ : Bytes s₂) (f₁ : 
       let t : tracesIn s₁ ≡ tracesIn s₂ = traces-same (samplesOf s₁) (tracesIn s₁) (tracesIn s₂) (traces-like s₁ b₁ (limits s₁ f₁)) like₂ (b .1) in
       let m : meaningOf s₁ .traces ≡ meaningOf s₂ .traces = meaning-traces s₁ ∙ t ∙ sym (meaning-traces s₂) in
       record {
-        cards = a .0;
-        binary = z;
-        count = sym (traces-count s₁) ∙ ap length t ∙ traces-count s₂;
-        numbers = ap (map (λ (x : Trace). x .numbers)) m;
+        cards = meaning-cards s₁ ∙ a .0 ∙ sym (meaning-cards s₂);
+        binary = meaning-binary s₁ ∙ z ∙ sym (meaning-binary s₂);
+        count = ap length m;
+        numbers = ap (map (λ (x : Trace). x .header .numbers)) m;
+        elevations = ap (map (λ (x : Trace). x .header .elevations)) m;
+        coordinates = ap (map (λ (x : Trace). x .header .coordinates)) m;
         values = ap (map (λ (x : Trace). x .values)) m;
       }
 
   means-same : MeanTheSame s₁ s₂ → reelRecord s₁ ≡ reelRecord s₂
   means-same h =
-      let t : tracesIn s₁ ≡ tracesIn s₂ = sym (meaning-traces s₁) ∙ traces-eq (meaningOf s₁ .traces) (meaningOf s₂ .traces) (h .numbers) (h .values) ∙ meaning-traces s₂ in
+      let t : tracesIn s₁ ≡ tracesIn s₂ = sym (meaning-traces s₁) ∙ traces-eq (meaningOf s₁ .traces) (meaningOf s₂ .traces) (h .count) (h .numbers) (h .elevations) (h .coordinates) (h .values) ∙ meaning-traces s₂ in
+      let cards : cardText s₁ ≡ cardText s₂ = sym (meaning-cards s₁) ∙ h .cards ∙ meaning-cards s₂ in
+      let binary : binaryNumbers s₁ ≡ binaryNumbers s₂ = sym (meaning-binary s₁) ∙ h .binary ∙ meaning-binary s₂ in
       record-parts s₁
-      ∙ ap₂ (λ (x y : List ℕ). x ++ y) (ap (field 1) (h .cards)) (ap₂ (λ (x y : List ℕ). x ++ y) (ap (λ (l : List ℤ). field 2 (binaryBytes 0 l)) (h .binary)) (ap (λ (l : List Trace). flat (map traceBytes l) ++ field 5 (bytesOf 4 (length l))) t))
+      ∙ ap₂ (λ (x y : List ℕ). x ++ y) (ap (field 1) cards) (ap₂ (λ (x y : List ℕ). x ++ y) (ap (λ (l : List ℤ). field 2 (binaryBytes 0 l)) binary) (ap (λ (l : List Trace). flat (map traceBytes l) ++ field 5 (bytesOf 4 (length l))) t))
       ∙ sym (record-parts s₂)
 
   -- THEOREM. The records are equal byte for byte exactly when the reels mean the same.

@@ -1,12 +1,15 @@
--- The causes 1 to 9 against a reel, as a table in document 01's order: 1 to 6; then trace by trace 7, 8, 9 (first such word). Each row says
--- in which case it applies, and what stands beside it: as the order sets, it applies only where no row before it does.
+-- The causes 1 to 9 and 18 against a reel, as a table in the order of document 01 and, for 18, of document 02 (CR 2): 1 to 6; then trace by
+-- trace 7, 8, 18 for field 69, 18 for field 71, 9 (first such word). Each row says in which case it applies, and what stands beside it: as
+-- the order sets, it applies only where no row before it does.
 use mathlib.Core.Path.{_≡_}
+use mathlib.Core.Bool.{true}
 use mathlib.Core.List.{List}
 use Prim.Native.Nat.{ℕ, _+_, _*_, _≤_, _<_}
 use lib.ListN.{length, getD}
 use Rattle.numbers.specs.Places.{bytePlace}
 use Rattle.numbers.specs.Terms.{Between, ZeroOr}
-use Rattle.reel.specs.Layout.{number16, samplesOf, intervalOf, codeOf, sampleBytes, strideOf, tracesOf}
+use Rattle.scalars.specs.Scalar.{isScalar}
+use Rattle.reel.specs.Layout.{Field, elevationScalar, coordinateScalar, fieldNumber, number16, samplesOf, intervalOf, codeOf, sampleBytes, strideOf, tracesOf}
 
 -- ## The terms of the table
 
@@ -31,13 +34,23 @@ pub record Whole (s : List ℕ) : Type 0 where
   pub whole : length s ≤ traceAt s (tracesOf s)
   pub few : tracesOf s ≤ 100000
 
--- 7 to 9 don't apply to trace k: fields 115 and 117 are 0 or the reel's own, and under code 4 each sample begins with 00.
-pub record Passed (s : List ℕ) (k : ℕ) : Type 0 where
+-- 7 and 8 don't apply to trace k: fields 115 and 117 are 0 or the reel's own.
+pub record OwnNumbers (s : List ℕ) (k : ℕ) : Type 0 where
   pub count : ZeroOr (samplesOf s) (number16 s (bytePlace (traceAt s k) 115))
   pub interval : ZeroOr (intervalOf s) (number16 s (bytePlace (traceAt s k) 117))
+
+-- The scalar in a field of trace k, 69 or 71, is allowed: 0, 1, -1, or plus or minus 10, 100, 1,000 or 10,000.
+abbrev pub Allowed : List ℕ → ℕ → Field → Type 0
+Allowed s k f = isScalar (fieldNumber s (traceAt s k) f) ≡ true
+
+-- None of 7, 8, 18 and 9 applies to trace k: its own numbers and its scalars are right, and under code 4 each sample begins with 00.
+pub record Passed (s : List ℕ) (k : ℕ) : Type 0 where
+  pub own : OwnNumbers s k
+  pub elevations : Allowed s k elevationScalar
+  pub coordinates : Allowed s k coordinateScalar
   pub words : (j : ℕ) → j < samplesOf s → codeOf s ≡ 4 → getD s (sampleAt s k j) 0 ≡ 0
 
--- Nothing applies before trace k: not 1 to 6, nor 7 to 9 to the traces before it.
+-- Nothing applies before trace k: not 1 to 6, nor 7, 8, 18 and 9 to the traces before it.
 pub record Until (s : List ℕ) (k : ℕ) : Type 0 where
   pub reel : Whole s
   pub trace : k < tracesOf s
@@ -64,7 +77,11 @@ pub data ReelRow (s : List ℕ) : ℕ → ℕ → Type 0 where
   -- 8: its field 117 is neither 0 nor the reel's interval
   bad-117 : (k : ℕ) → Until s k → ZeroOr (samplesOf s) (number16 s (bytePlace (traceAt s k) 115)) → ¬ (ZeroOr (intervalOf s) (number16 s (bytePlace (traceAt s k) 117)))
       → ReelRow s 8 (bytePlace (traceAt s k) 117)
+  -- 18: its field 69 is no scalar that is allowed
+  bad-69 : (k : ℕ) → Until s k → OwnNumbers s k → ¬ (Allowed s k elevationScalar) → ReelRow s 18 (bytePlace (traceAt s k) 69)
+  -- 18: its field 71 is none
+  bad-71 : (k : ℕ) → Until s k → OwnNumbers s k → Allowed s k elevationScalar → ¬ (Allowed s k coordinateScalar) → ReelRow s 18 (bytePlace (traceAt s k) 71)
   -- 9: the first byte of one of its gain words is not 00, the first such word
-  bad-gain : (k j : ℕ) → Until s k → ZeroOr (samplesOf s) (number16 s (bytePlace (traceAt s k) 115)) → ZeroOr (intervalOf s) (number16 s (bytePlace (traceAt s k) 117))
+  bad-gain : (k j : ℕ) → Until s k → OwnNumbers s k → Allowed s k elevationScalar → Allowed s k coordinateScalar
       → codeOf s ≡ 4 → j < samplesOf s → ((i : ℕ) → i < j → getD s (sampleAt s k i) 0 ≡ 0) → ¬ (getD s (sampleAt s k j) 0 ≡ 0)
       → ReelRow s 9 (sampleAt s k j)
