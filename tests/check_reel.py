@@ -1,13 +1,13 @@
-"""Runs the program on many reels and compares its line with document 01's rules.
+"""Runs the program on many reels and compares its line with document 01's rules and CR 2's of document 02.
 
     python3 tests/check_reel.py PATH_OF_PROGRAM [ITS ARGUMENTS]
 
 The rules are those of tools/vectors/reels.py, which were written from the
-paper alone. The inputs are the same at every run. Prints one line and exits
+papers alone. The inputs are the same at every run. Prints one line and exits
 0 if all agree; else prints each difference and exits 1.
 
 Number 6 can't be reached here: 100,001 traces take more than 24 million
-bytes, and the program takes 65,536. Numbers 11 to 16 belong to other calls.
+bytes, and the program takes 65,536. Numbers 11 to 17 belong to other calls.
 """
 
 import random
@@ -23,8 +23,8 @@ sys.dont_write_bytecode = True
 sys.path.insert(0, str(Path(__file__).resolve().parents[1] / "tools" / "vectors"))
 
 from reels import (  # noqa: E402
-    example, gain, make_reel, make_trace, program_line, random_reel, sample_size, some_bytes,
-    some_sample, trace_size,
+    GROUPS, SCALARS, example, gain, make_reel, make_trace, program_line, random_reel, sample_size, some_bytes,
+    some_groups, some_sample, trace_size,
 )
 
 CODES = (1, 2, 3, 4)
@@ -240,6 +240,52 @@ def trace_intervals(x, rnd):
         x.put(f"field {b} is -1", make_reel(9, 7, 1, traces(rnd, 1, 7, 1), fields={b: -1}), "taken 1 7 3501")
 
 
+def scalars(x, rnd):
+    # every allowed scalar, with numbers of any size; the record's length is the same
+    for first in SCALARS:
+        for second in SCALARS:
+            reel = make_reel(2000, 1, 3, traces(rnd, 3, 1, 2, {
+                1: {**some_groups(rnd), 69: first, 71: second}, 2: {**some_groups(rnd), 69: second, 71: first}}))
+            x.put(f"scalars {first} and {second}", reel, "taken 2 1 3657")
+    for number in (0, 1, -1, 214748364, 214748365, -214748364, -214748365, 2 ** 31 - 1, -(2 ** 31)):
+        for scalar in SCALARS:
+            header = {b: number for group in GROUPS.values() for b in group}
+            reel = make_reel(2000, 1, 3, [trace(rnd, 3, 1, {**header, 69: scalar, 71: scalar})])
+            x.put(f"numbers {number}, scalars {scalar}", reel, "taken 1 1 3465")
+    # others: out by one, in another order of bytes, at the ends; 10000 is 2710, 100000 in 16 bits -31072
+    bad = [scalar + step for scalar in SCALARS for step in (-1, 1)]
+    bad += [3, 4, 5, 7, 8, 16, 50, 256, 512, 2000, 5000, 0x1027, 0x0A00, 0x6400, 0x2711, 0x2700, 0x0010]
+    bad += [10000 + 256, -10000 - 256, 20000, 32767, -32768, -32767, -31072]
+    for scalar in sorted(set(bad) - set(SCALARS)):
+        for field in (69, 71):
+            for code, t, i in ((1, 1, 1), (3, 3, 2)):
+                reel = make_reel(2000, 2, code, traces(rnd, code, 2, t, {i: {field: scalar}}))
+                x.put(f"field {field} {scalar} in trace {i} of {t}, code {code}", reel,
+                      f"refused 18 {3600 + (i - 1) * trace_size(code, 2) + field - 1}")
+    # no field beside them has a say
+    for b in (37, 41, 65, 73, 85, 89):
+        x.put(f"field {b} is 7", make_reel(9, 7, 1, traces(rnd, 1, 7, 1, {1: {b: 7}})), "taken 1 7 3501")
+    # every set of a trace's causes: 7, 8, 18 for field 69, 18 for field 71, 9
+    for number in range(1, 32):
+        for i in (1, 2):
+            faults = {b: 7 for bit, b in enumerate((115, 117, 69, 71)) if number >> bit & 1}
+            reel = bytearray(make_reel(2000, 2, 4, traces(rnd, 4, 2, 2, {i: faults, 2: faults})))
+            start = 3600 + (i - 1) * 248
+            if number & 16:
+                reel[start + 244] = 0x01
+            said = next(f"{cause} {start + b - 1}" for cause, b in (
+                (7, 115), (8, 117), (18, 69), (18, 71), (9, 245)) if b in faults or b == 245)
+            x.put(f"fields {sorted(faults)}, 9 {number >> 4}, in trace {i} of 2", reel, f"refused {said}")
+    # trace by trace, after 5, and before 10
+    x.put("18 in trace 2, 9 in trace 1", bytearray(make_reel(2000, 2, 4, [
+        make_trace([gain(0, 1), gain(0, 1, 0x80)]), make_trace([gain(0, 1)] * 2, {69: 7})])), "refused 9 3844")
+    x.put("18 in trace 1, 7 in trace 2", make_reel(2000, 2, 4, traces(rnd, 4, 2, 2, {1: {71: 7}, 2: {115: 7}})),
+          "refused 18 3670")
+    x.put("5 and 18", make_reel(2000, 2, 4, traces(rnd, 4, 2, 1, {1: {71: 7}})) + b"\x00", "refused 5 3848")
+    x.put("18 and 10", make_reel(2000, 5158, 3, traces(rnd, 3, 5158, 2, {2: {69: 7}})),
+          f"refused 18 {3600 + 10556 + 68}")
+
+
 def gain_bytes(x, rnd):
     def reel_with(code, t, n, bad):
         """Byte `first` at the start of sample k of trace i, for each of bad (both from 1)."""
@@ -365,7 +411,7 @@ def small_changes(x, rnd):
         if kind == 0:
             place = (3216, 3217, 3220, 3221, 3224, 3225)[rnd.getrandbits(16) % 6]
         elif kind == 1:
-            place = start + 112 + rnd.getrandbits(3)
+            place = start + (68, 68, 112, 116)[rnd.getrandbits(2)] + rnd.getrandbits(2)
         elif kind == 2:
             place = start + 240 + rnd.getrandbits(16) % (size - 240)
         elif kind == 3:
@@ -398,7 +444,7 @@ def all_inputs():
     x = Inputs()
     for seed, part in enumerate((
         lengths, good_reels, codes, counts, intervals, leftovers, trace_counts, trace_intervals,
-        gain_bytes, output_too_short, several_causes, small_changes, pieces,
+        gain_bytes, output_too_short, several_causes, small_changes, pieces, scalars,
     )):
         part(x, random.Random(1975 + seed))
     return x.all

@@ -5,7 +5,8 @@
 The reels that the command is given are made here, but for examples/sample.sgy, and are the same at every run. The command reads each
 into a record and writes that as a reel again, in each of the codes 1 to 3 that holds its samples; segyio doesn't know code 4. What
 segyio finds in the written reel, cards, header fields and samples, is compared with the bytes of the reel that the command was given,
-by document 01's rules. So that no comparison is idle, copies of written reels with one bit changed must be found to differ.
+by document 01's rules. A written reel has the record's scalars, so elevations and coordinates are compared by their scaled values, as
+document 02's CR 2 says. So that no comparison is idle, copies of written reels with one bit changed must be found to differ.
 
 A sample of code 1 is compared where a 32-bit float, which segyio makes of it, holds its value; the others are counted. Prints one line
 and exits 0 if all agree; else prints the differences and exits 1. Without segyio it says so and exits 0.
@@ -34,8 +35,13 @@ assert (len(BINARY_FIELDS), len(TRACE_FIELDS)) == (27, 71)
 INTERVAL, COUNT, CODE = 3217, 3221, 3225
 TRACE_COUNT, TRACE_INTERVAL = 115, 117
 
+# Each scalar's field, and the fields of elevations or coordinates that it acts on; the scalars of a reel, and those of a record.
+GROUPS = {69: range(41, 66, 4), 71: range(73, 86, 4)}
+SCALARS = (0, 1, -1, 10, -10, 100, -100, 1000, -1000, 10000, -10000)
+RECORD_SCALARS = SCALARS[1:2] + SCALARS[3:]
 TARGETS = (1, 2, 3)
 ENOUGH = 10_000  # samples to be compared under each of them
+SPELLED = 100  # groups of elevations or coordinates that have another scalar when they are written
 SMALLEST_NORMAL_FLOAT = Fraction(1, 2 ** 126)
 
 
@@ -71,9 +77,10 @@ class Reel:
         put(header, CODE - 3200, target)
         return bytes(header)
 
-    def trace_header(self, trace):
-        """As it is written: the reel's own numbers for 0, and unassigned bytes are 00."""
-        header = bytearray(trace[:180] + bytes(60))
+    def trace_header(self, trace, written):
+        """As it is written: the reel's own numbers for 0, and unassigned bytes are 00. Elevations, coordinates and their scalars are
+        taken from what was written."""
+        header = bytearray(trace[:40] + bytes(written[40:88]) + trace[88:180] + bytes(60))
         for field, own in ((TRACE_COUNT, self.n), (TRACE_INTERVAL, self.interval)):
             if number(header, field - 1, 2) == 0:
                 put(header, field, own)
@@ -82,6 +89,12 @@ class Reel:
     def values(self, trace):
         width = width_of(self.code)
         return [value(self.code, trace[place : place + width]) for place in range(240, len(trace), width)]
+
+
+def scaled(header, field, scalar):
+    """The exact value of an elevation or a coordinate: a scalar above 0 multiplies, one below divides, and 0 is taken as 1."""
+    bare, by = Fraction(number(header, field - 1, 4)), number(header, scalar - 1, 2) or 1
+    return bare * by if by > 0 else bare / -by
 
 
 def value(code, word):
@@ -156,7 +169,8 @@ SMALL = (whole_gain, 4, 5, 2, (1, 2, 3))
 
 
 def make_reel(rnd, word, code, n, t, _):
-    """A reel of which every byte is random but those that have to say what it is."""
+    """A reel of which every byte is random but those that have to say what it is, and the scalars; elevations and coordinates are
+    of any size."""
     interval = rnd.randrange(1, 32768)
     header = bytearray(rnd.randbytes(400))
     for field, what in ((INTERVAL, interval), (COUNT, n), (CODE, code)):
@@ -166,6 +180,11 @@ def make_reel(rnd, word, code, n, t, _):
         header = bytearray(rnd.randbytes(240))
         for field, what in ((TRACE_COUNT, n), (TRACE_INTERVAL, interval)):
             put(header, field, rnd.choice((0, what)))
+        for scalar, group in GROUPS.items():
+            put(header, scalar, rnd.choice(SCALARS) % 2 ** 16)
+            size = rnd.randrange(32)
+            for field in group:
+                header[field - 1 : field + 3] = (number(header, field - 1, 4) >> size).to_bytes(4, "big", signed=True)
         reel += header + b"".join(word(rnd) for _ in range(n))
     return reel
 
@@ -215,7 +234,7 @@ class Comparison:
 
     def __init__(self, reel, target, path, ways):
         self.differences = []
-        self.fields = self.samples = self.beyond = 0
+        self.fields = self.samples = self.beyond = self.spelled = 0
         try:
             with opened(path) as found:
                 self.compare(reel, target, found, ways)
@@ -240,7 +259,9 @@ class Comparison:
         self.header("binary header", 3200, reel.binary_header(target), found.bin, ways.binary_widths)
         samples = found.trace.raw[:].tolist()
         for i, trace in enumerate(reel.traces):
-            self.header(f"trace {i + 1}", 0, reel.trace_header(trace), found.header[i], ways.trace_widths)
+            written = found.header[i].buf
+            self.groups(f"trace {i + 1}", trace, written)
+            self.header(f"trace {i + 1}", 0, reel.trace_header(trace, written), found.header[i], ways.trace_widths)
             for k, (exact, got) in enumerate(zip(reel.values(trace), samples[i], strict=True), 1):
                 if target == 1 and not is_float(exact):
                     self.beyond += 1
@@ -248,6 +269,16 @@ class Comparison:
                 self.samples += 1
                 if not math.isfinite(got) or Fraction(got) != exact:
                     self.differences.append(f"trace {i + 1}, sample {k}: expected {exact}, segyio gives {got}")
+
+    def groups(self, what, trace, written):
+        """The scaled elevations and coordinates, and that the scalars are such as records have."""
+        for scalar, group in GROUPS.items():
+            by = number(written, scalar - 1, 2)
+            self.spelled += by != number(trace, scalar - 1, 2)
+            if by not in RECORD_SCALARS:
+                self.differences.append(f"{what}, field {scalar}: {by}, which no record has")
+            for field in group:
+                self.same(f"{what}, field {field} scaled", scaled(trace, field, scalar), scaled(written, field, scalar))
 
     def header(self, what, before, expected, found, widths):
         """Every byte, and every field that segyio knows by its number."""
@@ -293,7 +324,7 @@ def main():
     command = Path(sys.argv[1]).resolve()
     reels = [("sample", SAMPLE.read_bytes(), (1,))]
     reels += [(f"{made[0].__name__}_{made[2]}", make_reel(random.Random(1975 + i), *made), made[4]) for i, made in enumerate(MADE)]
-    differences, samples, opened_reels, fields, beyond, changed = [], dict.fromkeys(TARGETS, 0), 0, 0, 0, 0
+    differences, samples, opened_reels, fields, beyond, spelled, changed = [], dict.fromkeys(TARGETS, 0), 0, 0, 0, 0, 0
     with tempfile.TemporaryDirectory() as room:
         folder = Path(room)
         ways = Ways(folder)
@@ -305,6 +336,7 @@ def main():
                 samples[target] += found.samples
                 fields += found.fields
                 beyond += found.beyond
+                spelled += found.spelled
 
         data, copy = make_reel(random.Random(1983), *SMALL), folder / "copy.sgy"
         for target, path in written(command, folder, "small", data, SMALL[4]):
@@ -315,14 +347,16 @@ def main():
                     differences.append(f"a reel in code {target} with the byte at place {place} changed isn't found to differ")
 
     differences += [f"only {samples[target]} samples compared in code {target}" for target in TARGETS if samples[target] < ENOUGH]
+    if spelled < SPELLED:
+        differences.append(f"only {spelled} groups of elevations or coordinates have another scalar when they are written")
     for said in differences[:20]:
         print(f"segyio_reels: {said}")
     if differences:
         sys.exit(f"segyio_reels: {len(differences)} differences")
     compared = ", ".join(f"{samples[target]} in code {target}" for target in TARGETS)
     print(
-        f"segyio_reels: {opened_reels} written reels agree with segyio {segyio.__version__}: {fields} header fields, "
-        f"samples {compared}; {beyond} not compared, no float holds them; {changed} changed copies differ"
+        f"segyio_reels: {opened_reels} written reels agree with segyio {segyio.__version__}: {fields} header fields, {spelled} groups "
+        f"of them under another scalar, samples {compared}; {beyond} not compared, no float holds them; {changed} changed copies differ"
     )
 
 

@@ -275,6 +275,9 @@ def bad_records(rnd):
     yield "interval 0", joined(fields(1, fields={3217: 0})), 13, 3222
     yield "N 8,001", joined(fields(1, fields={3221: 8001})), 13, 3226
     yield "a format code", joined(fields(fields={3225: 1})), 13, 3230
+    yield "field 69 is 0 in trace 1", joined(fields(2, trace_fields={1: {69: 0}})), 13, place_of_field(1, 2, 69)
+    yield "field 71 is 1 in trace 2, its numbers 0", joined(fields(
+        2, trace_fields={2: {71: 1, 73: 0, 77: 0, 81: 0, 85: 0}})), 13, place_of_field(2, 2, 71)
     yield "field 115 is 0 in trace 2", joined(fields(2, trace_fields={2: {115: 0}})), 13, place_of_field(2, 2, 115)
     yield "field 117 is 0 in trace 1", joined(fields(1, trace_fields={1: {117: 0}})), 13, place_of_field(1, 2, 117)
     traces = some_traces(rnd, 3, 2, 2)

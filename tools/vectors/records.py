@@ -1,4 +1,4 @@
-"""Writing of reels from records, worked out from document 01 alone.
+"""Writing of reels from records, worked out from document 01 and document 02's CR 2 alone.
 
     python3 tools/vectors/records.py          checks this file on the paper's statements
 
@@ -17,10 +17,10 @@ sys.path.insert(0, str(Path(__file__).resolve().parent))
 sys.dont_write_bytecode = True
 
 from reels import (  # noqa: E402
-    BINARY_FIELDS, CARDS, CODE, COUNT, HEADERS, INTERVAL, MOST_INTERVAL, MOST_N, MOST_T,
+    BINARY_FIELDS, CARDS, CODE, COUNT, GROUPS, HEADERS, INTERVAL, MOST_INTERVAL, MOST_N, MOST_T, POWERS,
     TRACE_COUNT, TRACE_FIELDS, TRACE_HEADER, TRACE_INTERVAL, example, meaning, number_bytes,
-    pair_of_word, random_reel, read_reel, record_length, sample_size, some_bytes, some_sample, tagged,
-    trace_size,
+    pair_of_word, random_reel, read_reel, record_length, sample_size, scalar_of, smallest, some_bytes,
+    some_groups, some_sample, tagged, trace_size,
 )
 from samples import is_canonical, pair_bytes, signed, v_of_pair, word_of_v  # noqa: E402
 
@@ -71,6 +71,19 @@ def reel_length(t, n, code):
 
 # ------------------------------------------------------- causes 12 and 13
 
+RECORD_SCALARS = [scalar_of(power) for power in POWERS]
+
+
+@lru_cache(maxsize=1 << 10)
+def wrong_scalar(header):
+    """The field, 69 or 71, whose scalar isn't that of its group's smallest power, 69 first, or None."""
+    for field, group in GROUPS.items():
+        scalar = signed(header[field - 1 : field + 1])
+        numbers = tuple(signed(header[b - 1 : b + 3]) for b in group)
+        if scalar not in RECORD_SCALARS or smallest(scalar, numbers) != (scalar, numbers):
+            return field
+    return None
+
 
 def content(record, place, tag, length):
     """The content of the field with that tag and length at that place, or None if none is there."""
@@ -119,6 +132,9 @@ def first_cause(record):
         header = content(record, place, 0x03, 180)
         if header is None:
             return "refused", 12, place
+        field = wrong_scalar(header)
+        if field is not None:
+            return "refused", 13, place + TAG + field - 1
         for byte_number, wanted in ((TRACE_COUNT, n), (TRACE_INTERVAL, interval)):
             at = byte_number - 1
             if signed(header[at : at + 2]) != wanted:
@@ -226,13 +242,15 @@ def make_fields(interval=2000, n=2, traces=(), cards=b"\x40" * CARDS, fields=Non
     A trace is the list of its pairs, and these are bytes. Numbers by byte
     number replace the right ones: in the binary header by `fields`, in trace i,
     from 1, by `trace_fields[i]`. Other bytes of the headers come from `rest` and
-    from `trace_rest`, one for each trace.
+    from `trace_rest`, one for each trace. The scalars are those of power -4,
+    below which there is none, so that they are right for any numbers.
     """
     made = [tagged(0x01, cards)]
     numbers = {INTERVAL: interval, COUNT: n, CODE: 0, **(fields or {})}
     made.append(tagged(0x02, header_content(numbers, 3201, BINARY_FIELDS, rest)))
     for i, pairs in enumerate(traces, 1):
-        numbers = {TRACE_COUNT: n, TRACE_INTERVAL: interval, **(trace_fields or {}).get(i, {})}
+        numbers = {69: -10000, 71: -10000, TRACE_COUNT: n, TRACE_INTERVAL: interval,
+                   **(trace_fields or {}).get(i, {})}
         made.append(tagged(0x03, header_content(
             numbers, 1, TRACE_FIELDS, trace_rest[i - 1] if trace_rest else None)))
         made.append(tagged(0x04, b"".join(pairs)))
@@ -249,11 +267,21 @@ def some_cards(rnd):
     return some_bytes(rnd, CARDS).replace(b"\x00", b"\x40")
 
 
-def some_fields(rnd, traces, interval=2000, n=None, **named):
+def held_groups(rnd):
+    """Elevations and coordinates of a record by byte number, with their scalars: those of a reel."""
+    made = some_groups(rnd)
+    for field, group in GROUPS.items():
+        made[field], numbers = smallest(made[field], tuple(made[b] for b in group))
+        made.update(zip(group, numbers))
+    return made
+
+
+def some_fields(rnd, traces, interval=2000, n=None, trace_fields=None, **named):
     """The fields of a record with those traces and all other bytes random."""
+    groups = {i: {**held_groups(rnd), **(trace_fields or {}).get(i, {})} for i in range(1, len(traces) + 1)}
     return make_fields(
         interval, len(traces[0]) if n is None else n, traces, some_cards(rnd), rest=some_bytes(rnd, 60),
-        trace_rest=[some_bytes(rnd, 180) for _ in traces], **named)
+        trace_rest=[some_bytes(rnd, 180) for _ in traces], trace_fields=groups, **named)
 
 
 def some_pair(rnd, code):
@@ -290,8 +318,15 @@ def with_bytes(data, place, other):
 # ------------------------------------------------------------- self-check
 
 
+def takes_a_zero(number):
+    return -(2 ** 31) <= 10 * number < 2 ** 31
+
+
 def is_valid(record):
-    """Whether the record is one that document 01's section lays out, said of the whole at once."""
+    """Whether the record is one that document 01's section lays out, said of the whole at once.
+
+    A group stands at its smallest power where that is -4, or where some number takes no further zero.
+    """
     if len(record) < 3273:
         return False
     at = place_of_binary(COUNT)
@@ -311,6 +346,15 @@ def is_valid(record):
     fixed[place_of_end(t, n)] = f"050004{t:08X}"
     if any(record[p : p + len(x) // 2] != bytes.fromhex(x) for p, x in fixed.items()):
         return False
+    for i in range(1, t + 1):
+        for field, group in GROUPS.items():
+            at = place_of_field(i, n, field)
+            scalar = record[at : at + 2].hex().upper()
+            places = [place_of_field(i, n, b) for b in group]
+            if scalar not in ("D8F0", "FC18", "FF9C", "FFF6", "0001", "000A", "0064", "03E8", "2710"):
+                return False
+            if scalar != "D8F0" and all(takes_a_zero(signed(record[p : p + 4])) for p in places):
+                return False
     pairs = (record[p : p + 6] for i in range(1, t + 1) for p in
              (place_of_pair(i, n, k) for k in range(1, n + 1)))
     return 0x00 not in record[3:3203] and all(
@@ -320,8 +364,10 @@ def is_valid(record):
 def check_example():
     reel = example()
     record = read_reel(reel, 3471)[1]
-    # the words are normal, so the reel is the same but for fields 115 and 117, which are filled in
+    # the words are normal, so the reel is the same but for fields 115 and 117, which are filled in, and
+    # for the scalars, which are the record's
     written = with_bytes(reel, 3600 + 114, bytes.fromhex("0002 07D0"))
+    written = with_bytes(written, 3600 + 68, bytes.fromhex("D8F0 D8F0"))
     assert write_reel(record, 1, 3848) == ("taken", 1, 2, 3848, written)
     assert write_reel(record, 1, 3847) == ("refused", 10, 3848)
     assert write_reel(record, 1, 0) == ("refused", 10, 3848)
@@ -393,6 +439,33 @@ def check_valid(rnd):
     assert 200 < valid < 1300, valid
 
 
+def check_scalars():
+    """Every scalar in either field of a record, and the order in tag 03."""
+    def said(header):
+        return write_reel(make_record(9, 1, [[pair_bytes(0, 1)]], trace_fields={1: header}), 3, 0)
+
+    taken = "refused", 10, 3842
+    for field, group in GROUPS.items():
+        refused = "refused", 13, 3269 + field - 1
+        for number, scalars in (
+            (0, [-10000]), (1, [-10000]), (214748364, [-10000]), (-214748364, [-10000]),
+            (214748365, RECORD_SCALARS), (-214748365, RECORD_SCALARS), (-(2 ** 31), RECORD_SCALARS),
+        ):
+            for b in group:
+                for scalar in (*RECORD_SCALARS, 0, -1, 7, 2, -9999, 32767, -32768):
+                    assert said({b: number, field: scalar}) == (taken if scalar in scalars else refused)
+        for number, scalars in ((2 ** 31 - 1, RECORD_SCALARS), (21, [-10000])):
+            header = header_content({69: -10000, 71: -10000, group[-1]: number}, 1, TRACE_FIELDS)
+            for scalar in range(-32768, 32768):
+                wrong = wrong_scalar(with_bytes(header, field - 1, number_bytes(scalar, 2)))
+                assert wrong == (None if scalar in scalars else field)
+    wrong = {69: 0, 71: 0, 115: 0, 117: 0}
+    for field in (69, 71, 115, 117):
+        assert said(wrong) == ("refused", 13, 3269 + field - 1)
+        del wrong[field]
+    assert said(wrong) == taken
+
+
 def check_many_traces():
     trace = b"".join(make_fields(7, 1, [[pair_bytes(0, 1)]])[2:4])
     assert len(trace) == 192
@@ -413,6 +486,7 @@ def main():
     check_example()
     check_round_trip(random.Random(1975))
     check_valid(random.Random(1976))
+    check_scalars()
     check_many_traces()
     print("records.py: the paper's statements hold")
 

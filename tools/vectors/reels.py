@@ -1,4 +1,4 @@
-"""Reading of whole reels, worked out from document 01 alone.
+"""Reading of whole reels, worked out from document 01 and document 02's CR 2 alone.
 
     python3 tools/vectors/reels.py            checks this file on the paper's statements
     python3 tools/vectors/reels.py --line     answers as the program does: a reel in, its line out
@@ -7,11 +7,13 @@ The rules are written here as literally as possible, so that they share
 nothing with the code they test. What is said of a reel is a tuple:
     ("taken", T, N, length)            by reading
     ("found", number)                  by look-up
-    ("refused", number, beside)        by either; beside is the place or length of the table
+    ("refused", number, beside)        by either; beside is the place or length of the table, or the
+                                       place of number 18
 """
 
 import random
 import sys
+from fractions import Fraction
 from functools import lru_cache
 from pathlib import Path
 
@@ -42,6 +44,11 @@ TRACE_FIELDS.update({b: 2 for b in range(89, 180, 2)})
 
 INTERVAL, COUNT, CODE = 3217, 3221, 3225
 TRACE_COUNT, TRACE_INTERVAL = 115, 117
+
+# Each scalar's field, and the fields of elevations or coordinates that it acts on.
+GROUPS = {69: tuple(range(41, 66, 4)), 71: tuple(range(73, 86, 4))}
+SCALARS = (0, 1, -1, 10, -10, 100, -100, 1000, -1000, 10000, -10000)
+POWERS = range(-4, 5)
 
 
 def sample_size(code):
@@ -82,11 +89,11 @@ def words(reel, start):
     return [first + i * size for i in range(binary_number(reel, COUNT))]
 
 
-# -------------------------------------------------------- causes 1 to 9
+# -------------------------------------------------- causes 1 to 9 and 18
 
 
 def first_cause(reel):
-    """The refusal by the first of causes 1 to 9 that the reel has, or None."""
+    """The refusal by the first of causes 1 to 9 and 18 that the reel has, or None."""
     if len(reel) < HEADERS:
         return "refused", 1, len(reel)
     code = binary_number(reel, CODE)
@@ -110,11 +117,45 @@ def first_cause(reel):
             return "refused", 7, start + TRACE_COUNT - 1
         if trace_number(reel, start, TRACE_INTERVAL) not in (0, interval):
             return "refused", 8, start + TRACE_INTERVAL - 1
+        for scalar in GROUPS:
+            if trace_number(reel, start, scalar) not in SCALARS:
+                return "refused", 18, start + scalar - 1
         if code == 4:
             for place in words(reel, start):
                 if reel[place] != 0x00:
                     return "refused", 9, place
     return None
+
+
+# --------------------------------------------- elevations and coordinates
+
+
+def scaled(number, scalar):
+    """The exact value of a number under a scalar: above 0 it multiplies, below it divides, 0 is 1."""
+    if scalar == 0:
+        return Fraction(number)
+    return Fraction(number) * scalar if scalar > 0 else Fraction(number) / -scalar
+
+
+def scalar_of(power):
+    """The scalar that stands for a power of ten."""
+    return 10 ** power if power >= 0 else -(10 ** -power)
+
+
+def at_power(values, power):
+    """The values divided by a power of ten, or None unless all are whole and fit 32 signed bits."""
+    numbers = [value / Fraction(10) ** power for value in values]
+    if all(number.denominator == 1 and -(2 ** 31) <= number < 2 ** 31 for number in numbers):
+        return [int(number) for number in numbers]
+    return None
+
+
+@lru_cache(maxsize=1 << 16)
+def smallest(scalar, numbers):
+    """The scalar and the numbers at the smallest power, for those of a group under an allowed scalar."""
+    values = [scaled(number, scalar) for number in numbers]
+    power = min(power for power in POWERS if at_power(values, power) is not None)
+    return scalar_of(power), tuple(at_power(values, power))
 
 
 # ------------------------------------------------------------- the record
@@ -152,8 +193,17 @@ def number_bytes(number, width):
     return number.to_bytes(width, "big", signed=True)
 
 
+def trace_numbers(reel, start):
+    """The numbers of a trace header as the record holds them, by byte number."""
+    held = {b: filled(reel, start, b) for b in TRACE_FIELDS}
+    for field, group in GROUPS.items():
+        held[field], numbers = smallest(held[field], tuple(held[b] for b in group))
+        held.update(zip(group, numbers))
+    return held
+
+
 def record_of(reel):
-    """The record of a reel without a cause of 1 to 9."""
+    """The record of a reel without a cause of 1 to 9 or 18."""
     code = binary_number(reel, CODE)
     size = sample_size(code)
     starts = trace_starts(reel)
@@ -163,9 +213,9 @@ def record_of(reel):
         for b, width in BINARY_FIELDS.items()
     )))
     for start in starts:
+        held = trace_numbers(reel, start)
         fields.append(tagged(0x03, b"".join(
-            number_bytes(filled(reel, start, b), width)
-            for b, width in TRACE_FIELDS.items()
+            number_bytes(held[b], width) for b, width in TRACE_FIELDS.items()
         )))
         fields.append(tagged(0x04, b"".join(
             pair_of_word(code, reel[place : place + size])
@@ -232,16 +282,21 @@ def program_line(data):
 
 # ------------------------------------------------------- what a reel means
 
+# The trace fields whose bare numbers count: not the scalars, nor what they act on.
+UNSCALED = [b for b in TRACE_FIELDS if b not in GROUPS and not any(b in group for group in GROUPS.values())]
+
 
 def meaning(reel):
-    """Card text, header numbers, T and sample values of a reel without a cause of 1 to 9."""
+    """Card text, header numbers, T and sample values of a reel without a cause of 1 to 9 or 18."""
     code = binary_number(reel, CODE)
     size = sample_size(code)
     starts = trace_starts(reel)
     return (
         card_text(reel),
         [binary_number(reel, b) for b in BINARY_FIELDS if b != CODE],
-        [[filled(reel, start, b) for b in TRACE_FIELDS] for start in starts],
+        [[filled(reel, start, b) for b in UNSCALED] for start in starts],
+        [[scaled(trace_number(reel, start, b), trace_number(reel, start, field))
+          for field, group in GROUPS.items() for b in group] for start in starts],
         len(starts),
         [[v_of_word(code, reel[p : p + size]) for p in words(reel, start)] for start in starts],
     )
@@ -311,6 +366,26 @@ def some_sample(rnd, code):
     return some_bytes(rnd, sample_size(code))
 
 
+def some_number(rnd):
+    """A random number of 32 bits: of any size, or at the edge of what takes some zeros."""
+    if rnd.getrandbits(2) == 0:
+        size = (2 ** 31 - 1) // 10 ** (rnd.getrandbits(16) % 10) + rnd.getrandbits(1)
+    else:
+        size = rnd.getrandbits(31) >> rnd.getrandbits(5)
+    return -size if rnd.getrandbits(1) else min(size, 2 ** 31 - 1)
+
+
+def some_groups(rnd):
+    """Elevations and coordinates of a reel by byte number, with their scalars."""
+    made = {}
+    for field, group in GROUPS.items():
+        made[field] = SCALARS[rnd.getrandbits(16) % len(SCALARS)]
+        shift = rnd.getrandbits(5)
+        for b in group:
+            made[b] = some_number(rnd) if shift < 16 else rnd.getrandbits(31) >> shift
+    return made
+
+
 def example():
     """Document 01's own reel."""
     return make_reel(2000, 2, 1, [make_trace([bytes.fromhex("41100000"), bytes.fromhex("C276A000")])])
@@ -320,11 +395,15 @@ def example():
 
 
 def random_reel(rnd, code, n, t, interval=2000):
-    """A good reel with all other bytes random, unassigned ones too; 115 and 117 now 0, now not."""
+    """A good reel with all other bytes random, unassigned ones too; 115 and 117 now 0, now not.
+
+    Elevations and coordinates are of any size, their scalars any that are allowed.
+    """
     traces = [
         make_trace(
             [some_sample(rnd, code) for _ in range(n)],
-            {TRACE_COUNT: n * rnd.getrandbits(1), TRACE_INTERVAL: interval * rnd.getrandbits(1)},
+            {**some_groups(rnd),
+             TRACE_COUNT: n * rnd.getrandbits(1), TRACE_INTERVAL: interval * rnd.getrandbits(1)},
             some_bytes(rnd, TRACE_HEADER),
         )
         for _ in range(t)
@@ -352,7 +431,8 @@ def check_example():
         bytes.fromhex("010C80") + b"\x40" * 3200
         + bytes.fromhex("02003C") + bytes(16)
         + bytes.fromhex("07D0 0000 0002 0000 0000") + bytes(34)  # 3217 to 3226; the code is 0
-        + bytes.fromhex("0300B4") + bytes(114)
+        + bytes.fromhex("0300B4") + bytes(68)
+        + bytes.fromhex("D8F0 D8F0") + bytes(42)  # 69 and 71 are -10000, the smallest power's
         + bytes.fromhex("0002 07D0") + bytes(62)  # 115 and 117 filled in
         + bytes.fromhex("04000C 0000 00000001 FFFD FFFFFC4B")
         + bytes.fromhex("050004 00000001")
@@ -376,12 +456,13 @@ def check_records(rnd):
                 assert record[:3203] == b"\x01\x0C\x80" + bytes(b or 0x40 for b in reel[:3200])
                 assert record[3206 + 24 : 3206 + 26] == b"\x00\x00"
                 assert record[-4:] == t.to_bytes(4, "big")
-                for i in range(t):  # filled in for every trace; all else as on the reel
+                for i in range(t):  # filled in for every trace; all else but 41 to 88 as on the reel
                     on_reel = HEADERS + i * trace_size(code, n)
                     at = 3266 + i * (186 + 6 * n) + 3
                     assert record[at - 3 : at] == bytes.fromhex("0300B4")
                     assert record[at + 114 : at + 118] == number_bytes(n, 2) + b"\x07\xD0"
-                    assert record[at : at + 114] == reel[on_reel : on_reel + 114]
+                    assert record[at : at + 40] == reel[on_reel : on_reel + 40]
+                    assert record[at + 88 : at + 114] == reel[on_reel + 88 : on_reel + 114]
                     assert record[at + 118 : at + 180] == reel[on_reel + 118 : on_reel + 180]
                     assert record[at + 180] == 4 and signed(record[at + 181 : at + 183]) == 6 * n
 
@@ -433,6 +514,97 @@ def check_meaning(rnd):
         after[place] ^= 1 << rnd.getrandbits(3)
         if first_cause(bytes(after)) is None:
             same(before, bytes(after))
+
+
+def check_scalars(rnd):
+    """CR 2's statements: the scalar and the number of the record, by hand."""
+    most, least = 2 ** 31 - 1, -(2 ** 31)
+
+    def held(scalar, *numbers):
+        return smallest(scalar, numbers)
+
+    for scalar, number in (
+        (-10000, 1000000), (-1000, 100000), (-100, 10000), (-10, 1000), (0, 100), (1, 100), (-1, 100),
+        (10, 10), (100, 1),
+    ):
+        assert held(scalar, number, 0) == (-10000, (1000000, 0))
+    for scalar in SCALARS:
+        own = 1 if scalar in (0, -1) else scalar
+        assert held(scalar, 0, 0, 0) == (-10000, (0, 0, 0))
+        for number in (most, least, 214748365, -214748365):
+            assert held(scalar, 0, number) == (own, (0, number))
+    for sign in (1, -1):
+        for scalar, number, held_scalar, held_number in (
+            (1, 214748364, -10, 2147483640), (1, 21474836, -100, 2147483600), (1, 21474837, -10, 214748370),
+            (1, 214748, -10000, 2147480000), (1, 214749, -1000, 214749000),
+            (-1000, 214748364, -10000, 2147483640), (-10000, 214748364, -10000, 214748364),
+            (10000, 21, -10000, 2100000000), (10000, 22, -1000, 220000000),
+            (10000, 214748, 1, 2147480000), (10000, 214749, 10, 214749000),
+        ):
+            assert held(scalar, sign * number) == (held_scalar, (sign * held_number,))
+    assert held(1, 1, -1, 214748364, 20) == (-10, (10, -10, 2147483640, 200))
+    assert held(100, 100, 2000000, -2147483, 7) == (-10, (100000, 2000000000, -2147483000, 7000))
+
+    # in a reel: each field of a group is scaled, none beside them, and each trace by itself
+    def reel(*headers):
+        return make_reel(2000, 1, 3, [make_trace([whole16(5)], header) for header in headers])
+
+    every = {b: 3 for b in TRACE_FIELDS if b not in (69, 71, 115, 117)}
+    record = record_of(reel({**every, 69: 10, 71: -100}, {41: most, 85: least, 69: 100, 71: -1}))
+    numbers = {b: signed(record[3268 + b : 3268 + b + width]) for b, width in TRACE_FIELDS.items()}
+    for b in TRACE_FIELDS:
+        expected = {69: -10000, 71: -10000, 115: 1, 117: 2000}.get(
+            b, 300000 if b in GROUPS[69] else 300 if b in GROUPS[71] else 3)
+        assert numbers[b] == expected, b
+    second = 3268 + 192
+    assert signed(record[second + 69 : second + 71]) == 100 and signed(record[second + 41 : second + 45]) == most
+    assert signed(record[second + 71 : second + 73]) == 1 and signed(record[second + 85 : second + 89]) == least
+
+    # number 18: the place, after 8 and before 9, 69 first; look-up too, and it gives bare numbers
+    def said(reel):
+        return read_reel(reel, BUFFER)[0]
+
+    for scalar in (2, 7, 9, 11, -2, -9, 99, 1001, 9999, -9999, 32767, -32768, 10001, 4135):
+        assert said(reel({}, {69: scalar})) == ("refused", 18, 3600 + 242 + 68)
+        assert said(reel({71: scalar})) == ("refused", 18, 3600 + 70) == look_up(reel({71: scalar}), 9, 2)
+    made = bytearray(reel({}))
+    for field in GROUPS:
+        taken = []
+        for scalar in range(-32768, 32768):
+            put(made, 3600 + field - 1, 2, scalar)
+            if first_cause(made) is None:
+                taken.append(scalar)
+        assert taken == sorted(SCALARS)
+        put(made, 3600 + field - 1, 2, 0)
+    assert said(reel({69: 7, 71: 7, 117: 1})) == ("refused", 8, 3600 + 116)
+    assert said(reel({69: 7, 71: 7})) == ("refused", 18, 3600 + 68)
+    bad = make_reel(2000, 1, 4, [make_trace([gain(0, 1, 0x01)], {71: 7})])
+    assert said(bad) == ("refused", 18, 3600 + 70)
+    for scalar in SCALARS:
+        made = reel({41: -5, 69: scalar, 71: scalar, 85: 6})
+        assert look_up(made, 1, 41) == ("found", -5) and look_up(made, 1, 85) == ("found", 6)
+        assert look_up(made, 1, 69) == look_up(made, 1, 71) == ("found", scalar)
+
+    # the same values spelled otherwise: equal meanings and equal records; another value: neither
+    several = 0
+    for _ in range(400):
+        header = some_groups(rnd)
+        records = set()
+        for power in POWERS:
+            other = dict(header)
+            for field, group in GROUPS.items():
+                numbers = at_power([scaled(header[b], header[field]) for b in group], power)
+                if numbers is not None:
+                    other.update(zip(group, numbers))
+                    other[field] = scalar_of(power)
+            several += other != header
+            assert meaning(reel(other)) == meaning(reel(header))
+            records.add(record_of(reel(other)))
+        assert len(records) == 1
+        b = 41 + 4 * (rnd.getrandbits(16) % 7)
+        other = {**header, b: header[b] ^ 1 << rnd.getrandbits(4)}
+        assert meaning(reel(other)) != meaning(reel(header)) and record_of(reel(other)) not in records
+    assert several > 1000
 
 
 def check_causes():
@@ -520,6 +692,7 @@ def main():
     check_records(random.Random(1975))
     check_pairs(random.Random(1976))
     check_meaning(random.Random(1977))
+    check_scalars(random.Random(1978))
     check_causes()
     check_look_up()
     check_program_line()

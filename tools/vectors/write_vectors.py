@@ -1,4 +1,4 @@
-"""Test vectors for writing reels, worked out from document 01 alone.
+"""Test vectors for writing reels, worked out from document 01 and document 02's CR 2 alone.
 
 Run from the root of the repository:  python3 tools/vectors/write_vectors.py [--check | --list]
 It rewrites crates/write_vectors/stdin and crates/write_vectors/stdout; with
@@ -36,11 +36,11 @@ sys.path.insert(0, str(Path(__file__).resolve().parent))
 sys.dont_write_bytecode = True
 
 from reels import (  # noqa: E402
-    BINARY_FIELDS, TRACE_FIELDS, example, pair_of_word, read_reel, record_length, sample_size,
+    BINARY_FIELDS, GROUPS, TRACE_FIELDS, example, pair_of_word, read_reel, record_length, sample_size,
     some_bytes, trace_size, whole16,
 )
 from records import (  # noqa: E402
-    make_fields, make_record, place_of_card, place_of_end, place_of_field, place_of_pair,
+    RECORD_SCALARS, make_fields, make_record, place_of_card, place_of_end, place_of_field, place_of_pair,
     place_of_samples, place_of_trace, reel_length, refilled, relengthed, retagged, some_fields,
     some_traces, with_bytes, write_into,
 )
@@ -50,7 +50,7 @@ FOLDER = Path(__file__).resolve().parents[2] / "crates" / "write_vectors"
 
 CODES = (1, 2, 3, 4)
 MOST = 60000  # of room and of a record
-MOST_STDIN = 900000
+MOST_STDIN = 1000000
 FILLING = b"\xA5"
 
 
@@ -150,7 +150,7 @@ def good_records(x, rnd):
     x.taken("fields all FF, then all 00", record, 2, 2, 1)
     # every field has a number of its own
     binary = {b: b for b in BINARY_FIELDS if b not in (3217, 3221, 3225)}
-    header = {b: 256 * i - b for i, b in enumerate(TRACE_FIELDS) if b not in (115, 117)}
+    header = {b: 256 * i - b for i, b in enumerate(TRACE_FIELDS) if b not in (69, 71, 115, 117)}
     record = make_record(500, 3, [whole(1, 2, 3), whole(4, 5, 6)], fields=binary, trace_fields={1: header})
     x.taken("every field of its own", record, 1, 2, 3)
 
@@ -416,6 +416,71 @@ def wrong_pairs(x, rnd):
     x.refused("two pairs that aren't canonical", joined(some_fields(rnd, traces)), 13, place_of_pair(1, 3, 3))
 
 
+# ---------------------------------------------------------- the scalars
+
+MOST_NUMBER, LEAST_NUMBER = 2 ** 31 - 1, -(2 ** 31)
+LONG = 214748365  # the least number that takes no further zero, above zero and below
+
+
+def scalars(x, rnd):
+    """Elevations and coordinates: N is 1."""
+    def record(*headers, **named):
+        return joined(fields(*headers, **named))
+
+    def fields(*headers, traces=None):
+        return some_fields(rnd, traces or [whole(i) for i in range(len(headers))],
+                           trace_fields=dict(enumerate(headers, 1)))
+
+    def group(field, scalar, *numbers):
+        """Numbers from a group's first field on; zeros are behind them, and in the other group."""
+        zeros = {b: 0 for some in GROUPS.values() for b in some}
+        return {**zeros, 69: -10000, 71: -10000, field: scalar, **dict(zip(GROUPS[field], numbers))}
+
+    def both(first, elevations, second, coordinates):
+        return {**group(69, first, *elevations), 71: second, **dict(zip(GROUPS[71], coordinates))}
+
+    # taken: every scalar with numbers at the edges, the one that takes no zero now first, now last
+    headers = [both(-10000, [], -10000, [])]
+    for first, second in zip(RECORD_SCALARS, RECORD_SCALARS[::-1]):
+        for turn, number in enumerate((LONG, -LONG, MOST_NUMBER, LEAST_NUMBER)):
+            step = (1, -1)[turn % 2]
+            headers.append(both(first, [1, -1, 0, 7, 20, 300, number][::step], second, [number, 5, 0, -4000][::step]))
+    for number in (1, -1, 21474836, LONG - 1, 1 - LONG):
+        headers.append(both(-10000, [number] * 7, -10000, [number] * 4))
+    x.taken("every scalar, numbers at the edges", record(*headers), 3, len(headers), 1)
+    x.taken("every field long, each group at another power", record(
+        {**{b: LONG + b for b in GROUPS[69]}, **{b: -LONG - b for b in GROUPS[71]}, 69: 1000, 71: -100}), 1, 1, 1)
+
+    # 13: another scalar than the smallest power's
+    for field, scalar, numbers in (
+        (69, 0, [0]), (71, 0, [LONG]), (69, -1, [LEAST_NUMBER]), (71, -1, [0, LONG]), (69, 7, [MOST_NUMBER]),
+        (69, 1, [LONG - 1] * 7), (71, 1, [1 - LONG] * 4), (69, -1000, [0]), (71, 10, [1 - LONG, 5]),
+        (69, 10000, [21]), (71, 0x1027, [LONG]),  # 10000 is 2710
+    ):
+        x.refused(f"field {field} is {scalar}, numbers {numbers}", record(group(field, scalar, *numbers)),
+                  13, place_of_field(1, 1, field))
+    # the long number stands in the other group, in a field beside, or in another trace
+    x.refused("field 69 1, only coordinates are long", record({**group(71, 1, LONG), 69: 1}),
+              13, place_of_field(1, 1, 69))
+    x.refused("field 69 1, only field 37 is long", record({**group(69, 1), 37: MOST_NUMBER}),
+              13, place_of_field(1, 1, 69))
+    x.refused("field 71 1, only field 89 isn't 0", record({**group(71, 1), 89: -1}), 13, place_of_field(1, 1, 71))
+    x.refused("field 71 10 in trace 2, long in trace 1", record(group(71, 10, LONG), group(71, 10, 1)),
+              13, place_of_field(2, 1, 71))
+    # the order in tag 03: 69, 71, 115, 117; before it 12, after it tag 04
+    wrong = {**group(69, 0), 71: 0, 115: 0, 117: 0}
+    a = fields(wrong)
+    x.refused("fields 69, 71, 115 and 117, and tag 04", joined(a[:3] + [retagged(a[3], 5)] + a[4:]),
+              13, place_of_field(1, 1, 69))
+    x.refused("tag 03 cut short, its scalars wrong", joined(a[:3])[:-1], 12, 3266)
+    x.refused("fields 71, 115 and 117", record({**wrong, 69: -10000}), 13, place_of_field(1, 1, 71))
+    # across traces: a pair of trace 1 first, and 13 before 14
+    x.refused("a pair of trace 1, field 69 of trace 2", record(
+        group(69, -10000), group(69, 0), traces=[[pair_bytes(0, 2)], whole(1)]), 13, place_of_pair(1, 1, 1))
+    x.refused("14 in trace 1, field 71 of trace 2", record(
+        group(69, -10000), group(71, -1), traces=[[pair_bytes(251, 3)], whole(1)]), 13, place_of_field(2, 1, 71))
+
+
 # -------------------------------------------------------------- the order
 
 
@@ -541,7 +606,7 @@ def any_bytes(x, rnd):
 PARTS = (
     good_records, no_traces, long_records, edges, room, bad_codes, wrong_tags, wrong_lengths, cut_short,
     missing_and_twice, counts_and_more, wrong_numbers, wrong_trace_numbers, wrong_pairs, order,
-    small_changes, any_bytes,
+    small_changes, any_bytes, scalars,
 )
 
 

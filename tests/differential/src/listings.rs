@@ -245,6 +245,8 @@ pub fn causes_of_listings(compare: &mut Comparison) {
         with(3222, &[0x00, 0x00]),
         with(3226, &[0x00, 0x00]),
         with(3230, &[0x00, 0x03]),
+        with(3470 + 3 + 68, &[0x00, 0x00]),
+        with(3470 + 3 + 70, &[0x00, 0x07]),
         with(3470 + 3 + 114, &[0x00, 0x00]),
         with(3470 + 3 + 116, &[0x00, 0x00]),
         with(3470 + 186, &pair(0, 2)),

@@ -8,6 +8,7 @@ mod random;
 mod records;
 mod reels;
 mod samples;
+mod scalars;
 
 fn main() {
     let mut compare = compare::Comparison::new();
@@ -16,6 +17,7 @@ fn main() {
     reels::reels(&mut compare);
     reels::look_ups(&mut compare);
     records::records(&mut compare);
+    scalars::scalars(&mut compare);
     listings::listings(&mut compare);
     listings::causes_of_listings(&mut compare);
     reels::long_reels(&mut compare);

@@ -6,6 +6,7 @@ use crate::reels::{other_number, put, write_and_read_again, Shape};
 use crate::samples::{
     bad_code, canonical_pair, pair, random_word, structured_word, uncanonical_pair, CODES,
 };
+use crate::scalars::{damage_group, put_in_record};
 
 /// A record made field by field. The places of its tags are kept, for damage.
 pub struct Record {
@@ -47,6 +48,7 @@ impl Record {
         for _ in 0..shape.traces {
             let mut header = [0; 180];
             random.fill(&mut header);
+            put_in_record(random, &mut header);
             put(&mut header, 114, shape.samples as u16);
             put(&mut header, 116, shape.interval);
             record.field(3, &header);
@@ -93,7 +95,7 @@ fn fitting_pair(random: &mut Random, code: u32) -> [u8; 6] {
 
 /// Damages that change bytes where they stand: numbers that no record has, and fields of a wrong
 /// form.
-pub const DAMAGES_IN_PLACE: usize = 12;
+pub const DAMAGES_IN_PLACE: usize = 14;
 
 pub fn damage_in_place(random: &mut Random, kind: usize, shape: Shape, record: &mut Record) {
     let tag = record.tags[random.below(record.tags.len())];
@@ -168,7 +170,7 @@ pub fn damage_in_place(random: &mut Random, kind: usize, shape: Shape, record: &
                 bytes[place..place + 6].copy_from_slice(&misfit);
             }
         }
-        _ => {
+        11 => {
             let traces = shape.traces as u32;
             let count = match random.below(5) {
                 0 => traces + 1,
@@ -179,6 +181,11 @@ pub fn damage_in_place(random: &mut Random, kind: usize, shape: Shape, record: &
             };
             let place = bytes.len() - 4;
             bytes[place..].copy_from_slice(&count.to_be_bytes());
+        }
+        _ => {
+            if let Some(header) = header {
+                damage_group(random, &mut bytes[header + 3..]);
+            }
         }
     }
 }
@@ -295,7 +302,7 @@ pub fn records(compare: &mut Comparison) {
     }
 
     compare.stage("records, valid and damaged");
-    for _ in 0..100_000 {
+    for _ in 0..90_000 {
         let shape = Shape::any(&mut random, 300);
         let fitting = !random.once_in(4);
         let mut record = Record::valid(&mut random, shape, fitting);
@@ -325,7 +332,7 @@ pub fn records(compare: &mut Comparison) {
             damage_in_place(&mut random, 10, shape, &mut record);
         }
         if random.once_in(4) {
-            let kind = random.pick(&[0, 1, 7, 8, 9, 11]);
+            let kind = random.pick(&[0, 1, 7, 8, 9, 11, 12]);
             damage_in_place(&mut random, kind, shape, &mut record);
         }
         let room = random.pick(&[0, 3600, 20_000]);

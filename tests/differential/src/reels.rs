@@ -3,6 +3,7 @@
 use crate::compare::{print_input, Comparison};
 use crate::random::Random;
 use crate::samples::{bad_code, pair, random_word, structured_word, CODES};
+use crate::scalars::{damage_scalar, put_on_reel};
 
 /// What the numbers and words of a made reel are like.
 #[derive(Clone, Copy, PartialEq)]
@@ -112,7 +113,8 @@ fn cards(random: &mut Random) -> Vec<u8> {
     cards
 }
 
-/// A reel that reading takes. Unassigned bytes are filled too; fields 115 and 117 are 0 or not.
+/// A reel that reading takes. Unassigned bytes are filled too; fields 115 and 117 are 0 or not, and
+/// elevations and coordinates are of any size.
 pub fn reel(random: &mut Random, shape: Shape, words: Words) -> Vec<u8> {
     let mut reel = cards(random);
     reel.resize(3600, 0);
@@ -127,6 +129,7 @@ pub fn reel(random: &mut Random, shape: Shape, words: Words) -> Vec<u8> {
         if !random.once_in(4) {
             random.fill(&mut header);
         }
+        put_on_reel(random, &mut header);
         put(&mut header, 114, random.pick(&[0, shape.samples as u16]));
         put(&mut header, 116, random.pick(&[0, shape.interval]));
         reel.extend(header);
@@ -150,9 +153,9 @@ pub fn other_number(random: &mut Random, number: u16) -> u16 {
     }
 }
 
-/// The kinds of damage lead to the causes 1 to 9 (without 6, which takes a long reel); the last two
+/// The kinds of damage lead to the causes 1 to 9 (without 6, which takes a long reel) and to 18; two
 /// put other valid numbers in place of N and the code.
-const DAMAGES: usize = 12;
+const DAMAGES: usize = 14;
 
 /// Damages a reel in one way. What an earlier damage has cut off can't be damaged any more.
 fn damage(random: &mut Random, kind: usize, shape: Shape, reel: &mut Vec<u8>) {
@@ -213,6 +216,7 @@ fn damage(random: &mut Random, kind: usize, shape: Shape, reel: &mut Vec<u8>) {
             put(reel, 3220, 1 + random.below(most) as u16);
         }
         11 => put(reel, 3224, random.pick(&[1, 2, 3, 4])),
+        12 | 13 if traces => damage_scalar(random, &mut reel[trace..]),
         _ => {}
     }
 }
@@ -300,6 +304,7 @@ fn some_look_ups(
             1 => random.next() as u32,
             _ if trace == 0 => random.between(3195, 3265) as u32,
             2 => random.pick(&[115, 117]),
+            3 => random.pick(&[41, 65, 69, 71, 73, 85]),
             _ => random.between(0, 185) as u32,
         };
         compare.look_up(reel, trace, byte);
@@ -340,7 +345,7 @@ pub fn reels(compare: &mut Comparison) {
     }
 
     compare.stage("reels, valid and damaged");
-    for _ in 0..80_000 {
+    for _ in 0..72_000 {
         let shape = Shape::any(&mut random, 300);
         let words = random.pick(&ALL_WORDS);
         let mut made = reel(&mut random, shape, words);
@@ -448,13 +453,17 @@ pub fn long_reels(compare: &mut Comparison) {
         write_and_read_again(compare, &record, code, 24_500_000);
     }
     for trace in [0, 1, 99_999, 100_000, 100_001] {
-        for byte in [1, 115, 117, 179, 3201, 3221] {
+        for byte in [1, 69, 117, 3221] {
             compare.look_up(&made, trace, byte);
         }
     }
     put(&mut made, last + 116, 1);
     compare.read_reel(&made, length);
     put(&mut made, last + 116, 0);
+    put(&mut made, last + 70, 2);
+    compare.read_reel(&made, length);
+    compare.look_up(&made, 1, 1);
+    put(&mut made, last + 70, 0);
     compare.read_reel(&made[..made.len() - 1], length);
 
     made.extend_from_within(last..);

@@ -1,11 +1,12 @@
 //! SEG-Y revision 0 reels and their canonical records: the five calls of document 01 and the two of
-//! document 02's CR 1 in plain Rust, written from the papers alone. The differential test compares the
-//! library with them.
+//! document 02's CR 1, with the scalars of CR 2, in plain Rust, written from the papers alone. The
+//! differential test compares the library with them.
 //!
 //! A refused call changes no byte of its output. So each call on a whole reel or record makes two
 //! passes: the first looks for causes to refuse, the second writes.
 
 mod page;
+mod scalars;
 #[cfg(test)]
 mod tests;
 
@@ -57,8 +58,8 @@ pub struct Taken {
     pub length: u64,
 }
 
-/// The number of the cause, and what stands beside it in document 01's table, or beside number 17 in
-/// document 02.
+/// The number of the cause, and what stands beside it in document 01's table, or beside numbers 17
+/// and 18 in document 02.
 #[derive(Clone, Copy, Debug, PartialEq, Eq)]
 pub struct Refused {
     pub number: u64,
@@ -126,6 +127,9 @@ pub fn read_reel(reel: &[u8], out: &mut [u8]) -> Result<Taken, Refused> {
         let (header, words) = trace.split_at(TRACE_HEADER);
         let fields = put_field(&mut room, TAG_TRACE, TRACE_FIELDS);
         fields.copy_from_slice(&header[..TRACE_FIELDS]);
+        for group in scalars::GROUPS {
+            group.respell(fields);
+        }
         put_number(fields, TRACE_COUNT, shape.samples);
         put_number(fields, TRACE_INTERVAL, shape.interval);
 
@@ -343,7 +347,7 @@ impl Shape {
     }
 }
 
-/// Looks for the causes 1 to 9.
+/// Looks for the causes 1 to 9, and for 18 between 8 and 9.
 fn check_reel(reel: &[u8]) -> Result<(Code, Shape), Refused> {
     if reel.len() < REEL_HEADERS {
         return refused(1, reel.len());
@@ -387,6 +391,11 @@ fn check_reel(reel: &[u8]) -> Result<(Code, Shape), Refused> {
         if trace_interval != 0 && trace_interval != interval {
             return refused(8, place + TRACE_INTERVAL);
         }
+        for group in scalars::GROUPS {
+            if !group.is_allowed(header) {
+                return refused(18, place + group.scalar);
+            }
+        }
         if let Code::Gain = code {
             if let Some(word) = words.chunks_exact(4).position(|word| word[0] != 0) {
                 return refused(9, place + TRACE_HEADER + 4 * word);
@@ -429,6 +438,11 @@ fn check_record(record: &[u8], code: Option<Code>) -> Result<Shape, Refused> {
     let mut misfit = None;
     while shape.traces < MOST_TRACES && record.get(place) == Some(&TAG_TRACE) {
         let header = field(record, place, TAG_TRACE, TRACE_FIELDS)?;
+        for group in scalars::GROUPS {
+            if !group.is_smallest(header) {
+                return refused(13, place + FIELD_HEAD + group.scalar);
+            }
+        }
         if number_at(header, TRACE_COUNT) != samples {
             return refused(13, place + FIELD_HEAD + TRACE_COUNT);
         }

@@ -1,4 +1,4 @@
-//! Document 01's samples at the edges and its example, and what document 02's CR 1 makes of it.
+//! Document 01's samples at the edges and its example, and what document 02's CR 1 and CR 2 make of it.
 
 use super::*;
 
@@ -123,7 +123,8 @@ fn example() -> Vec<u8> {
     reel
 }
 
-/// Its record, field by field.
+/// Its record, field by field. The scalars of fields 69 and 71 are -10000, the smallest power's, since
+/// all elevations and coordinates are 0.
 fn example_record() -> Vec<u8> {
     let mut record = vec![0x01, 0x0C, 0x80];
     record.resize(3203, 0x40);
@@ -133,6 +134,7 @@ fn example_record() -> Vec<u8> {
     record[3206 + 20..3206 + 22].copy_from_slice(&[0x00, 0x02]);
     record.extend([0x03, 0x00, 0xB4]);
     record.resize(3269 + 180, 0);
+    record[3269 + 68..3269 + 72].copy_from_slice(&[0xD8, 0xF0, 0xD8, 0xF0]);
     record[3269 + 114..3269 + 118].copy_from_slice(&[0x00, 0x02, 0x07, 0xD0]);
     record.extend([0x04, 0x00, 0x0C]);
     record.extend([0x00, 0x00, 0x00, 0x00, 0x00, 0x01]);
@@ -157,6 +159,7 @@ fn example_is_read() {
 #[test]
 fn example_is_written() {
     let mut filled = example();
+    filled[3600 + 68..3600 + 72].copy_from_slice(&[0xD8, 0xF0, 0xD8, 0xF0]);
     filled[3600 + 114..3600 + 118].copy_from_slice(&[0x00, 0x02, 0x07, 0xD0]);
     let mut out = [0xA5; 4000];
     let taken = Taken {
@@ -418,4 +421,409 @@ fn samples_need_not_fit_a_code() {
     assert_eq!(out[..], record);
     record[3458..3464].copy_from_slice(&pair(0, 2));
     assert_eq!(list_cards(&record, &mut out), refused(13, 3458));
+}
+
+/// A scalar and its numbers: fields 41 to 65, and fields 73 to 85.
+type Elevations = (i16, [i32; 7]);
+type Coordinates = (i16, [i32; 4]);
+
+const NO_ELEVATIONS: Elevations = (-10_000, [0; 7]);
+const NO_COORDINATES: Coordinates = (-10_000, [0; 4]);
+
+const SCALARS: [i16; 11] = [0, 1, -1, 10, -10, 100, -100, 1_000, -1_000, 10_000, -10_000];
+
+/// Where a trace header begins on the reel of the example, and in its record.
+const ON_REEL: usize = 3600;
+const IN_RECORD: usize = 3269;
+
+fn put_groups(header: &mut [u8], elevations: Elevations, coordinates: Coordinates) {
+    for (i, number) in elevations.1.into_iter().enumerate() {
+        header[40 + 4 * i..44 + 4 * i].copy_from_slice(&number.to_be_bytes());
+    }
+    for (i, number) in coordinates.1.into_iter().enumerate() {
+        header[72 + 4 * i..76 + 4 * i].copy_from_slice(&number.to_be_bytes());
+    }
+    header[68..70].copy_from_slice(&elevations.0.to_be_bytes());
+    header[70..72].copy_from_slice(&coordinates.0.to_be_bytes());
+}
+
+fn reel_with(elevations: Elevations, coordinates: Coordinates) -> Vec<u8> {
+    let mut reel = example();
+    put_groups(&mut reel[ON_REEL..], elevations, coordinates);
+    reel
+}
+
+fn record_with(elevations: Elevations, coordinates: Coordinates) -> Vec<u8> {
+    let mut record = example_record();
+    put_groups(&mut record[IN_RECORD..], elevations, coordinates);
+    record
+}
+
+/// The example with these elevations and coordinates is read as its record with those, and the reel
+/// that is written from it has those as they stand, and gives the record again.
+fn held_as(reel: (Elevations, Coordinates), held: (Elevations, Coordinates)) {
+    let record = record_with(held.0, held.1);
+    let mut out = [0xA5; 3471];
+    assert!(read_reel(&reel_with(reel.0, reel.1), &mut out).is_ok());
+    assert_eq!(out[..], record, "{reel:?}");
+
+    let mut filled = reel_with(held.0, held.1);
+    filled[ON_REEL + 114..ON_REEL + 118].copy_from_slice(&[0x00, 0x02, 0x07, 0xD0]);
+    let mut written = [0xA5; 3848];
+    assert!(write_reel(&record, 1, &mut written).is_ok());
+    assert_eq!(written[..], filled, "{held:?}");
+    assert!(read_reel(&written, &mut out).is_ok());
+    assert_eq!(out[..], record, "{held:?}");
+}
+
+/// One number other than 0, in each field of either group.
+fn number_held_as(scalar: i16, number: i32, held_scalar: i16, held_number: i32) {
+    for field in 0..7 {
+        let (mut reel, mut held) = ([0; 7], [0; 7]);
+        (reel[field], held[field]) = (number, held_number);
+        held_as(
+            ((scalar, reel), NO_COORDINATES),
+            ((held_scalar, held), NO_COORDINATES),
+        );
+    }
+    for field in 0..4 {
+        let (mut reel, mut held) = ([0; 4], [0; 4]);
+        (reel[field], held[field]) = (number, held_number);
+        held_as(
+            (NO_ELEVATIONS, (scalar, reel)),
+            (NO_ELEVATIONS, (held_scalar, held)),
+        );
+    }
+}
+
+#[test]
+fn one_survey_under_several_scalars() {
+    for (scalar, number) in [
+        (-10, 1_000),
+        (-100, 10_000),
+        (-1_000, 100_000),
+        (-10_000, 1_000_000),
+        (0, 100),
+        (1, 100),
+        (-1, 100),
+        (10, 10),
+        (100, 1),
+    ] {
+        number_held_as(scalar, number, -10_000, 1_000_000);
+    }
+}
+
+#[test]
+fn zeros_take_the_smallest_power() {
+    for scalar in SCALARS {
+        number_held_as(scalar, 0, -10_000, 0);
+    }
+}
+
+/// 7 has room for eight zeros, the most that any scalar asks for.
+#[test]
+fn every_allowed_scalar() {
+    for (scalar, number) in [
+        (-10_000, 7),
+        (-1_000, 70),
+        (-100, 700),
+        (-10, 7_000),
+        (-1, 70_000),
+        (0, 70_000),
+        (1, 70_000),
+        (10, 700_000),
+        (100, 7_000_000),
+        (1_000, 70_000_000),
+        (10_000, 700_000_000),
+    ] {
+        number_held_as(scalar, 7, -10_000, number);
+        number_held_as(scalar, -7, -10_000, -number);
+    }
+}
+
+/// A number that can't take a zero stays, with its own scalar; 0 and -1 are 1.
+#[test]
+fn ends_of_the_numbers() {
+    for scalar in SCALARS {
+        let held = if matches!(scalar, 0 | -1) { 1 } else { scalar };
+        for number in [i32::MAX, i32::MIN, 214_748_365, -214_748_365] {
+            number_held_as(scalar, number, held, number);
+        }
+    }
+}
+
+#[test]
+fn zeros_as_many_as_fit() {
+    for sign in [1, -1] {
+        for (scalar, number, held_scalar, held_number) in [
+            (1, 214_748_364, -10, 2_147_483_640),
+            (1, 214_748_365, 1, 214_748_365),
+            (1, 21_474_836, -100, 2_147_483_600),
+            (1, 21_474_837, -10, 214_748_370),
+            (1, 2_147_483, -1_000, 2_147_483_000),
+            (1, 2_147_484, -100, 214_748_400),
+            (1, 214_748, -10_000, 2_147_480_000),
+            (1, 214_749, -1_000, 214_749_000),
+            (10_000, 214_748_364, 1_000, 2_147_483_640),
+            (10_000, 214_748, 1, 2_147_480_000),
+            (10_000, 214_749, 10, 214_749_000),
+            (10_000, 21, -10_000, 2_100_000_000),
+            (10_000, 22, -1_000, 220_000_000),
+            (-1_000, 214_748_364, -10_000, 2_147_483_640),
+            (-1_000, 214_748_365, -1_000, 214_748_365),
+            (-10_000, 214_748_364, -10_000, 214_748_364),
+            (-10_000, 1, -10_000, 1),
+        ] {
+            number_held_as(scalar, sign * number, held_scalar, sign * held_number);
+        }
+    }
+}
+
+/// The longest number sets a group's power, and no other group's.
+#[test]
+fn numbers_of_several_sizes() {
+    held_as(
+        ((1, [1, -1, 0, 214_748_364, 20, 300, 4_000]), (1, [1; 4])),
+        (
+            (-10, [10, -10, 0, 2_147_483_640, 200, 3_000, 40_000]),
+            (-10_000, [10_000; 4]),
+        ),
+    );
+    held_as(
+        ((-100, [5; 7]), (100, [100, 2_000_000, -2_147_483, 7])),
+        (
+            (-10_000, [500; 7]),
+            (-10, [100_000, 2_000_000_000, -2_147_483_000, 7_000]),
+        ),
+    );
+    held_as(
+        (
+            (0, [0, 0, 0, 0, 0, 0, i32::MIN]),
+            (-1, [214_748_365, 1, 1, 1]),
+        ),
+        (
+            (1, [0, 0, 0, 0, 0, 0, i32::MIN]),
+            (1, [214_748_365, 1, 1, 1]),
+        ),
+    );
+    held_as(
+        (
+            (10, [90, 80, 70, 60, 50, 40, 30]),
+            (10_000, [0, -214_749, 0, 3]),
+        ),
+        (
+            (
+                -10_000,
+                [
+                    9_000_000, 8_000_000, 7_000_000, 6_000_000, 5_000_000, 4_000_000, 3_000_000,
+                ],
+            ),
+            (10, [0, -214_749_000, 0, 3_000]),
+        ),
+    );
+}
+
+/// The fields beside the groups: 37, 89 and all others.
+#[test]
+fn other_fields_stay_bare() {
+    let mut reel = reel_with((100, [1; 7]), (100, [1; 4]));
+    for offset in (0..180).filter(|&offset| !(40..88).contains(&offset)) {
+        reel[ON_REEL + offset] = 1 + offset as u8;
+    }
+    reel[ON_REEL + 114..ON_REEL + 118].copy_from_slice(&[0x00, 0x02, 0x07, 0xD0]);
+    let mut record = record_with((-10_000, [1_000_000; 7]), (-10_000, [1_000_000; 4]));
+    record[IN_RECORD..IN_RECORD + 40].copy_from_slice(&reel[ON_REEL..ON_REEL + 40]);
+    record[IN_RECORD + 88..IN_RECORD + 180].copy_from_slice(&reel[ON_REEL + 88..ON_REEL + 180]);
+    let mut out = [0xA5; 3471];
+    assert!(read_reel(&reel, &mut out).is_ok());
+    assert_eq!(out[..], record);
+}
+
+#[test]
+fn each_trace_has_its_own_powers() {
+    let mut reel = reel_with((1, [i32::MAX; 7]), (10, [3; 4]));
+    let second = reel_with((10, [3; 7]), (1, [i32::MAX; 4]));
+    reel.extend(&second[ON_REEL..]);
+    let mut out = [0xA5; 3669];
+    assert!(read_reel(&reel, &mut out).is_ok());
+    let first = record_with((1, [i32::MAX; 7]), (-10_000, [300_000; 4]));
+    let second = record_with((-10_000, [300_000; 7]), (1, [i32::MAX; 4]));
+    assert_eq!(out[3266..3464], first[3266..3464]);
+    assert_eq!(out[3464..3662], second[3266..3464]);
+}
+
+#[test]
+fn scalars_that_no_reel_has() {
+    let mut out = [0xA5; 3471];
+    let (mut elevations, mut coordinates) = (0, 0);
+    for scalar in i16::MIN..=i16::MAX {
+        let allowed = SCALARS.contains(&scalar);
+        let reel = reel_with((scalar, [1; 7]), (10, [1; 4]));
+        let said = read_reel(&reel, &mut out[..0]);
+        if allowed {
+            elevations += 1;
+            assert_eq!(said, refused(10, 3471));
+            assert_eq!(look_up(&reel, 1, 69), Ok(i32::from(scalar)));
+        } else {
+            assert_eq!(said, refused(18, 3668));
+            assert_eq!(look_up(&reel, 1, 69), refused(18, 3668));
+        }
+        let reel = reel_with((10, [1; 7]), (scalar, [1; 4]));
+        let said = read_reel(&reel, &mut out[..0]);
+        if allowed {
+            coordinates += 1;
+            assert_eq!(said, refused(10, 3471));
+            assert_eq!(look_up(&reel, 1, 71), Ok(i32::from(scalar)));
+        } else {
+            assert_eq!(said, refused(18, 3670));
+            assert_eq!(look_up(&reel, 0, 3217), refused(18, 3670));
+        }
+    }
+    assert_eq!((elevations, coordinates), (11, 11));
+}
+
+/// Bare numbers, 0 and -1 as they stand on the reel.
+#[test]
+fn look_up_gives_bare_numbers() {
+    for (first, second) in [(0, -1), (-1, 0), (-100, 10_000), (1, 1)] {
+        let elevations = (first, [1, -2, 3, i32::MAX, i32::MIN, 0, 7]);
+        let coordinates = (second, [-1, 20, 0, i32::MIN]);
+        let reel = reel_with(elevations, coordinates);
+        for (i, number) in elevations.1.into_iter().enumerate() {
+            assert_eq!(look_up(&reel, 1, 41 + 4 * i as u32), Ok(number));
+        }
+        for (i, number) in coordinates.1.into_iter().enumerate() {
+            assert_eq!(look_up(&reel, 1, 73 + 4 * i as u32), Ok(number));
+        }
+        assert_eq!(look_up(&reel, 1, 69), Ok(i32::from(first)));
+        assert_eq!(look_up(&reel, 1, 71), Ok(i32::from(second)));
+    }
+}
+
+/// 7, 8, 18 for field 69, 18 for field 71, 9; trace by trace. The reel is of gain words, and its
+/// second trace has every cause at first.
+#[test]
+fn causes_of_scalars_on_a_reel_in_order() {
+    let mut reel = example();
+    reel[3224..3226].copy_from_slice(&[0x00, 0x04]);
+    reel[3840..3848].fill(0);
+    let trace = reel[3600..].to_vec();
+    reel.extend(&trace);
+    reel.extend(&trace);
+    let start = 3848;
+    reel[start + 114..start + 118].copy_from_slice(&[0x00, 0x03, 0x00, 0x03]);
+    reel[start + 68..start + 72].copy_from_slice(&[0x00, 0x07, 0x00, 0x02]);
+    reel[start + 240] = 0x01;
+    reel[start + 248 + 68] = 0x01;
+
+    let mut out = [0xA5; 4000];
+    for (cause, mended) in [
+        (refused(7, start + 114), 114..116),
+        (refused(8, start + 116), 116..118),
+        (refused(18, start + 68), 68..70),
+        (refused(18, start + 70), 70..72),
+        (refused(9, start + 240), 240..241),
+        (refused(18, start + 248 + 68), 248 + 68..248 + 70),
+    ] {
+        for room in [0, 4000] {
+            assert_eq!(read_reel(&reel, &mut out[..room]), cause);
+        }
+        for (trace, byte) in [(0, 3217), (1, 1), (3, 69), (4, 1), (1, 2)] {
+            assert_eq!(look_up(&reel, trace, byte), cause.map(|_| 0));
+        }
+        reel[start + mended.start..start + mended.end].fill(0);
+    }
+    assert_eq!(read_reel(&reel, &mut out[..0]), refused(10, 3273 + 3 * 198));
+    assert_eq!(look_up(&reel, 4, 1), refused(15, 0));
+    reel.push(0);
+    reel[start + 68] = 0x01;
+    assert_eq!(read_reel(&reel, &mut out), refused(5, 3600 + 3 * 248));
+}
+
+/// Of all 65,536 scalars a record takes those at which its numbers stand at the smallest power:
+/// -10000 alone where a zero could be added, each of the nine where it couldn't.
+#[test]
+fn scalars_that_no_record_has() {
+    let powers = [-10_000, -1_000, -100, -10, 1, 10, 100, 1_000, 10_000];
+    for (number, taken) in [
+        (0, &powers[..1]),
+        (1, &powers[..1]),
+        (-214_748_364, &powers[..1]),
+        (214_748_365, &powers),
+        (i32::MIN, &powers),
+    ] {
+        let elevations = [0, 0, number, 0, 0, 0, 0];
+        let coordinates = [0, 0, 0, number];
+        for scalar in i16::MIN..=i16::MAX {
+            let cases = [
+                (record_with((scalar, elevations), NO_COORDINATES), 3337),
+                (record_with(NO_ELEVATIONS, (scalar, coordinates)), 3339),
+            ];
+            for (record, place) in cases {
+                let cause = if taken.contains(&scalar) {
+                    refused(10, 3848)
+                } else {
+                    refused(13, place)
+                };
+                assert_eq!(write_reel(&record, 1, &mut []), cause, "{number}, {scalar}");
+            }
+        }
+    }
+}
+
+/// One power too large, though the values are whole and fit there; and the other group's numbers
+/// don't help.
+#[test]
+fn groups_that_a_smaller_power_holds() {
+    let right = record_with((-10, [2_147_483_640; 7]), (-10, [2_147_483_640; 4]));
+    assert_eq!(write_reel(&right, 1, &mut []), refused(10, 3848));
+    for (elevations, coordinates, place) in [
+        ((1, [214_748_364; 7]), (-10, [2_147_483_640; 4]), 3337),
+        ((-10, [2_147_483_640; 7]), (1, [214_748_364; 4]), 3339),
+        ((1, [214_748_364; 7]), (1, [214_748_364; 4]), 3337),
+        ((-1_000, [0; 7]), (-10, [i32::MAX; 4]), 3337),
+        ((-10, [i32::MIN; 7]), (1, [0; 4]), 3339),
+    ] {
+        let record = record_with(elevations, coordinates);
+        let mut out = [0xA5; 3848];
+        assert_eq!(write_reel(&record, 1, &mut out), refused(13, place));
+        assert_eq!(list_cards(&record, &mut out), refused(13, place));
+        assert_eq!(
+            take_cards(&record, &blank_listing(), &mut out),
+            refused(13, place)
+        );
+        assert!(out.iter().all(|&byte| byte == 0xA5));
+    }
+}
+
+/// A record made before CR 2 has the reel's own scalars.
+#[test]
+fn earlier_records() {
+    let earlier = record_with((0, [0; 7]), (0, [0; 4]));
+    assert_eq!(write_reel(&earlier, 1, &mut []), refused(13, 3337));
+    let earlier = record_with((-10, [1_000; 7]), (1, [441_200; 4]));
+    assert_eq!(list_cards(&earlier, &mut []), refused(13, 3337));
+}
+
+/// In tag 03 the order is 69, 71, 115, 117; 12 comes before, tag 04 after.
+#[test]
+fn causes_of_scalars_in_a_record_in_order() {
+    let mut record = record_with((0, [1; 7]), (-1, [1; 4]));
+    record[IN_RECORD + 114..IN_RECORD + 118].fill(0);
+    record[3449] = 0x05;
+    let mut wrong_form = record.clone();
+    wrong_form[3268] = 0xB5;
+    assert_eq!(write_reel(&wrong_form, 1, &mut []), refused(12, 3266));
+    assert_eq!(write_reel(&record[..3448], 1, &mut []), refused(12, 3266));
+    for (cause, place, right) in [
+        (refused(13, 3337), 68, [0xD8, 0xF0]),
+        (refused(13, 3339), 70, [0xD8, 0xF0]),
+        (refused(13, 3383), 114, [0x00, 0x02]),
+        (refused(13, 3385), 116, [0x07, 0xD0]),
+    ] {
+        assert_eq!(write_reel(&record, 1, &mut []), cause);
+        record[IN_RECORD + place..IN_RECORD + place + 2].copy_from_slice(&right);
+    }
+    assert_eq!(write_reel(&record, 1, &mut []), refused(12, 3449));
+    assert_eq!(write_reel(&record, 0, &mut []), refused(11, 0));
 }
