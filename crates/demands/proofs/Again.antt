@@ -4,7 +4,7 @@
 use mathlib.Core.Path.{_≡_, refl, sym, ap, ap₂, _∙_, subst}
 use mathlib.Core.List.{List, _∷_, _++_, map}
 use Prim.Native.Nat.{ℕ, zero, suc, _+_, _*_, _<_}
-use native.Mathlib.Nat.{zero-mul, suc-mul, add-zero, mul-comm}
+use native.Mathlib.Nat.{zero-mul, suc-mul, mul-comm}
 use native.Mathlib.Omega.{arith}
 use lib.ListN.{length}
 use lib.Seq.{take-all}
@@ -18,14 +18,15 @@ use Rattle.numbers.proofs.ByteLaws.{bytes-at, bytes-again, bytes-append}
 use Rattle.value.specs.Pair.{pairLength, pairBytes, pairIn}
 use Rattle.value.specs.declared.Pair.{Pair}
 use Rattle.sample_theorems.proofs.Pairs.{value-pair-back, pair-bytes}
-use Rattle.reel.specs.Layout.{fieldsFrom, cardBytes, binaryWidths, binaryFields, traceWidths, traceFields, fieldNumber}
+use Rattle.reel.specs.Layout.{fieldsFrom, cardBytes, binaryWidths, binaryFields, fieldNumber}
 use Rattle.reel.specs.Meaning.{otherThan}
-use Rattle.record.specs.Record.{field, numberBytes, binaryBytes, valueBytes, samplesField, traceBytes, recordOf}
+use Rattle.record.specs.Record.{field, binaryBytes, valueBytes, samplesField, traceBytes, recordOf}
 use Rattle.record.specs.Form.{heldSamples, heldCode, tracesPlace, heldStride, heldCount, formCauses}
 use Rattle.record.specs.Held.{heldValue, heldTrace, heldBy}
-use Rattle.record.proofs.NumberLaws.{fields-again, numbers-append}
-use Rattle.record.proofs.HeaderLaws.{binary-front, binary-back, counts}
-use Rattle.demands.proofs.Valid.{record-right}
+use Rattle.headers.proofs.NumberLaws.{fields-again, numbers-append}
+use Rattle.headers.proofs.HeaderBytes.{bytes-again as header-bytes}
+use Rattle.record.proofs.HeaderLaws.{binary-front, binary-back}
+use Rattle.demands.proofs.Valid.{scalars-fine, record-right}
 use Rattle.demands.specs.ValidRecord.{Stands, CanonicalAt, tracePlace, pairPlace, TraceRight, RecordRight}
 
 -- ## Lists joined
@@ -81,12 +82,6 @@ value-again s h at c =
     let b = bytesAt s at pairLength in
     ap (λ (p : Pair). pairBytes (p .e) (p .m)) (value-pair-back (pairIn b) c) ∙ pair-bytes b (size-bytes s at pairLength) (bytes-at s h at pairLength)
 
--- The numbers of a trace header, written again.
-header-again : (s : List ℕ) → Bytes s → (at : ℕ) → numberBytes traceWidths (map (fieldNumber s at) traceFields) ≡ bytesAt s at 180
-unfolding traceFields
-header-again s h at =
-    fields-again s h at 1 traceWidths (omega arith) ∙ ap₂ (λ (a k : ℕ). bytesAt s a k) (add-zero at) (counts .3)
-
 -- Trace k of a record, by what it holds and written again.
 trace-again : (s : List ℕ) → Bytes s → (k : ℕ) → TraceRight s k
     → traceBytes (heldTrace s (heldSamples s) (tracePlace s k)) ≡ bytesAt s (tracePlace s k) (heldStride (heldSamples s))
@@ -98,7 +93,7 @@ trace-again s h k t =
     let values : flat (map valueBytes (walk (heldValue s) pairLength n (at + 186))) ≡ bytesAt s (at + 183 + 3) (pairLength * n) =
     walk-again valueBytes (heldValue s) s pairLength n (at + 186) (λ j l. value-again s h (pairPlace s k j) (t .pairs j l))
     ∙ ap₂ (λ (a c : ℕ). bytesAt s a c) next (mul-comm n pairLength) in
-    join (field-again s h 3 180 at _ (t .front .header) (header-again s h (at + 3))) (field-again s h 4 (pairLength * n) (at + 183) _ (t .samples) values)
+    join (field-again s h 3 180 at _ (t .front .front .header) (header-bytes s h (at + 3) (scalars-fine s k (t .front .front)))) (field-again s h 4 (pairLength * n) (at + 183) _ (t .samples) values)
     ∙ bytes-join s at 183 (3 + pairLength * n) (at + 183) (heldStride n) refl (omega arith)
 
 -- ## The record

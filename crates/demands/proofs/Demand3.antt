@@ -18,7 +18,7 @@
 --   `sixteen`: sample values are compared V by V, whole numbers over 16^70.
 -- - `cards-alike`, `own-alike`: the spellings taken as one, and no others.
 -- - `reel-again`: where the reading of a reel is taken, and the writing of its record under any code is taken, the writing returns the same
---   T and N and the length of such a reel; no cause of 1 to 9 applies to the reel that was written, it is in that code, it means the same
+--   T and N and the length of such a reel; no cause of 1 to 9 and 18 applies to the reel that was written, it is in that code, it means the same
 --   as the first reel and has the same record; and reading it into an output long enough is taken with the same T, N and length, and gives
 --   that record.
 -- - `written-in-each-code`: so that `reel-again` is no empty promise, the record of a reel whose reading is taken is written under every
@@ -38,19 +38,18 @@ use lib.ListN.{length, take, drop}
 use lib.IntN.{ℤ, pos, negsuc, natAbs}
 use lib.Dec.{eqb}
 use Rattle.numbers.specs.Walk.{bytesAt, pick}
-use Rattle.numbers.specs.Cause.{refuseIf}
 use Rattle.numbers.specs.Outcome.{taken, Outcome}
 use Rattle.numbers.specs.declared.Check.the-variants.{Fine}
 use Rattle.numbers.specs.Terms.{All, Bytes, ZeroOr}
 use Rattle.numbers.specs.Iff.{Iff}
 use Rattle.numbers.proofs.WalkLaws.{cons-eq, size-bytes}
 use Rattle.numbers.proofs.ByteLaws.{bytes-at}
-use Rattle.numbers.proofs.CauseLaws.{passed, then-fine, first-all}
+use Rattle.numbers.proofs.CauseLaws.{passed, first-all}
 use Rattle.value.specs.Value.{denominatorPower, isCode, exactValue}
-use Rattle.reel.specs.Layout.{firstTrace, traceHeader, number16, intervalOf, samplesOf, codeOf, sampleBytes, strideOf, tracesOf}
-use Rattle.reel.specs.Causes.{neither, wordCause, traceCauses, causesOf}
+use Rattle.reel.specs.Layout.{firstTrace, traceHeader, intervalOf, samplesOf, codeOf, sampleBytes, strideOf, tracesOf}
+use Rattle.reel.specs.Causes.{wordCause, traceCauses, causesOf}
 use Rattle.reel.specs.Meaning.{Trace, traceMeaning, Meaning, meaningOf, MeanTheSame, blank, filled}
-use Rattle.reel.proofs.CheckLaws.{reel-fine}
+use Rattle.reel.proofs.CheckLaws.{words-fine, reel-fine}
 use Rattle.record.specs.Record.{reelRecord}
 use Rattle.read_reel.specs.Reading.{readOutcome}
 use Rattle.write_reel.specs.Reel.{reelLength}
@@ -187,11 +186,9 @@ written-in-each-code s out t n l code out₂ b e c f h =
 
 -- Each sample of a trace of a reel has its own word, where 9 doesn't apply to it.
 trace-words : (s : List ℕ) → Bytes s → (code n i at : ℕ) → traceCauses s code n i at ≡ Fine → All (HasWord code) (traceMeaning s code n i at .values)
-unfolding traceCauses traceMeaning
+unfolding traceMeaning
 trace-words s h code n i at e =
-    let a = then-fine (refuseIf (neither (number16 s (at + 114)) n) 7 (at + 114)) _ e in
-    let b = then-fine (refuseIf (neither (number16 s (at + 116)) i) 8 (at + 116)) _ (a .1) in
-    first-all (wordCause s code) (λ p. exactValue code (bytesAt s p 4)) (HasWord code) own-word (sampleBytes code) n (at + traceHeader) (b .1)
+    first-all (wordCause s code) (λ p. exactValue code (bytesAt s p 4)) (HasWord code) own-word (sampleBytes code) n (at + traceHeader) (words-fine s code n i at e)
   where
     own-word : (p : ℕ) → wordCause s code p ≡ Fine → HasWord code (exactValue code (bytesAt s p 4))
     own-word p q =
@@ -203,7 +200,7 @@ trace-words s h code n i at e =
           value = refl;
         }
 
--- Each sample value of a reel to which no cause of 1 to 9 applies has a word under the reel's own code.
+-- Each sample value of a reel to which no cause of 1 to 9 and 18 applies has a word under the reel's own code.
 reel-words : (s : List ℕ) → Bytes s → causesOf s ≡ Fine → Worded (codeOf s) (meaningOf s .traces)
 unfolding meaningOf
 reel-words s h f =

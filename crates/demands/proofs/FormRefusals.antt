@@ -14,10 +14,12 @@ use Rattle.numbers.specs.Terms.{atPlace}
 use Rattle.numbers.specs.declared.Check.the-variants.{Fine, Refused}
 use Rattle.numbers.proofs.RowLaws.{then-row, then-first, then-second, fine-then, refused-then, row-then, no-row, not-enough, too-short, first-is, first-of, walk-refused, walk-row, fine-none}
 use Rattle.value.specs.Pair.{pairLength}
+use Rattle.reel.specs.Layout.{elevationScalar, coordinateScalar}
+use Rattle.reel.specs.Meaning.{elevationFields, coordinateFields}
 use Rattle.record.specs.Form.{cardCause, cardsCauses, heldInterval, heldSamples, binaryCauses, tracesPlace, heldStride, pairCause, samplesCauses, endCauses, bodyCauses, formCauses}
-use Rattle.demands.specs.ValidRecord.{CanonicalAt, tracePlace, pairPlace, CardsRight, HeadRight, HeaderRight, TraceNext, EndNext}
-use Rattle.demands.specs.Tables.{FormRow, no-cards, bad-card, no-binary, bad-held-interval, bad-held-samples, bad-held-code, no-header, bad-held-115, bad-held-117, no-samples, no-end, bad-count, after}
-use Rattle.demands.proofs.Valid.{card-tests, cards-test, binary-test, interval-test, number-test, code-test, end-test, total-test, last-test, cards-fine, cards-right, head-right, formAt, pair-tests, header-test, count-test, spacing-test, samples-test, form-parts, behind-header, trace-fine, countIn, next-counted, end-next, trace-next, body-end, form-body}
+use Rattle.demands.specs.ValidRecord.{CanonicalAt, tracePlace, pairPlace, CardsRight, HeadRight, ScalarsRight, HeaderRight, TraceNext, EndNext}
+use Rattle.demands.specs.Tables.{FormRow, no-cards, bad-card, no-binary, bad-held-interval, bad-held-samples, bad-held-code, no-header, bad-held-69, bad-held-71, bad-held-115, bad-held-117, no-samples, no-end, bad-count, after}
+use Rattle.demands.proofs.Valid.{card-tests, cards-test, binary-test, interval-test, number-test, code-test, end-test, total-test, last-test, cards-fine, cards-right, head-right, formAt, pair-tests, header-test, scalar-test, count-test, spacing-test, samples-test, form-parts, behind-scalars, behind-header, trace-fine, countIn, next-counted, end-next, trace-next, body-end, form-body}
 
 -- ## From the rows to the causes
 
@@ -51,9 +53,13 @@ module _ (s : List ℕ) where
   from-row (bad-held-code c f i m h) =
       from-binary c (fine-then (binary-test s) f (fine-then (interval-test s) i (fine-then (number-test s) m (refused-then (code-test s) _ h))))
   from-row (no-header k t h) = from-trace k t (form-parts s k ∙ refused-then (header-test s k) _ h)
-  from-row (bad-held-115 k t f h) = from-trace k t (form-parts s k ∙ fine-then (header-test s k) f (refused-then (count-test s k) _ h))
-  from-row (bad-held-117 k t f c h) =
-      from-trace k t (form-parts s k ∙ fine-then (header-test s k) f (fine-then (count-test s k) c (refused-then (spacing-test s k) _ h)))
+  from-row (bad-held-69 k t f h) = from-trace k t (form-parts s k ∙ fine-then (header-test s k) f (refused-then (scalar-test s k elevationFields elevationScalar) _ h))
+  from-row (bad-held-71 k t f e h) =
+      from-trace k t
+      (form-parts s k
+      ∙ fine-then (header-test s k) f (fine-then (scalar-test s k elevationFields elevationScalar) e (refused-then (scalar-test s k coordinateFields coordinateScalar) _ h)))
+  from-row (bad-held-115 k t f h) = from-trace k t (behind-scalars s k f (refused-then (count-test s k) _ h))
+  from-row (bad-held-117 k t f c h) = from-trace k t (behind-scalars s k f (fine-then (count-test s k) c (refused-then (spacing-test s k) _ h)))
   from-row (no-samples k t f h) = from-trace k t (behind-header s k f (refused-then (samples-test s k) _ h))
   from-row (FormRow.bad-pair k j t f d l b h) =
       from-trace k t
@@ -95,12 +101,15 @@ module _ (s : List ℕ) {n p : ℕ} where
   unfolding samplesCauses
   to-trace k t refused =
       row-then (header-test s k) (FormRow s) (no-header k t)
-      (λ f. row-then (count-test s k) (FormRow s) (bad-held-115 k t f)
-      (λ c. row-then (spacing-test s k) (FormRow s) (bad-held-117 k t f c)
-      (λ i. let front : HeaderRight s k = record { header = f; count = c; interval = i } in
+      (λ f. row-then (scalar-test s k elevationFields elevationScalar) (FormRow s) (bad-held-69 k t f)
+      (λ x. row-then (scalar-test s k coordinateFields coordinateScalar) (FormRow s) (bad-held-71 k t f x)
+      (λ y. let scalars : ScalarsRight s k = record { header = f; elevations = x; coordinates = y } in
+      row-then (count-test s k) (FormRow s) (bad-held-115 k t scalars)
+      (λ c. row-then (spacing-test s k) (FormRow s) (bad-held-117 k t scalars c)
+      (λ i. let front : HeaderRight s k = record { front = scalars; count = c; interval = i } in
       row-then (samples-test s k) (FormRow s) (no-samples k t front)
       (λ d. walk-row (λ j. CanonicalAt s (pairPlace s k j)) 13 (pairCause s) pairLength (heldSamples s) (tracePlace s k + 183 + 3) (pairPlace s k) (pair-tests s k) (FormRow s)
-      (λ j l b h. FormRow.bad-pair k j t front d l b h)))))
+      (λ j l b h. FormRow.bad-pair k j t front d l b h)))))))
       (sym (form-parts s k) ∙ refused)
 
   -- What is refused at the end has its row, where all is right up to it.

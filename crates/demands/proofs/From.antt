@@ -19,9 +19,9 @@ use Rattle.numbers.proofs.WalkLaws.{cons-eq, flat-size, bytes-part}
 use Rattle.numbers.proofs.ByteLaws.{number-bytes, length-bytes}
 use Rattle.numbers.proofs.SignLaws.{signed-bits, bits-lt}
 use Rattle.reel.specs.Layout.{fieldsFrom, fieldNumber}
-use Rattle.record.specs.Record.{numberBytes}
-use Rattle.record.proofs.NumberLaws.{pow-bytes, total}
-use Rattle.reel_theorems.proofs.Ranges.{Fit, size-numbers}
+use Rattle.headers.specs.Header.{numberBytes}
+use Rattle.headers.proofs.NumberLaws.{pow-bytes, total}
+use Rattle.headers.proofs.Ranges.{Fit, size-numbers}
 
 -- From the offset p on, the list s is l.
 pub record From (s : List ℕ) (p : ℕ) (l : List ℕ) : Type 0 where

@@ -13,11 +13,15 @@ use Rattle.numbers.proofs.AllLaws.{all-append}
 use Rattle.numbers.proofs.ByteLaws.{bytes-of, length-bytes, number-at}
 use Rattle.numbers.proofs.SignLaws.{bits-signed}
 use Rattle.reel.specs.Layout.{fieldsFrom, binaryWidths, binaryFields, traceWidths, traceFields, fieldNumber, number16}
-use Rattle.reel.specs.Meaning.{otherThan, Trace, Meaning}
-use Rattle.record.specs.Record.{numberBytes, binaryBytes}
-use Rattle.record.proofs.NumberLaws.{numbers-append}
-use Rattle.record.proofs.HeaderLaws.{binary-front, binary-back, binary-widths, trace-front, trace-back, countField, intervalField, counts, parts}
-use Rattle.reel_theorems.proofs.Ranges.{fit-length, size-numbers}
+use Rattle.reel.specs.Meaning.{otherThan, Header, Trace, Meaning}
+use Rattle.headers.specs.Header.{numberBytes, headerNumbers, headerBytes}
+use Rattle.headers.proofs.NumberLaws.{numbers-append}
+use Rattle.headers.proofs.Ranges.{fit-length, size-numbers}
+use Rattle.headers.proofs.TraceLaws.{trace-front, trace-back, countField, intervalField}
+use Rattle.headers.proofs.Listed.{behind-at}
+use Rattle.headers.proofs.HeaderBytes.{header-size, numbers-fit}
+use Rattle.record.specs.Record.{binaryBytes}
+use Rattle.record.proofs.HeaderLaws.{binary-front, binary-back, binary-widths, parts}
 use Rattle.demands.proofs.Proper.{ProperTrace, Proper}
 use Rattle.demands.proofs.From.{From, from-at, from-next, from-number, from-header, from-numbers}
 
@@ -144,22 +148,31 @@ pub trace-around : (s : List ℕ) (at : ℕ)
 unfolding traceFields traceWidths trace-front trace-back
 trace-around s at = refl
 
+-- The bytes of a header in a record are bytes.
+pub bytes-header : (h : Header) → Bytes (headerBytes h)
+unfolding headerBytes
+bytes-header h = bytes-numbers traceWidths (headerNumbers h)
+
 module _ (n i : ℕ) (t : Trace) (p : ProperTrace n i t) where
   -- A trace's fields have 180 bytes.
-  pub size-header : length (numberBytes traceWidths (t .numbers)) ≡ 180
-  size-header = size-numbers traceWidths (t .numbers) (p .fit) ∙ counts .3
+  pub size-header : length (headerBytes (t .header)) ≡ 180
+  size-header = header-size (t .header) (p .header)
 
   -- A trace's fields that stand in a list of bytes from the place `at` on.
-  module _ (s : List ℕ) (b : Bytes s) (at : ℕ) (rest : List ℕ) (f : From s at (numberBytes traceWidths (t .numbers) ++ rest)) where
-    -- Their 71 numbers are the trace's.
-    pub numbers-again : map (fieldNumber s at) traceFields ≡ t .numbers
-    unfolding traceFields
-    numbers-again = from-numbers at 1 traceWidths (t .numbers) rest (omega arith) (omega arith) (p .fit) f
+  module _ (s : List ℕ) (b : Bytes s) (at : ℕ) (rest : List ℕ) (f : From s at (headerBytes (t .header) ++ rest)) where
+    -- Their 71 numbers are those of the trace's header.
+    pub numbers-again : map (fieldNumber s at) traceFields ≡ headerNumbers (t .header)
+    unfolding headerBytes traceFields
+    numbers-again = from-numbers at 1 traceWidths (headerNumbers (t .header)) rest (omega arith) (omega arith) (numbers-fit (t .header) (p .header)) f
 
     -- Field 115 is N.
     pub count-again : number16 s (at + 114) ≡ n
-    count-again = word-is s b (at + 114) n (sym (count-at s at) ∙ ap (λ (l : List ℤ). getD l 38 (pos 0)) numbers-again ∙ p .n-is)
+    count-again =
+        word-is s b (at + 114) n
+        (sym (count-at s at) ∙ ap (λ (l : List ℤ). getD l 38 (pos 0)) numbers-again ∙ behind-at (t .header) (p .header .scaled) 13 ∙ p .n-is)
 
     -- Field 117 is the interval.
     pub spacing-again : number16 s (at + 116) ≡ i
-    spacing-again = word-is s b (at + 116) i (sym (interval-at s at) ∙ ap (λ (l : List ℤ). getD l 39 (pos 0)) numbers-again ∙ p .i-is)
+    spacing-again =
+        word-is s b (at + 116) i
+        (sym (interval-at s at) ∙ ap (λ (l : List ℤ). getD l 39 (pos 0)) numbers-again ∙ behind-at (t .header) (p .header .scaled) 14 ∙ p .i-is)

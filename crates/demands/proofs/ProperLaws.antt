@@ -1,6 +1,6 @@
 -- # What reels mean and records hold is proper
 --
--- What a reel means to which no cause of 1 to 9 applies, and what a record holds to which neither 12 nor 13 applies. Each byte of either is
+-- What a reel means to which no cause of 1 to 9 and 18 applies, and what a record holds to which neither 12 nor 13 applies. Each byte of either is
 -- below 256; nothing else is assumed.
 use mathlib.Core.Path.{_≡_, refl, ap, _∙_}
 use mathlib.Core.List.{List, map}
@@ -11,9 +11,8 @@ use native.Mathlib.Omega.{arith}
 use borrow.Author.Tests.{lt-ltb, eqb-true, ne-eqb, not-false}
 use lib.Dec.{eqb}
 use lib.ListN.{getD, take, drop}
-use lib.IntN.{pos}
+use lib.IntN.{ℤ, pos}
 use Rattle.numbers.specs.Walk.{pick, bytesAt}
-use Rattle.numbers.specs.Places.{bytePlace}
 use Rattle.numbers.specs.TwosComplement.{signedOf}
 use Rattle.numbers.specs.Cause.{refuseIf}
 use Rattle.numbers.specs.declared.Check.the-variants.{Fine}
@@ -24,19 +23,21 @@ use Rattle.numbers.proofs.CauseLaws.{passed, then-fine, first-all}
 use Rattle.numbers.proofs.AllLaws.{all-each, all-map}
 use Rattle.value.specs.Pair.{pairOf, isCanonical, pairLength, pairIn}
 use Rattle.sample_theorems.proofs.Pairs.{value-pair-back}
-use Rattle.reel.specs.Layout.{cardBytes, binaryWidths, binaryFields, traceWidths, traceFields, fieldNumber, firstTrace, number16, samplesOf, intervalOf, codeOf, strideOf, tracesOf}
+use Rattle.reel.specs.Layout.{Field, cardBytes, binaryWidths, binaryFields, traceWidths, traceFields, fieldNumber, firstTrace, number16, samplesOf, intervalOf, codeOf, strideOf, tracesOf}
 use Rattle.reel.specs.Causes.{mostTraces, neither, traceCauses, causesOf}
-use Rattle.reel.specs.Meaning.{blank, cardText, binaryNumbers, filled, traceMeaning, meaningOf}
+use Rattle.reel.specs.Meaning.{blank, cardText, binaryNumbers, filled, traceNumber, bareFields, headerOf, traceMeaning, meaningOf}
 use Rattle.reel.proofs.CheckLaws.{reel-fine}
 use Rattle.record.specs.Form.{heldInterval, heldSamples, tracesPlace, heldStride, heldCount, formCauses}
 use Rattle.record.specs.Held.{heldValue, heldTrace, heldBy}
+use Rattle.headers.proofs.TraceLaws.{countField, intervalField}
+use Rattle.headers.proofs.Ranges.{Fit, fields-fit}
+use Rattle.headers.proofs.Listed.{header-listed}
+use Rattle.headers.proofs.HeaderBytes.{HeaderFits, listed-fits, held-fit}
 use Rattle.record.proofs.HeaderLaws.{binary-front, binary-back, size-cards}
 use Rattle.record.proofs.FormLaws.{tags-most}
-use Rattle.reel_theorems.proofs.Ranges.{Fit, Some, fields-fit}
-use Rattle.reel_theorems.proofs.Same.{allSome, some-of, binary-front-some, binary-back-some, trace-like, eighth}
+use Rattle.reel_theorems.proofs.Same.{binary-front-some, binary-back-some, trace-like, eighth}
 use Rattle.demands.proofs.Proper.{ProperTrace, Proper}
 use Rattle.demands.proofs.Valid.{record-right}
-use Rattle.demands.proofs.Headers.{count-at, interval-at}
 use Rattle.demands.specs.ValidRecord.{CanonicalAt, tracePlace, pairPlace, TraceRight}
 
 -- ## Numbers and lists
@@ -52,36 +53,37 @@ some-not n = ne-eqb (suc n) 0 no
     no : suc n ≡ 0 → ⊥
     no e = omega arith
 
--- Every field of a trace header has some bytes.
-trace-some : Some traceWidths
-unfolding allSome traceWidths
-trace-some = some-of traceWidths refl
-
 -- ## What a record holds
 
 -- A canonical pair's value has a canonical pair.
 pub value-held : (s : List ℕ) (at : ℕ) → CanonicalAt s at → isCanonical (pairOf (heldValue s at)) ≡ true
 value-held s at c = ap isCanonical (value-pair-back (pairIn (bytesAt s at pairLength)) c) ∙ c
 
--- The numbers of fields 115 and 117 in a record's trace.
-held-count : (s : List ℕ) (at : ℕ) → getD (map (fieldNumber s (at + 3)) traceFields) 38 (pos 0) ≡ signedOf 16 (number16 s (bytePlace (at + 3) 115))
-held-count s at = count-at s (at + 3)
+-- The numbers of fields 115 and 117 in a trace's header, by the numbers of its fields.
+held-count : (f : Field → ℤ) → getD (headerOf f .numbers) 25 (pos 0) ≡ f countField
+unfolding headerOf bareFields traceFields traceWidths
+held-count f = refl
 
-held-interval : (s : List ℕ) (at : ℕ) → getD (map (fieldNumber s (at + 3)) traceFields) 39 (pos 0) ≡ signedOf 16 (number16 s (bytePlace (at + 3) 117))
-held-interval s at = interval-at s (at + 3)
+held-interval : (f : Field → ℤ) → getD (headerOf f .numbers) 26 (pos 0) ≡ f intervalField
+unfolding headerOf bareFields traceFields traceWidths
+held-interval f = refl
+
+-- The header of a record's trace fits.
+held-fits : (s : List ℕ) → Bytes s → (start : ℕ) → HeaderFits (headerOf (fieldNumber s start))
+held-fits s h start = rw (header-listed (fieldNumber s start)) (listed-fits (map (fieldNumber s start) traceFields) (held-fit s h start))
 
 -- A trace of a record that is right holds a proper trace.
 trace-held : (s : List ℕ) → Bytes s → heldSamples s < 2 ^ 15 → heldInterval s < 2 ^ 15 → (k : ℕ) → TraceRight s k
     → ProperTrace (heldSamples s) (heldInterval s) (heldTrace s (heldSamples s) (tracePlace s k))
-unfolding heldTrace traceFields
+unfolding heldTrace
 trace-held s h p q k t =
     let n = heldSamples s in
     let i = heldInterval s in
     let at = tracePlace s k in
     record {
-      fit = fields-fit s h (at + 3) 1 traceWidths trace-some;
-      n-is = held-count s at ∙ ap (signedOf 16) (t .front .count) ∙ signed-low n p;
-      i-is = held-interval s at ∙ ap (signedOf 16) (t .front .interval) ∙ signed-low i q;
+      header = held-fits s h (at + 3);
+      n-is = held-count (fieldNumber s (at + 3)) ∙ ap (signedOf 16) (t .front .count) ∙ signed-low n p;
+      i-is = held-interval (fieldNumber s (at + 3)) ∙ ap (signedOf 16) (t .front .interval) ∙ signed-low i q;
       size = size-walk (heldValue s) pairLength n (at + 186);
       canonical = all-each (λ v. isCanonical (pairOf v) ≡ true) (heldValue s) pairLength n (at + 186) (λ j l. value-held s (pairPlace s k j) (t .pairs j l));
     }
@@ -157,13 +159,13 @@ filled-own own (suc v) h e =
     go false = refl
 
 -- The numbers of fields 115 and 117 in a reel's trace.
-meant-count : (s : List ℕ) (code n i at : ℕ) → getD (traceMeaning s code n i at .numbers) 38 (pos 0) ≡ filled n (signedOf 16 (number16 s (at + 114)))
-unfolding traceMeaning traceFields traceWidths
-meant-count s code n i at = refl
+meant-count : (s : List ℕ) (code n i at : ℕ) → getD (traceMeaning s code n i at .header .numbers) 25 (pos 0) ≡ filled n (signedOf 16 (number16 s (at + 114)))
+unfolding traceMeaning
+meant-count s code n i at = held-count (traceNumber s n i at)
 
-meant-interval : (s : List ℕ) (code n i at : ℕ) → getD (traceMeaning s code n i at .numbers) 39 (pos 0) ≡ filled i (signedOf 16 (number16 s (at + 116)))
-unfolding traceMeaning traceFields traceWidths
-meant-interval s code n i at = refl
+meant-interval : (s : List ℕ) (code n i at : ℕ) → getD (traceMeaning s code n i at .header .numbers) 26 (pos 0) ≡ filled i (signedOf 16 (number16 s (at + 116)))
+unfolding traceMeaning
+meant-interval s code n i at = held-interval (traceNumber s n i at)
 
 -- A trace to which 7 and 8 don't apply means a proper trace.
 trace-meant : (s : List ℕ) → Bytes s → (code n i at : ℕ) → n < 2 ^ 15 → i < 2 ^ 15 → traceCauses s code n i at ≡ Fine → ProperTrace n i (traceMeaning s code n i at)
@@ -173,14 +175,14 @@ trace-meant s h code n i at p q e =
     let b = then-fine (refuseIf (neither (number16 s (at + 116)) i) 8 (at + 116)) _ (a .1) in
     let l = trace-like s h code n i at p q in
     record {
-      fit = l .numbers;
+      header = l .header;
       n-is = meant-count s code n i at ∙ filled-own n (number16 s (at + 114)) p (passed _ _ _ (a .0));
       i-is = meant-interval s code n i at ∙ filled-own i (number16 s (at + 116)) q (passed _ _ _ (b .0));
       size = l .count;
       canonical = l .canonical;
     }
 
--- LAW. What a reel means to which no cause of 1 to 9 applies is proper, with the reel's N and interval.
+-- LAW. What a reel means to which no cause of 1 to 9 and 18 applies is proper, with the reel's N and interval.
 pub reel-proper : (s : List ℕ) → Bytes s → causesOf s ≡ Fine → Proper (samplesOf s) (intervalOf s) (meaningOf s)
 unfolding meaningOf
 reel-proper s h e =

@@ -24,17 +24,19 @@ use Rattle.numbers.proofs.AllLaws.{all-append, all-flat}
 use Rattle.numbers.proofs.RowLaws.{then-second}
 use Rattle.value.specs.Pair.{pairOf, valueOf, isCanonical, pairLength, pairIn}
 use Rattle.sample_theorems.proofs.Pairs.{pair-value, bytes-pair}
-use Rattle.reel.specs.Layout.{cardBytes, binaryFields, traceWidths, fieldNumber, number16}
+use Rattle.reel.specs.Layout.{cardBytes, binaryFields, fieldNumber, number16}
 use Rattle.reel.specs.Causes.{mostSamples, mostTraces, mostInterval}
 use Rattle.reel.specs.Meaning.{otherThan, Trace, Meaning}
-use Rattle.record.specs.Record.{field, numberBytes, binaryBytes, valueBytes, samplesField, traceBytes, recordOf, recordLength}
+use Rattle.headers.specs.Header.{headerBytes}
+use Rattle.headers.proofs.HeaderBytes.{header-again, smallest-again}
+use Rattle.record.specs.Record.{field, binaryBytes, valueBytes, samplesField, traceBytes, recordOf, recordLength}
 use Rattle.record.specs.Form.{fieldCause, cardCause, cardsCauses, heldInterval, heldSamples, heldCode, numberCauses, binaryCauses, tracesPlace, heldStride, pairCause, samplesCauses, traceForm, tagsFrom, heldCount, endCauses, bodyCauses, formCauses}
 use Rattle.record.proofs.FormLaws.{trace-parts}
 use Rattle.record.specs.Held.{heldValue, heldTrace, heldBy}
 use Rattle.reel_theorems.proofs.Same.{size-field, trace-eq}
 use Rattle.demands.proofs.Proper.{ProperTrace, Proper}
 use Rattle.demands.proofs.From.{From, from-start, from-at, from-parts, from-next, from-bytes, from-byte, from-behind, from-walk, from-fine, from-number}
-use Rattle.demands.proofs.Headers.{bytes-numbers, bytes-cards, size-binary, bytes-binary, binary-again, code-again, samples-again, interval-again, size-header, numbers-again, count-again, spacing-again, meaning-eq}
+use Rattle.demands.proofs.Headers.{bytes-header, bytes-cards, size-binary, bytes-binary, binary-again, code-again, samples-again, interval-again, size-header, numbers-again, count-again, spacing-again, meaning-eq}
 
 -- ## Fields
 
@@ -94,8 +96,8 @@ module _ (n i : ℕ) (t : Trace) (h : ProperTrace n i t) where
   bytes-trace : Bytes (traceBytes t)
   unfolding traceBytes samplesField
   bytes-trace =
-      all-append (λ b. b < 256) (field 3 (numberBytes traceWidths (t .numbers))) (field 4 (flat (map valueBytes (t .values))))
-      (bytes-field 3 (numberBytes traceWidths (t .numbers)) (omega arith) (bytes-numbers traceWidths (t .numbers)))
+      all-append (λ b. b < 256) (field 3 (headerBytes (t .header))) (field 4 (flat (map valueBytes (t .values))))
+      (bytes-field 3 (headerBytes (t .header)) (omega arith) (bytes-header (t .header)))
       (bytes-field 4 (flat (map valueBytes (t .values))) (omega arith) (all-flat (λ b. b < 256) valueBytes (λ v. isCanonical (pairOf v) ≡ true) (λ v p. bytes-value v) (t .values) (h .canonical)))
     where
       bytes-value : (v : ℤ) → Bytes (valueBytes v)
@@ -104,12 +106,12 @@ module _ (n i : ℕ) (t : Trace) (h : ProperTrace n i t) where
   -- A trace that stands in a list of bytes.
   module _ (s : List ℕ) (b : Bytes s) (at : ℕ) (rest : List ℕ) (f : From s at (traceBytes t ++ rest)) where
     -- Its tag 03 stands first, then its tag 04;
-    from-header : From s at (field 3 (numberBytes traceWidths (t .numbers)) ++ (field 4 (flat (map valueBytes (t .values))) ++ rest))
+    from-header : From s at (field 3 (headerBytes (t .header)) ++ (field 4 (flat (map valueBytes (t .values))) ++ rest))
     unfolding traceBytes samplesField
-    from-header = from-parts (field 3 (numberBytes traceWidths (t .numbers))) (field 4 (flat (map valueBytes (t .values)))) rest f
+    from-header = from-parts (field 3 (headerBytes (t .header))) (field 4 (flat (map valueBytes (t .values)))) rest f
 
-    -- its 71 fields stand behind tag 03,
-    from-numbers : From s (at + 3) (numberBytes traceWidths (t .numbers) ++ (field 4 (flat (map valueBytes (t .values))) ++ rest))
+    -- its header stands behind tag 03,
+    from-numbers : From s (at + 3) (headerBytes (t .header) ++ (field 4 (flat (map valueBytes (t .values))) ++ rest))
     from-numbers = from-content s 3 180 _ (size-header n i t h) at _ from-header
 
     -- tag 04 behind them,
@@ -138,14 +140,16 @@ module _ (n i : ℕ) (t : Trace) (h : ProperTrace n i t) where
     trace-fine few =
         let a : number16 s (bytePlace (at + 3) 115) ≡ n = ap (number16 s) (omega arith) ∙ count-again n i t h s b (at + 3) _ from-numbers in
         let c : number16 s (bytePlace (at + 3) 117) ≡ i = ap (number16 s) (omega arith) ∙ spacing-again n i t h s b (at + 3) _ from-numbers in
+        let scalars = smallest-again s (at + 3) (t .header) (h .header .scaled) (numbers-again n i t h s b (at + 3) _ from-numbers) in
         trace-parts s n i at
         ∙ then-second _ _ (field-fine s 3 180 _ (size-header n i t h) at _ from-header (omega arith))
-        (rw (eq-eqb (number16 s (bytePlace (at + 3) 115)) n a, eq-eqb (number16 s (bytePlace (at + 3) 117)) i c) (samples-fine few))
+        (then-second _ _ scalars
+        (rw (eq-eqb (number16 s (bytePlace (at + 3) 115)) n a, eq-eqb (number16 s (bytePlace (at + 3) 117)) i c) (samples-fine few)))
 
     -- It holds the trace.
     trace-again : heldTrace s n at ≡ t
     unfolding heldTrace
-    trace-again = trace-eq (numbers-again n i t h s b (at + 3) _ from-numbers) values
+    trace-again = trace-eq (header-again (fieldNumber s (at + 3)) (t .header) (h .header) (numbers-again n i t h s b (at + 3) _ from-numbers)) values
       where
         values : walk (heldValue s) pairLength n (at + 186) ≡ t .values
         values =

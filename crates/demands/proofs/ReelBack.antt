@@ -1,7 +1,7 @@
 -- # The reel of a meaning means it again
 --
 -- A proper meaning each of whose samples has a word under a code: its reel under that code has the length that document 01 sets, its own
--- numbers are those of the meaning, no cause of 1 to 9 applies to it, and it means that meaning. Nothing else is assumed.
+-- numbers are those of the meaning, no cause of 1 to 9 and 18 applies to it, and it means that meaning. Nothing else is assumed.
 use mathlib.Core.Path.{_≡_, refl, sym, ap, ap₂, _∙_, subst}
 use mathlib.Core.List.{List, [], _∷_, _++_, map, map-id, append-nil, append-assoc}
 use mathlib.Core.Bool.{Bool, true, false, not, _&&_}
@@ -31,19 +31,22 @@ use Rattle.sample.specs.Reading.{badGain}
 use Rattle.sample_theorems.proofs.Pairs.{pair-value}
 use Rattle.sample_theorems.specs.Statements.{Says}
 use Rattle.sample_theorems.proofs.Words.{writing-sound}
-use Rattle.reel.specs.Layout.{cardBytes, firstTrace, traceHeader, binaryFields, traceWidths, traceFields, fieldNumber, intervalOf, samplesOf, codeOf, sampleBytes, stride, strideOf, wholeIn, overIn, tracesOf}
+use Rattle.reel.specs.Layout.{cardBytes, firstTrace, traceHeader, binaryFields, traceFields, fieldNumber, intervalOf, samplesOf, codeOf, sampleBytes, stride, strideOf, wholeIn, overIn, tracesOf}
 use Rattle.reel.specs.Causes.{mostSamples, mostTraces, mostInterval, neither, limitCauses, wordCause, traceCauses, behindCauses, causesOf}
 use Rattle.reel.specs.Meaning.{blank, cardText, otherThan, binaryNumbers, filled, traceNumber, Trace, traceMeaning, Meaning, meaningOf}
-use Rattle.record.specs.Record.{numberBytes, binaryBytes}
+use Rattle.headers.specs.Header.{headerNumbers, headerBytes}
+use Rattle.headers.proofs.TraceLaws.{trace-numbers, countField, intervalField}
+use Rattle.headers.proofs.Listed.{behind-at}
+use Rattle.headers.proofs.HeaderBytes.{header-again, allowed-again}
+use Rattle.record.specs.Record.{binaryBytes}
 use Rattle.fit.specs.Target.{isUnfit}
-use Rattle.record.proofs.HeaderLaws.{trace-numbers, countField, intervalField}
 use Rattle.reel_theorems.proofs.Same.{trace-eq}
 use Rattle.write_samples.specs.Samples.{wordContent}
 use Rattle.write_reel.specs.Reel.{sampleWritten, traceWritten, reelOf, reelLength}
 use Rattle.demands.proofs.Proper.{ProperTrace, Proper}
 use Rattle.demands.proofs.Fitting.{Fitting}
 use Rattle.demands.proofs.From.{From, from-start, from-at, from-next, from-bytes, from-walk, from-fine}
-use Rattle.demands.proofs.Headers.{bytes-numbers, size-zeros, bytes-cards, meaning-eq, size-binary, bytes-binary, binary-again, code-again, samples-again, interval-again, size-header, count-at, interval-at, trace-around, numbers-again, count-again, spacing-again}
+use Rattle.demands.proofs.Headers.{bytes-header, size-zeros, bytes-cards, meaning-eq, size-binary, bytes-binary, binary-again, code-again, samples-again, interval-again, size-header, count-at, interval-at, trace-around, numbers-again, count-again, spacing-again}
 use Rattle.demands.proofs.WrittenSize.{sample-size}
 
 -- ## Samples
@@ -163,14 +166,14 @@ module _ (code n i : ℕ) (c : isCode code ≡ true) (t : Trace) (h : Ready code
   bytes-trace =
       let byte : ℕ → Type 0 = λ b. b < 256 in
       let samples = flat (map (sampleWritten code) (t .values)) in
-      all-append byte (numberBytes traceWidths (t .numbers)) (replicate 60 0 ++ samples) (bytes-numbers traceWidths (t .numbers))
+      all-append byte (headerBytes (t .header)) (replicate 60 0 ++ samples) (bytes-header (t .header))
       (all-append byte (replicate 60 0) samples (bytes-zeros 60)
       (all-flat (λ b. b < 256) (sampleWritten code) (Writable code) (λ v q. bytes-sample code v) (t .values) (h .writable)))
 
   -- A trace that stands in a list of bytes.
   module _ (s : List ℕ) (b : Bytes s) (at : ℕ) (rest : List ℕ) (f : From s at (traceWritten code t ++ rest)) where
     -- Its 71 fields stand at its place,
-    from-header : From s at (numberBytes traceWidths (t .numbers) ++ (replicate 60 0 ++ (flat (map (sampleWritten code) (t .values)) ++ rest)))
+    from-header : From s at (headerBytes (t .header) ++ (replicate 60 0 ++ (flat (map (sampleWritten code) (t .values)) ++ rest)))
     unfolding traceWritten
     from-header = simp append-assoc at f
 
@@ -179,33 +182,34 @@ module _ (code n i : ℕ) (c : isCode code ≡ true) (t : Trace) (h : Ready code
     from-samples =
         from-at (omega arith)
         (from-next (replicate 60 0) _ 60 (size-zeros 60)
-        (from-next (numberBytes traceWidths (t .numbers)) _ 180 (size-header n i t (h .proper)) from-header))
+        (from-next (headerBytes (t .header)) _ 180 (size-header n i t (h .proper)) from-header))
 
-    -- No cause of 7 to 9 applies to it.
+    -- No cause of 7, 8, 18 and 9 applies to it.
     trace-fine : traceCauses s code n i at ≡ Fine
     unfolding traceCauses
     trace-fine =
         let words =
         from-fine s (sampleWritten code) (Writable code) (sampleBytes code) (λ v q. sample-size code v) (wordCause s code)
         (λ v p r q e. ap (λ (x : Bool). refuseIf x 9 p) (read-sample s code v p r c q e .good)) (t .values) (at + traceHeader) rest (h .writable) from-samples in
-        rw (count-again n i t (h .proper) s b at _ from-header, spacing-again n i t (h .proper) s b at _ from-header, neither-same n, neither-same i)
+        let scalars = allowed-again s at (t .header) (h .proper .header .scaled) (numbers-again n i t (h .proper) s b at _ from-header) in
+        rw (count-again n i t (h .proper) s b at _ from-header, spacing-again n i t (h .proper) s b at _ from-header, neither-same n, neither-same i, scalars .0, scalars .1)
         (ap (λ (k : ℕ). firstOf (walk (wordCause s code) (sampleBytes code) k (at + traceHeader))) (sym (h .proper .size)) ∙ words)
 
     -- It means the trace.
     trace-again : traceMeaning s code n i at ≡ t
     unfolding traceMeaning
-    trace-again = trace-eq numbers values
+    trace-again = trace-eq (header-again (traceNumber s n i at) (t .header) (h .proper .header) numbers) values
       where
-        whole : map (fieldNumber s at) traceFields ≡ t .numbers
+        whole : map (fieldNumber s at) traceFields ≡ headerNumbers (t .header)
         whole = numbers-again n i t (h .proper) s b at _ from-header
 
         count : fieldNumber s at countField ≡ pos n
-        count = sym (count-at s at) ∙ ap (λ (l : List ℤ). getD l 38 (pos 0)) whole ∙ h .proper .n-is
+        count = sym (count-at s at) ∙ ap (λ (l : List ℤ). getD l 38 (pos 0)) whole ∙ behind-at (t .header) (h .proper .header .scaled) 13 ∙ h .proper .n-is
 
         spacing : fieldNumber s at intervalField ≡ pos i
-        spacing = sym (interval-at s at) ∙ ap (λ (l : List ℤ). getD l 39 (pos 0)) whole ∙ h .proper .i-is
+        spacing = sym (interval-at s at) ∙ ap (λ (l : List ℤ). getD l 39 (pos 0)) whole ∙ behind-at (t .header) (h .proper .header .scaled) 14 ∙ h .proper .i-is
 
-        numbers : map (traceNumber s n i at) traceFields ≡ t .numbers
+        numbers : map (traceNumber s n i at) traceFields ≡ headerNumbers (t .header)
         numbers =
             trace-numbers s n i at
             ∙ rw (filled-same n (fieldNumber s at countField) count, filled-same i (fieldNumber s at intervalField) spacing) (sym (trace-around s at) ∙ whole)
@@ -307,7 +311,7 @@ module _ (code n i : ℕ) (m : Meaning) (p : Proper n i m) (c : isCode code ≡ 
   headed : limitCauses code n i ≡ Fine
   headed = rw (c, le-leb 1 n (p .n-low), le-leb n mostSamples (p .n-high), le-leb 1 i (p .i-low), le-leb i mostInterval (p .i-high))
 
-  -- none of 7 to 9 to a trace,
+  -- none of 7, 8, 18 and 9 to a trace,
   traces-fine : firstOf (walk (traceCauses (reelOf code m) code n i) (stride n (sampleBytes code)) (length (m .traces)) firstTrace) ≡ Fine
   traces-fine =
       from-fine (reelOf code m) (traceWritten code) (Ready code n i) (stride n (sampleBytes code)) (size-trace code n i c) (traceCauses (reelOf code m) code n i)
@@ -318,7 +322,7 @@ module _ (code n i : ℕ) (m : Meaning) (p : Proper n i m) (c : isCode code ≡ 
   unfolding behindCauses
   behind-fine = rw (whole, over, le-ltb mostTraces (length (m .traces)) (p .few)) traces-fine
 
-  -- LAW. No cause of 1 to 9 applies to the reel.
+  -- LAW. No cause of 1 to 9 and 18 applies to the reel.
   pub reel-no-cause : causesOf (reelOf code m) ≡ Fine
   unfolding causesOf
   reel-no-cause =

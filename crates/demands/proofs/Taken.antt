@@ -52,7 +52,7 @@ module _ (code n i : ℕ) (m : Meaning) (p : Proper n i m) (c : isCode code ≡ 
 
 -- ## Readings
 
--- Where no cause of 1 to 9 applies to a reel, and the output is long enough, its reading is taken.
+-- Where no cause of 1 to 9 and 18 applies to a reel, and the output is long enough, its reading is taken.
 pub read-taken : (s out : List ℕ) → causesOf s ≡ Fine → recordLengthOf s ≤ length out → readOutcome s out ≡ readEnd s out Fine
 read-taken s out f h =
     let k = recordLengthOf s in
@@ -139,7 +139,7 @@ module _ (r : List ℕ) (b : Bytes r) (code : ℕ) (out : List ℕ) (w : Writabl
   pub written-bytes : Bytes (reelOf code (heldBy r))
   written-bytes = reel-bytes code (heldSamples r) (heldInterval r) (heldBy r) proper (w .code-is) fitting
 
-  -- No cause of 1 to 9 applies to it.
+  -- No cause of 1 to 9 and 18 applies to it.
   pub written-no-cause : causesOf (reelOf code (heldBy r)) ≡ Fine
   written-no-cause = reel-no-cause code (heldSamples r) (heldInterval r) (heldBy r) proper (w .code-is) fitting
 

@@ -3,7 +3,7 @@
 -- A record is valid when neither 12 nor 13 applies to it: its fields stand whole one behind the other, and its numbers are within their
 -- limits. Assumes nothing.
 use mathlib.Core.Path.{_≡_, refl, sym, ap, _∙_}
-use mathlib.Core.List.{List}
+use mathlib.Core.List.{List, map}
 use mathlib.Core.Logic.{_⊎_, inl, inr, ⊎-elim}
 use mathlib.Core.Bool.{Bool, true, false, not}
 use Prim.Native.Nat.{ℕ, zero, suc, _+_, _-_, _*_, _≤_, _<_}
@@ -18,16 +18,19 @@ use Rattle.numbers.specs.Cause.{refuseIf, then, firstOf}
 use Rattle.numbers.specs.declared.Check.{Check}
 use Rattle.numbers.specs.declared.Check.the-variants.{Fine}
 use Rattle.numbers.specs.Terms.{Between}
-use Rattle.numbers.proofs.CauseLaws.{then-fine}
+use Rattle.numbers.proofs.CauseLaws.{then-assoc, then-fine}
 use Rattle.numbers.proofs.BoolLaws.{and-true, and-both}
-use Rattle.numbers.proofs.RowLaws.{Tests, test-by, then-second, fine-then, holds-then, test-between, test-same, test-room, none-is, none-of, walk-fine, walk-holds}
+use Rattle.numbers.proofs.RowLaws.{Tests, test-by, fine-where, then-second, fine-then, holds-then, test-between, test-same, test-room, none-is, none-of, walk-fine, walk-holds}
 use Rattle.numbers.proofs.WalkLaws.{at-zero, at-suc}
 use Rattle.value.specs.Pair.{isCanonical, pairLength, pairIn}
-use Rattle.reel.specs.Layout.{number16}
+use Rattle.scalars.specs.Scalar.{isSmallest}
+use Rattle.reel.specs.Layout.{Field, elevationScalar, coordinateScalar, fieldNumber, number16}
+use Rattle.reel.specs.Meaning.{elevationFields, coordinateFields}
+use Rattle.headers.specs.Header.{smallestCause, smallestCauses}
 use Rattle.reel.specs.Causes.{mostSamples, mostTraces, mostInterval, within}
 use Rattle.record.specs.Form.{isField, fieldCause, cardCause, cardsCauses, heldInterval, heldSamples, heldCode, binaryCauses, tracesPlace, heldStride, pairCause, samplesCauses, traceForm, tagsFrom, heldCount, endCauses, bodyCauses, formCauses}
 use Rattle.record.proofs.FormLaws.{trace-parts, tags-most}
-use Rattle.demands.specs.ValidRecord.{Stands, CanonicalAt, tracePlace, headerPlace, pairPlace, CardsRight, HeadRight, HeaderRight, TraceRight, RightUntil, TraceNext, EndNext, RecordRight}
+use Rattle.demands.specs.ValidRecord.{Stands, CanonicalAt, tracePlace, headerPlace, pairPlace, CardsRight, HeadRight, SmallestAt, ScalarsRight, HeaderRight, TraceRight, RightUntil, TraceNext, EndNext, RecordRight}
 
 -- ## The tests, one by one
 
@@ -128,9 +131,13 @@ module _ (s : List ℕ) (k : ℕ) where
       let e : tracePlace s k + 183 + 3 + j * pairLength ≡ pairPlace s k j = omega arith in
       rw e (test-pair s (pairPlace s k j))
 
-  -- The tests of tag 03, of its fields 115 and 117, and of tag 04.
+  -- The tests of tag 03, of its scalars, of its fields 115 and 117, and of tag 04.
   pub header-test : Tests (Stands s 3 180 (tracePlace s k)) 12 (tracePlace s k) (fieldCause s 3 180 (tracePlace s k))
   header-test = test-field s 3 180 (tracePlace s k)
+
+  pub scalar-test : (fields : List Field) (scalar : Field) → Tests (SmallestAt s k fields scalar) 13 (headerPlace s k (scalar .begins)) (smallestCause s (tracePlace s k + 3) fields scalar)
+  scalar-test fields scalar =
+      test-by (SmallestAt s k fields scalar) (isSmallest (map (fieldNumber s (tracePlace s k + 3)) fields) (fieldNumber s (tracePlace s k + 3) scalar)) 13 (headerPlace s k (scalar .begins)) (λ e. e) (λ e. e)
 
   pub count-test : Tests (number16 s (headerPlace s k 115) ≡ heldSamples s) 13 (headerPlace s k 115) (refuseIf (not (eqb (number16 s (headerPlace s k 115)) (heldSamples s))) 13 (headerPlace s k 115))
   count-test = test-same (number16 s (headerPlace s k 115)) (heldSamples s) 13 (headerPlace s k 115)
@@ -144,14 +151,34 @@ module _ (s : List ℕ) (k : ℕ) where
   -- The causes of a trace, one by one.
   pub form-parts : formAt s (tracePlace s k)
       ≡ then (fieldCause s 3 180 (tracePlace s k))
+      (then (smallestCause s (tracePlace s k + 3) elevationFields elevationScalar)
+      (then (smallestCause s (tracePlace s k + 3) coordinateFields coordinateScalar)
       (then (refuseIf (not (eqb (number16 s (headerPlace s k 115)) (heldSamples s))) 13 (headerPlace s k 115))
-      (then (refuseIf (not (eqb (number16 s (headerPlace s k 117)) (heldInterval s))) 13 (headerPlace s k 117)) (samplesCauses s (heldSamples s) (tracePlace s k + 183))))
-  form-parts = trace-parts s (heldSamples s) (heldInterval s) (tracePlace s k)
+      (then (refuseIf (not (eqb (number16 s (headerPlace s k 117)) (heldInterval s))) 13 (headerPlace s k 117)) (samplesCauses s (heldSamples s) (tracePlace s k + 183))))))
+  unfolding smallestCauses
+  form-parts =
+      trace-parts s (heldSamples s) (heldInterval s) (tracePlace s k)
+      ∙ ap (then (fieldCause s 3 180 (tracePlace s k)))
+      (then-assoc (smallestCause s (tracePlace s k + 3) elevationFields elevationScalar) (smallestCause s (tracePlace s k + 3) coordinateFields coordinateScalar) _)
+
+  -- Behind scalars that are right, the answer is that of fields 115 and 117 and of tag 04.
+  pub behind-scalars : ScalarsRight s k → {x : Check}
+      → then (refuseIf (not (eqb (number16 s (headerPlace s k 115)) (heldSamples s))) 13 (headerPlace s k 115))
+      (then (refuseIf (not (eqb (number16 s (headerPlace s k 117)) (heldInterval s))) 13 (headerPlace s k 117)) (samplesCauses s (heldSamples s) (tracePlace s k + 183))) ≡ x
+      → formAt s (tracePlace s k) ≡ x
+  behind-scalars h e =
+      form-parts
+      ∙ fine-then header-test (h .header)
+      (fine-then (scalar-test elevationFields elevationScalar) (h .elevations) (fine-then (scalar-test coordinateFields coordinateScalar) (h .coordinates) e))
 
   -- Behind a header that is right, the answer is that of tag 04.
   pub behind-header : HeaderRight s k → {x : Check} → samplesCauses s (heldSamples s) (tracePlace s k + 183) ≡ x → formAt s (tracePlace s k) ≡ x
-  behind-header h e =
-      form-parts ∙ fine-then header-test (h .header) (fine-then count-test (h .count) (fine-then spacing-test (h .interval) e))
+  behind-header h e = behind-scalars (h .front) (fine-then count-test (h .count) (fine-then spacing-test (h .interval) e))
+
+  -- Where the scalars are right, 13 finds nothing in them.
+  pub scalars-fine : ScalarsRight s k → smallestCauses s (tracePlace s k + 3) ≡ Fine
+  unfolding smallestCauses
+  scalars-fine h = fine-then (scalar-test elevationFields elevationScalar) (h .elevations) (fine-where (scalar-test coordinateFields coordinateScalar) (h .coordinates))
 
   -- Where a trace is right, 12 and 13 find nothing in it.
   pub trace-fine : TraceRight s k → formAt s (tracePlace s k) ≡ Fine
@@ -166,11 +193,13 @@ module _ (s : List ℕ) (k : ℕ) where
   unfolding samplesCauses
   trace-right e =
       let a = holds-then header-test _ (sym form-parts ∙ e) in
-      let b = holds-then count-test _ (a .1) in
+      let x = holds-then (scalar-test elevationFields elevationScalar) _ (a .1) in
+      let y = holds-then (scalar-test coordinateFields coordinateScalar) _ (x .1) in
+      let b = holds-then count-test _ (y .1) in
       let c = holds-then spacing-test _ (b .1) in
       let d = holds-then samples-test _ (c .1) in
       record {
-        front = record { header = a .0; count = b .0; interval = c .0 };
+        front = record { front = record { header = a .0; elevations = x .0; coordinates = y .0 }; count = b .0; interval = c .0 };
         samples = d .0;
         pairs = walk-holds (λ j. CanonicalAt s (pairPlace s k j)) 13 (pairCause s) pairLength (heldSamples s) (tracePlace s k + 183 + 3) (pairPlace s k) pair-tests (d .1);
       }
@@ -249,7 +278,7 @@ countIn s = heldCount s (heldSamples s)
 module _ (s : List ℕ) where
   -- The tags of the traces up to trace k are 03.
   tags-until : (k : ℕ) → RightUntil s k → (j : ℕ) → j < k → getD s (tracePlace s j) 0 ≡ 3
-  tags-until k h j l = h .before j l .front .header .tag-is
+  tags-until k h j l = h .before j l .front .front .header .tag-is
 
   -- Where another trace begins behind k traces, more than k are counted.
   pub next-counted : (k : ℕ) → TraceNext s k → k < countIn s

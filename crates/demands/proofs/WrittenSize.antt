@@ -9,35 +9,28 @@ use Rattle.numbers.specs.Walk.{walk, flat, bytesAt}
 use Rattle.numbers.proofs.WalkLaws.{flat-length, size-bytes}
 use Rattle.value.specs.Pair.{pairLength}
 use Rattle.value.specs.Writing.{wordOf}
-use Rattle.reel.specs.Layout.{binaryWidths, binaryFields, traceWidths, traceFields, cardBytes, fieldNumber, sampleBytes, stride}
-use Rattle.reel.specs.Meaning.{otherThan}
-use Rattle.record.specs.Record.{numberBytes, withCode, binaryBytes}
+use Rattle.reel.specs.Layout.{binaryWidths, binaryFields, cardBytes, fieldNumber, sampleBytes, stride}
+use Rattle.reel.specs.Meaning.{otherThan, headerOf}
+use Rattle.headers.specs.Header.{headerBytes}
+use Rattle.headers.proofs.Ranges.{numbers-size}
+use Rattle.headers.proofs.HeaderBytes.{size-header}
+use Rattle.record.specs.Record.{withCode, binaryBytes}
 use Rattle.record.specs.Form.{tracesPlace, heldSamples, heldStride, heldCount}
 use Rattle.record.specs.Held.{heldValue, heldTrace, heldBy}
 use Rattle.record.proofs.HeaderLaws.{counts}
 use Rattle.write_samples.proofs.WordLaws.{size-word}
 use Rattle.write_reel.specs.Reel.{sampleWritten, traceWritten, reelOf}
 use Rattle.write_reel.specs.Writing.{reelLengthOf}
-use Rattle.reel_theorems.proofs.Ranges.{numbers-size}
 
 -- There are as many binary numbers, with the format code, as binary fields.
 binary-count : (s : List ℕ) (code : ℕ) → length binaryWidths ≡ length (withCode code (map (fieldNumber s 6) (otherThan 3225 binaryFields)))
 unfolding binaryFields binaryWidths
 binary-count s code = refl
 
--- There are as many numbers of a trace as trace fields.
-fields-count : (s : List ℕ) (at : ℕ) → length traceWidths ≡ length (map (fieldNumber s at) traceFields)
-unfolding traceFields traceWidths
-fields-count s at = refl
-
 -- The binary fields are 60 bytes.
 binary-size : (s : List ℕ) (code : ℕ) → length (binaryBytes code (map (fieldNumber s 6) (otherThan 3225 binaryFields))) ≡ 60
 unfolding binaryBytes
 binary-size s code = numbers-size binaryWidths _ (binary-count s code) ∙ counts .1
-
--- A trace's fields are 180 bytes.
-fields-size : (s : List ℕ) (at : ℕ) → length (numberBytes traceWidths (map (fieldNumber s at) traceFields)) ≡ 180
-fields-size s at = numbers-size traceWidths _ (fields-count s at) ∙ counts .3
 
 -- A sample takes the bytes of a sample under the code.
 pub sample-size : (code : ℕ) (v : ℤ) → length (sampleWritten code v) ≡ sampleBytes code
@@ -48,11 +41,11 @@ trace-size : (s : List ℕ) (code n at : ℕ) → length (traceWritten code (hel
 unfolding traceWritten heldTrace
 trace-size s code n at =
     let values = flat (map (sampleWritten code) (walk (heldValue s) pairLength n (at + 186))) in
-    let a = length-append (numberBytes traceWidths (map (fieldNumber s (at + 3)) traceFields)) (replicate 60 0 ++ values) in
+    let a = length-append (headerBytes (headerOf (fieldNumber s (at + 3)))) (replicate 60 0 ++ values) in
     let b = length-append (replicate 60 0) values in
     let c = flat-length (sampleWritten code) (heldValue s) (sampleBytes code) (λ p. sample-size code (heldValue s p)) pairLength n (at + 186) in
     let d : length {A = ℕ} (replicate 60 0) ≡ 60 = refl in
-    omega (arith, a, b, c, d, fields-size s (at + 3))
+    omega (arith, a, b, c, d, size-header (fieldNumber s (at + 3)))
 
 -- LAW. The reel that is written is as long as the length returned: 3600 + T × (240 + N × the bytes of a sample).
 pub reel-size : (s : List ℕ) (code : ℕ) → length (reelOf code (heldBy s)) ≡ reelLengthOf s code

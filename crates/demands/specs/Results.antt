@@ -2,9 +2,9 @@
 use mathlib.Core.Path.{_≡_}
 use mathlib.Core.List.{List, [], _∷_, _++_}
 use mathlib.Core.Bool.{true}
-use Prim.Native.Nat.{ℕ, suc, _+_, _*_, _≤_, _<_}
+use Prim.Native.Nat.{ℕ, suc, _+_, _*_, _^_, _≤_, _<_}
 use lib.ListN.{length, getD, take, drop, replicate}
-use lib.IntN.{ℤ}
+use lib.IntN.{ℤ, pos, _*ℤ_}
 use Rattle.numbers.specs.Walk.{bytesAt}
 use Rattle.numbers.specs.Places.{byteNo}
 use Rattle.numbers.specs.Outcome.{taken}
@@ -12,9 +12,10 @@ use Rattle.numbers.specs.Terms.{All, Bytes}
 use Rattle.numbers.specs.declared.ByteNo.{ByteNo}
 use Rattle.numbers.specs.declared.Check.the-variants.{Fine}
 use Rattle.value.specs.Value.{isCode, exactValue}
-use Rattle.reel.specs.Layout.{Field, cardBytes, binaryFields, traceFields, fieldNumber, samplesOf, codeOf, sampleBytes, tracesOf}
+use Rattle.scalars.specs.Scalar.{powerOf}
+use Rattle.reel.specs.Layout.{Field, cardBytes, binaryFields, elevationScalar, coordinateScalar, fieldNumber, samplesOf, codeOf, sampleBytes, tracesOf}
 use Rattle.reel.specs.Causes.{causesOf}
-use Rattle.reel.specs.Meaning.{blank, otherThan, meaningOf, MeanTheSame}
+use Rattle.reel.specs.Meaning.{blank, otherThan, elevationFields, coordinateFields, bareFields, meaningOf, MeanTheSame}
 use Rattle.record.specs.Record.{recordOf, reelRecord}
 use Rattle.record.specs.Form.{heldSamples, heldCount, formCauses}
 use Rattle.record.specs.Held.{heldBy}
@@ -54,14 +55,21 @@ pub record RecordHolds (s : List ℕ) (t n : ℕ) (r : List ℕ) : Type 0 where
 abbrev pub sampleValue : List ℕ → ℕ → ℕ → ℤ
 sampleValue s k j = exactValue (codeOf s) (bytesAt s (sampleAt s k j) 4)
 
--- Two reels agree number by number: each card byte, with 40 for a 00; each binary field but the format code; T; each field of each trace
--- header, with 115 and 117 filled in (header k + 1 is that of trace k, counted from 0); and each sample's exact value. N is
+-- The scaled value, over 10,000, of a field of trace k, counted from 0, under the scalar in another field: by the bare numbers that looking
+-- up gives (header k + 1 is that of trace k).
+abbrev pub scaledValue : List ℕ → ℕ → Field → Field → ℤ
+scaledValue s k scalar f = headerNumber s (suc k) f *ℤ pos (10 ^ powerOf (headerNumber s (suc k) scalar))
+
+-- Two reels agree number by number: each card byte, with 40 for a 00; each binary field but the format code; T; of each trace header the 58
+-- bare fields, with 115 and 117 filled in, the scaled value of each elevation and of each coordinate; and each sample's exact value. N is
 -- one of the binary fields, so the traces of both have as many samples.
 pub record Agree (s₁ s₂ : List ℕ) : Type 0 where
   pub cards : (j : ℕ) → j < cardBytes → blank (getD s₁ j 0) ≡ blank (getD s₂ j 0)
   pub binary : All (λ f. fieldNumber s₁ 0 f ≡ fieldNumber s₂ 0 f) (otherThan 3225 binaryFields)
   pub count : tracesOf s₁ ≡ tracesOf s₂
-  pub numbers : (k : ℕ) → k < tracesOf s₁ → All (λ f. headerNumber s₁ (suc k) f ≡ headerNumber s₂ (suc k) f) traceFields
+  pub numbers : (k : ℕ) → k < tracesOf s₁ → All (λ f. headerNumber s₁ (suc k) f ≡ headerNumber s₂ (suc k) f) bareFields
+  pub elevations : (k : ℕ) → k < tracesOf s₁ → All (λ f. scaledValue s₁ k elevationScalar f ≡ scaledValue s₂ k elevationScalar f) elevationFields
+  pub coordinates : (k : ℕ) → k < tracesOf s₁ → All (λ f. scaledValue s₁ k coordinateScalar f ≡ scaledValue s₂ k coordinateScalar f) coordinateFields
   pub values : (k j : ℕ) → k < tracesOf s₁ → j < samplesOf s₁ → sampleValue s₁ k j ≡ sampleValue s₂ k j
 
 -- Document 01's example: 3,200 bytes 40, a binary header all 0 but interval 2000, N 2, code 1, and one trace with a zero header and words
@@ -106,7 +114,7 @@ pub record ReelAgain (s : List ℕ) (t n l : ℕ) (r : List ℕ) (code t₂ n₂
   pub traces : t₂ ≡ t
   pub samples : n₂ ≡ n
   pub size : l₂ ≡ 3600 + t * (240 + n * sampleBytes code)
-  -- No cause of 1 to 9 applies to the reel that was written, and its format code is the one asked for.
+  -- No cause of 1 to 9 and 18 applies to the reel that was written, and its format code is the one asked for.
   pub no-cause : causesOf reel ≡ Fine
   pub code-is : codeOf reel ≡ code
   -- It means the same as the reel s.

@@ -11,22 +11,23 @@ use Rattle.numbers.specs.BigEndian.{number}
 use Rattle.numbers.specs.Terms.{All, Between}
 use Rattle.numbers.specs.declared.ByteNo.{ByteNo}
 use Rattle.value.specs.Pair.{valueOf, isCanonical, pairIn}
-use Rattle.reel.specs.Layout.{number16, tracesOf}
+use Rattle.reel.specs.Layout.{elevationScalar, coordinateScalar, number16, tracesOf}
+use Rattle.reel.specs.Meaning.{elevationFields, coordinateFields}
 use Rattle.record.specs.Form.{heldInterval, heldSamples, heldCode}
 use Rattle.record.specs.Held.{heldValue}
 use Rattle.read_reel.specs.Reading.{recordLengthOf}
 use Rattle.write_reel.specs.Reel.{reelLength}
 use Rattle.look_up.specs.LookUp.{headerFields}
 use Rattle.reel_theorems.specs.ReelTable.{ReelRow}
-use Rattle.demands.specs.ValidRecord.{Stands, CanonicalAt, tracePlace, headerPlace, pairPlace, CardsRight, HeaderRight, TraceNext, EndNext, RecordRight}
+use Rattle.demands.specs.ValidRecord.{Stands, CanonicalAt, tracePlace, headerPlace, pairPlace, CardsRight, SmallestAt, ScalarsRight, HeaderRight, TraceNext, EndNext, RecordRight}
 use Rattle.demands.specs.Words.{HasWord}
 
 -- ## Reading
 
--- "Reading: 1 to 6 in that order; then trace by trace 7, 8, 9 (first such word); then 10." The rows of 1 to 9 are `ReelRow`, in `ReelTable` of
--- `reel_theorems`; the output has `room` bytes.
+-- "Reading: 1 to 6 in that order; then trace by trace 7, 8, 9 (first such word); then 10." And 18 "in each trace after 8, field 69 first"
+-- (document 02, CR 2). The rows of 1 to 9 and 18 are `ReelRow`, in `ReelTable` of `reel_theorems`; the output has `room` bytes.
 pub data ReadRow (s : List ℕ) (room : ℕ) : ℕ → ℕ → Type 0 where
-  -- 1 to 9: a row of their table applies to the reel
+  -- 1 to 9 and 18: a row of their table applies to the reel
   by-reel : {number place : ℕ} → ReelRow s number place → ReadRow s room number place
   -- 10: none of them applies, and the output is too short for the record, with the record's length, 3273 + T × (186 + 6N)
   short-output : ((number place : ℕ) → ¬ (ReelRow s number place)) → room < recordLengthOf s → ReadRow s room 10 (recordLengthOf s)
@@ -37,7 +38,8 @@ pub data ReadRow (s : List ℕ) (room : ℕ) : ℕ → ℕ → Type 0 where
 -- cut short or missing, trace 100,001 (place where that field's tag stands or should stand); a wrong count in tag 05 (place of its tag);
 -- bytes after it (place of the first). Number 13: a card byte 00, a format code other than 0, N or an interval outside its limits, trace
 -- fields 115 or 117 unlike the reel's, a pair that isn't canonical; the place is its first byte, and in tag 02 the order is interval, N,
--- code." Traces k and pairs j are counted from 0.
+-- code." And document 02 (CR 2): "A record with any scalar but that of this smallest power [...] is refused by 13 at that scalar; in tag 03
+-- the order is 69, 71, 115, 117." Traces k and pairs j are counted from 0.
 pub data FormRow (s : List ℕ) : ℕ → ℕ → Type 0 where
   -- 12: tag 01 doesn't stand at the front, whole and with its 3,200 bytes
   no-cards : ¬ (Stands s 1 3200 0) → FormRow s 12 0
@@ -55,11 +57,18 @@ pub data FormRow (s : List ℕ) : ℕ → ℕ → Type 0 where
       → FormRow s 13 3230
   -- 12: tag 03 of trace k is cut short or has a wrong length
   no-header : (k : ℕ) → TraceNext s k → ¬ (Stands s 3 180 (tracePlace s k)) → FormRow s 12 (tracePlace s k)
+  -- 13: its field 69 is not the scalar of the smallest power of its elevations
+  bad-held-69 : (k : ℕ) → TraceNext s k → Stands s 3 180 (tracePlace s k) → ¬ (SmallestAt s k elevationFields elevationScalar)
+      → FormRow s 13 (headerPlace s k 69)
+  -- 13: its field 71 is not the scalar of the smallest power of its coordinates
+  bad-held-71 : (k : ℕ) → TraceNext s k → Stands s 3 180 (tracePlace s k) → SmallestAt s k elevationFields elevationScalar
+      → ¬ (SmallestAt s k coordinateFields coordinateScalar)
+      → FormRow s 13 (headerPlace s k 71)
   -- 13: its field 115 is not N
-  bad-held-115 : (k : ℕ) → TraceNext s k → Stands s 3 180 (tracePlace s k) → ¬ (number16 s (headerPlace s k 115) ≡ heldSamples s)
+  bad-held-115 : (k : ℕ) → TraceNext s k → ScalarsRight s k → ¬ (number16 s (headerPlace s k 115) ≡ heldSamples s)
       → FormRow s 13 (headerPlace s k 115)
   -- 13: its field 117 is not the interval
-  bad-held-117 : (k : ℕ) → TraceNext s k → Stands s 3 180 (tracePlace s k) → number16 s (headerPlace s k 115) ≡ heldSamples s
+  bad-held-117 : (k : ℕ) → TraceNext s k → ScalarsRight s k → number16 s (headerPlace s k 115) ≡ heldSamples s
       → ¬ (number16 s (headerPlace s k 117) ≡ heldInterval s)
       → FormRow s 13 (headerPlace s k 117)
   -- 12: tag 04 of trace k doesn't stand behind it, whole and with its 6N bytes; 183 is the 3 + 180 bytes of tag 03
@@ -123,9 +132,9 @@ abbrev pub NoField : ℕ → ByteNo → Type 0
 NoField k b = All (λ f. ¬ (f .begins ≡ byteNo b)) (headerFields k)
 
 -- "Look-up takes a reel, a trace number (0 means the binary header, 1 the first trace) and a byte number. It refuses by 1 to 9, then 15,
--- then 16." The trace number is k, the byte number b.
+-- then 16." And by 18, where reading does: "look-up included" (document 02, CR 2). The trace number is k, the byte number b.
 pub data LookUpRow (s : List ℕ) (k : ℕ) (b : ByteNo) : ℕ → ℕ → Type 0 where
-  -- 1 to 9: a row of their table applies to the reel
+  -- 1 to 9 and 18: a row of their table applies to the reel
   by-reel : {number place : ℕ} → ReelRow s number place → LookUpRow s k b number place
   -- 15: the reel has no trace k
   no-trace : ((number place : ℕ) → ¬ (ReelRow s number place)) → tracesOf s < k → LookUpRow s k b 15 0

@@ -1,7 +1,7 @@
 -- What a valid record is, tag by tag and front to back. Document 01: "A record is valid when neither 12 nor 13 applies to it." `valid-is`,
 -- in `proofs/Determined`, shows that this is the same.
 use mathlib.Core.Path.{_≡_}
-use mathlib.Core.List.{List}
+use mathlib.Core.List.{List, map}
 use mathlib.Core.Logic.{_⊎_}
 use mathlib.Core.Bool.{true}
 use Prim.Native.Nat.{ℕ, _+_, _*_, _≤_, _<_}
@@ -11,7 +11,9 @@ use Rattle.numbers.specs.Places.{bytePlace}
 use Rattle.numbers.specs.BigEndian.{number}
 use Rattle.numbers.specs.Terms.{Between}
 use Rattle.value.specs.Pair.{isCanonical, pairLength, pairIn}
-use Rattle.reel.specs.Layout.{number16}
+use Rattle.scalars.specs.Scalar.{isSmallest}
+use Rattle.reel.specs.Layout.{Field, elevationScalar, coordinateScalar, fieldNumber, number16}
+use Rattle.reel.specs.Meaning.{elevationFields, coordinateFields}
 use Rattle.record.specs.Form.{heldInterval, heldSamples, heldCode, tracesPlace, heldStride}
 
 -- ## Places
@@ -55,9 +57,20 @@ pub record HeadRight (s : List ℕ) : Type 0 where
   pub samples : Between 1 8000 (heldSamples s)
   pub code : heldCode s ≡ 0
 
--- Tag 03 of trace k stands with its 180 bytes, of which field 115 is N and field 117 the interval.
-pub record HeaderRight (s : List ℕ) (k : ℕ) : Type 0 where
+-- The scalar in a field of trace k's header is that of the smallest power of the group of fields that it acts on; `smallest-means`, in
+-- `proofs/Scalars`, spells that out.
+abbrev pub SmallestAt : List ℕ → ℕ → List Field → Field → Type 0
+SmallestAt s k fields scalar = isSmallest (map (fieldNumber s (tracePlace s k + 3)) fields) (fieldNumber s (tracePlace s k + 3) scalar) ≡ true
+
+-- Tag 03 of trace k stands with its 180 bytes, and its fields 69 and 71 are the scalars of the smallest powers.
+pub record ScalarsRight (s : List ℕ) (k : ℕ) : Type 0 where
   pub header : Stands s 3 180 (tracePlace s k)
+  pub elevations : SmallestAt s k elevationFields elevationScalar
+  pub coordinates : SmallestAt s k coordinateFields coordinateScalar
+
+-- And its field 115 is N and field 117 the interval.
+pub record HeaderRight (s : List ℕ) (k : ℕ) : Type 0 where
+  pub front : ScalarsRight s k
   pub count : number16 s (headerPlace s k 115) ≡ heldSamples s
   pub interval : number16 s (headerPlace s k 117) ≡ heldInterval s
 

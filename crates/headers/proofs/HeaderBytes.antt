@@ -13,17 +13,17 @@ use Rattle.numbers.specs.Walk.{bytesAt}
 use Rattle.numbers.specs.declared.Check.the-variants.{Fine}
 use Rattle.numbers.proofs.CauseLaws.{passed, then-fine}
 use Rattle.numbers.specs.Terms.{Bytes}
-use Rattle.scalars.specs.Scalar.{powers, powerOf, smallest, groupNumbers, groupScalar, isSmallest}
+use Rattle.scalars.specs.Scalar.{powers, powerOf, smallest, groupNumbers, groupScalar, isScalar, isSmallest}
 use Rattle.scalars.proofs.Fit32.{Fit32}
 use Rattle.scalars.proofs.Powers.{power-lt, smallest-lt}
 use Rattle.scalars.proofs.Laws.{fit-held, scalar-fits16, length-held}
-use Rattle.reel.specs.Layout.{Field, traceWidths, traceFields, elevationScalar, fieldNumber}
+use Rattle.reel.specs.Layout.{Field, traceWidths, traceFields, elevationScalar, coordinateScalar, fieldNumber}
 use Rattle.headers.proofs.NumberLaws.{fields-again}
 use Rattle.headers.proofs.TraceLaws.{trace-counts}
 use Rattle.headers.proofs.Ranges.{Fit, Some, allSome, some-of, fit-append, numbers-size, size-numbers, numbers-inj, fields-fit}
 use Rattle.reel.specs.Meaning.{elevationFields, coordinateFields, bareFields, Header, headerOf}
 use Rattle.headers.specs.Header.{numberBytes, headerNumbers, headerBytes, headerSize, smallestCause, smallestCauses}
-use Rattle.headers.proofs.Listed.{front, elevationsIn, scalarsOn, elevationScalarIn, coordinateScalarIn, coordinatesIn, behind, listed, header-listed, Scaled, listed-numbers, numbers-only, numbers-listed}
+use Rattle.headers.proofs.Listed.{front, elevationsIn, scalarsOn, elevationScalarIn, coordinateScalarIn, coordinatesIn, behind, listed, header-listed, Scaled, listed-numbers, numbers-only, numbers-listed, elevations-smallest, coordinates-smallest, elevation-scalar-allowed, coordinate-scalar-allowed}
 
 -- ## Fields that fit, in parts
 
@@ -180,3 +180,19 @@ bytes-again s b start f =
     ap (λ (h : Header). numberBytes traceWidths (headerNumbers h)) (header-listed (fieldNumber s start))
     ∙ ap (numberBytes traceWidths) (numbers-listed zs (length-map traceFields (fieldNumber s start) ∙ trace-counts .0) (listed-fits zs fit .scaled) (c .0) (c .1))
     ∙ whole s b start
+
+-- LAW. Where the 71 numbers of a header stand, its scalars are those of the smallest powers, and such that a reel may hold them.
+pub smallest-again : (s : List ℕ) (start : ℕ) (h : Header) → Scaled h → map (fieldNumber s start) traceFields ≡ headerNumbers h → smallestCauses s start ≡ Fine
+unfolding smallestCauses elevationFields coordinateFields traceFields traceWidths
+smallest-again s start h p e =
+    let a = ap (λ (l : List ℤ). isSmallest (elevationsIn l) (elevationScalarIn l)) e ∙ elevations-smallest h p in
+    let b = ap (λ (l : List ℤ). isSmallest (coordinatesIn l) (coordinateScalarIn l)) e ∙ coordinates-smallest h p in
+    rw (a, b)
+
+pub allowed-again : (s : List ℕ) (start : ℕ) (h : Header) → Scaled h → map (fieldNumber s start) traceFields ≡ headerNumbers h
+    → (isScalar (fieldNumber s start elevationScalar) ≡ true) × (isScalar (fieldNumber s start coordinateScalar) ≡ true)
+unfolding traceFields traceWidths
+allowed-again s start h p e = (
+  ap (λ (l : List ℤ). isScalar (elevationScalarIn l)) e ∙ elevation-scalar-allowed h p,
+  ap (λ (l : List ℤ). isScalar (coordinateScalarIn l)) e ∙ coordinate-scalar-allowed h p,
+)
