@@ -2,8 +2,8 @@
 
     python3 tests/command.py PATH_OF_COMMAND
 
-What it writes and answers is compared with tools/vectors, which was written from documents 01 and 02 alone. The inputs are the same at every
-run. What the examples need is built in a temporary folder, over build/libaukpocket.a.
+What it writes and answers is compared with tools/vectors, which was written from documents 01 and 02 alone. The inputs are the same at
+every run. What the examples need is built in a temporary folder, over build/libaukpocket.a.
 """
 
 import hashlib
@@ -419,17 +419,19 @@ class Refusals(Case):
             (good + b"xyz", end + 7, "3 bytes follow the record's end", f"place {end + 7}"),
         ):
             self.record_refused(record, 1, 12, place, f"place {place}", *parts)
+        smallest = "and that of the smallest power for their numbers is -10000"
         for place, other, *parts in (
             (place_of_card(0), b"\0", "a card byte is 00", "card 1, column 1"),
             (place_of_card(3199), b"\0", "a card byte is 00", "card 40, column 80"),
             (place_of_binary(3217), b"\0\0", "interval is 0, not 1 to 32767", "field 3217, interval"),
             (place_of_binary(3221), b"\xff\xff", "are -1, not 1 to 8000", "field 3221, samples"),
             (place_of_binary(3225), b"\0\x01", "code is 1, where a record has 0", "field 3225, code"),
-            (place_of_field(3, 2, 69), b"\0\x01", "the scalar of elevations and depths is 1, and that of the smallest power for their numbers is "
-             "-10000", "trace 3, field 69, elevation-scalar", EARLIER),
-            (place_of_field(1, 2, 71), b"\0\0", "the scalar of coordinates is 0, and that of the smallest power for their numbers is -10000",
+            (place_of_field(3, 2, 69), b"\0\x01", f"the scalar of elevations and depths is 1, {smallest}",
+             "trace 3, field 69, elevation-scalar", EARLIER),
+            (place_of_field(1, 2, 71), b"\0\0", f"the scalar of coordinates is 0, {smallest}",
              "trace 1, field 71, coordinate-scalar", EARLIER),
-            (place_of_field(2, 2, 71), b"\x80\0", "the scalar of coordinates is -32768, which no record has", "trace 2, field 71,", EARLIER),
+            (place_of_field(2, 2, 71), b"\x80\0", "the scalar of coordinates is -32768, which no record has",
+             "trace 2, field 71, coordinate-scalar", EARLIER),
             (place_of_field(3, 2, 115), b"\0\x03", "is 3, not the reel's 2", "trace 3, field 115, samples"),
             (place_of_field(3, 2, 117), b"\0\x03", "is 3, not the reel's 2000", "trace 3, field 117, interval"),
             (place_of_pair(2, 2, 2), pair_bytes(1, 6), "6 * 2^1, isn't canonical", "trace 2, sample 2"),
@@ -630,8 +632,9 @@ class Scalars(Case):
         reel = SAMPLE.read_bytes()
         earlier = self.file("earlier.record", earlier_record(reel, self.record_of(reel)))
         said = self.trouble(3, "verify", SAMPLE, earlier, stdout=None)
-        self.assertTrue(said.startswith(f"{earlier}: isn't the record of {SAMPLE}: trace 1, field 41, group-elevation is 1246000 under scalar "
-                                        "-10000 by the reel's record and 1246 under scalar -10 in the file (place 3310; "), said)
+        self.assertTrue(said.startswith(
+            f"{earlier}: isn't the record of {SAMPLE}: trace 1, field 41, group-elevation is 1246000 under scalar -10000 by the reel's "
+            "record and 1246 under scalar -10 in the file (place 3310; "), said)
         # A scalar that is allowed on no reel, which an earlier version took; and a record without traces, which stays valid.
         odd = self.file("odd.record", with_bytes(earlier.read_bytes(), place_of_field(1, 240, 69), b"\0\x07"))
         self.assertEqual(self.trouble(2, "cards", odd), (
@@ -738,8 +741,8 @@ class Verify(Case):
             for bit in range(8):
                 self.different(with_bytes(before, place, bytes([before[place] ^ 1 << bit])), name, f"(place {place}; 1 of 13029 bytes differ)")
         flipped = with_bytes(before, place_of_pair(1, n, 90) + 5, bytes([before[place_of_pair(1, n, 90) + 5] ^ 2]))
-        self.different(flipped, "trace 1, sample 90 is -431 * 2^-3 by the reel's record and -429 * 2^-3 in the file (place 3991; 1 of 13029 "
-                                "bytes differ); keep the tape")
+        self.different(flipped, (
+            "trace 1, sample 90 is -431 * 2^-3 by the reel's record and -429 * 2^-3 in the file (place 3991; 1 of 13029 bytes differ); keep"))
         place = place_of_field(3, n, 41) + 3
         self.different(with_bytes(before, place, bytes([before[place] ^ 2])), (
             "trace 3, field 41, group-elevation is 1238000 under scalar -10000 by the reel's record and 1238002 under scalar -10000 in the "
@@ -756,7 +759,8 @@ class Verify(Case):
         cut = with_bytes(self.record, place_of_pair(2, n, 5), b"\x01")[: place_of_pair(2, n, 5) + 3]
         self.different(cut, "trace 2, sample 5 is 0 * 2^0 by the reel's record and cut short in the file")
         cut = with_bytes(self.record, place_of_field(2, n, 41), b"\x01")[: place_of_field(2, n, 69) + 1]
-        self.different(cut, "trace 2, field 41, group-elevation is 1242000 under scalar -10000 by the reel's record and cut short in the file")
+        self.different(cut, (
+            "trace 2, field 41, group-elevation is 1242000 under scalar -10000 by the reel's record and cut short in the file"))
         other = reels.record_of(make_reel(2000, 240, 1, [make_trace([bytes(4)] * 240)]))
         self.different(other, "card 1, column 1 is C3, `C`, by the reel's record and 40 in the file")
         # The reel is judged first, and a record in its stead is told.
