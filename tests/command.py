@@ -1629,6 +1629,7 @@ class Halfway(Built):
         """A run that has written half its output, and the temporary file that it has written it to."""
         run = subprocess.Popen([str(COMMAND), "read", str(SAMPLE), str(self.output), *words], stdout=subprocess.DEVNULL,
                                env={**os.environ, **self.preload}, preexec_fn=with_signals(*ignored))
+        self.addCleanup(lambda: (run.kill(), run.wait(SECONDS)))  # a test that fails leaves it stopped
         self.assertTrue(os.WIFSTOPPED(os.waitpid(run.pid, os.WUNTRACED)[1]))
         temporary, = self.folder.glob("*.partial")
         self.assertEqual(temporary.read_bytes(), self.record[:6514])
