@@ -25,20 +25,35 @@
  *   10      the output is too short                                   the length needed
  *   11      the target code is not 1 to 4                             0
  *   12      the record's form is wrong                                place of the field's tag, or of the first byte too many
- *   13      the record holds a number that no record has              place of its first byte
+ *   13      the record holds a number that no record has: a card      place of its first byte
+ *           byte 00, an interval, N or format code outside its
+ *           limits, trace field 69 or 71 other than the scalar of
+ *           the smallest power, trace field 115 or 117 unlike the
+ *           reel's, a pair that isn't canonical
  *   14      a sample doesn't fit the target code                      place of its pair
  *   15      no such trace                                             0
  *   16      no assigned field of that header begins at that byte      0
  *           number
  *   17      the listing has another length than 3,240                 its length
  *           or else not 0A at some 81st byte                          place of the first such byte
+ *   18      trace field 69 or 71 of a reel is not 0, 1, -1, or plus   its place
+ *           or minus 10, 100, 1,000 or 10,000
  *
  * For a single word or pair the place beside 2, 9, 11, 13 and 14 is 0.
  *
  * A record leaves out what carries no meaning in revision 0: bytes 3261 to 3600, and bytes 181 to 240 of each trace header. Reading
  * takes any bytes there and says nothing of them; writing sets them to 0. A caller who wants to know looks at the reel's bytes. A record
  * has no format code either, and of the spellings taken as one it has the meaning: a card byte 00 is a blank (40), a 0 in trace fields
- * 115 and 117 is the reel's number, and a sample is its exact value. docs/FORMAT.md has both byte by byte.
+ * 115 and 117 is the reel's number, a sample is its exact value, and so are elevations and coordinates. docs/FORMAT.md has both byte by
+ * byte.
+ *
+ * Elevations and depths (trace fields 41 to 65) have the scalar in field 69, coordinates (73 to 85) that in field 71: a positive one
+ * multiplies, a negative one divides, 0 is taken as 1. Two reels count as equal by the scaled values of these fields, exactly, and not by
+ * 69 and 71 themselves. A record has, for each of the two groups of each trace, the smallest power of ten from -4 to 4 at which all the
+ * group's numbers are whole and fit 32 signed bits, as a scalar from -10000 to 10000, power 0 as 1; the group's fields are the values
+ * divided by that power. A group of zeros has -10000. Writing sets the fields as they stand in the record, so a reel that is read and
+ * written again may have other numbers under other scalars, of the same values. Any other scalar in a record is refused by 13, in a trace's
+ * header before fields 115 and 117, and so is nearly every record that was made before this rule: README.md says what to do with one.
  *
  * A listing is the text of a record's 40 cards: for each a line of 80 ISO 8859-1 characters, one byte each, closed by 0A, 3,240 bytes in
  * all. The characters are those of EBCDIC code page 037 as Unicode publishes it (15 is 85, 25 is 0A). Every card byte has a character of
@@ -79,7 +94,7 @@ struct aukpocket_sample_answer {
 };
 
 /* Reads a reel and writes its record to the front of `record`. A record of T traces of N samples is 3273 + T * (186 + 6 * N) bytes.
- * Refuses by 1 to 6 in that order, then trace by trace 7, 8 and 9, then 10. */
+ * Refuses by 1 to 6 in that order, then trace by trace 7, 8, 18 by field 69, 18 by field 71, and 9, then 10. */
 struct aukpocket_reel_answer aukpocket_read_reel(const uint8_t *reel, size_t reel_length, uint8_t *record, size_t record_length);
 
 /* Writes a record as a reel under a target code to the front of `reel`. A reel of T traces of N samples is 3600 + T * (240 + N * w)
@@ -89,8 +104,8 @@ struct aukpocket_reel_answer aukpocket_write_reel(const uint8_t *record, size_t 
                                                   size_t reel_length);
 
 /* Looks up the assigned field that begins at a byte number: of the binary header (3201 to 3259) for trace 0, of that trace's header
- * (1 to 179) from 1 on. Fields 115 and 117 are filled in from the reel where they are 0; 3225 is as on the reel. Refuses by 1 to 9,
- * then 15, then 16. */
+ * (1 to 179) from 1 on. Fields 115 and 117 are filled in from the reel where they are 0; all others are the bare numbers of the reel, 3225
+ * and the scalars 69 and 71 too, and no scalar is applied. Refuses by 1 to 9 and 18 as aukpocket_read_reel does, then 15, then 16. */
 struct aukpocket_field_answer aukpocket_look_up(const uint8_t *reel, size_t reel_length, size_t trace, uint32_t byte_number);
 
 /* Writes the listing of a record's cards to the front of `listing`: 3,240 bytes. Refuses by 12 and 13 as aukpocket_write_reel does, then

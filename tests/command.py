@@ -2,8 +2,8 @@
 
     python3 tests/command.py PATH_OF_COMMAND
 
-What it writes and answers is compared with tools/vectors, which was written from document 01 alone. The inputs are the same at every
-run. What the examples need is built in a temporary folder, over build/libaukpocket.a.
+What it writes and answers is compared with tools/vectors, which was written from documents 01 and 02 alone. The inputs are the same at
+every run. What the examples need is built in a temporary folder, over build/libaukpocket.a.
 """
 
 import hashlib
@@ -42,6 +42,13 @@ COMMAND = None  # a copy of the command, which other users may run too
 ROOM = None  # the folder of the whole test
 SECONDS = 600  # a run that takes as long hangs
 MEGABYTE = 1_000_000
+
+# Elevations and depths, and coordinates, by the byte number of their scalar; the scalars that a reel may have.
+GROUPS = {69: (41, 45, 49, 53, 57, 61, 65), 71: (73, 77, 81, 85)}
+ALLOWED = (0, 1, -1, 10, 100, 1000, 10_000, -10, -100, -1000, -10_000)
+
+# Where a user with an earlier record reads on.
+EARLIER = "records made before the rule of the smallest power are refused so: see EARLIER RECORDS in aukpocket(1), or README.md"
 
 
 def with_bytes(data, place, other):
@@ -358,9 +365,36 @@ class Refusals(Case):
         place = 3600 + 248 + 240 + 4
         self.reel_refused(make_reel(500, 2, 4, gains), 9, place, "begins with A1, not 00", f"place {place}: trace 2, sample 2")
 
+    def test_18(self):
+        """Another scalar on a reel, in each group; in a trace after 8 and before 9, field 69 first."""
+        def refused(number, trace, byte_number, *parts, code=4, **headers):
+            traces = [make_trace([gain(3, 7, first=headers.get(f"first{i}", 0))] * 2, headers.get(f"trace{i}")) for i in (1, 2, 3)]
+            place = 3600 + (trace - 1) * 248 + byte_number - 1
+            self.reel_refused(make_reel(500, 2, code, traces), number, place, f"place {place}: trace {trace}, ", *parts)
+
+        allowed = "not 0, 1, -1, or plus or minus 10, 100, 1000 or 10000 (place "
+        of_elevations, of_coordinates = "the scalar of elevations and depths is ", "the scalar of coordinates is "
+        refused(18, 2, 69, f"{of_elevations}7, {allowed}", "trace 2, field 69, elevation-scalar)", trace2={69: 7})
+        refused(18, 3, 71, f"{of_coordinates}-10001, {allowed}", "trace 3, field 71, coordinate-scalar)", trace3={71: -10_001})
+        refused(18, 1, 69, f"{of_elevations}2, ", trace1={69: 2, 71: 3}, trace2={115: 9})
+        refused(18, 1, 71, f"{of_coordinates}3, ", code=1, trace1={71: 3}, trace2={69: 3})
+        refused(7, 1, 115, trace1={115: 9, 117: 9, 69: 2})
+        refused(8, 1, 117, trace1={117: 9, 69: 2, 71: 2})
+        refused(18, 1, 71, trace1={71: 2}, first1=1)
+        refused(9, 1, 241, trace2={69: 2}, first1=1)
+        for scalar in (2, -2, 9, 11, 99, 101, 999, 1001, 9999, 10_001, 32767, -9, -11, -101, -1001, -9999, -32768, 256, 2560):
+            for byte_number in GROUPS:
+                trace = make_trace([bytes(4)], {byte_number: scalar, 140 - byte_number: 1})
+                self.trouble(2, "check", stdin=make_reel(500, 1, 1, [trace]), stdout=f"refused 18 {3600 + byte_number - 1}\n")
+        for scalar in ALLOWED:
+            for byte_number in GROUPS:
+                trace = make_trace([bytes(4)], {byte_number: scalar, 140 - byte_number: 1})
+                self.assertEqual(self.fine("check", stdin=make_reel(500, 1, 1, [trace])), "taken 1 1 3465\n")
+
     def test_11_to_14(self):
         one = pair_bytes(0, 1)
-        good = make_record(n=2, traces=[[one, one]] * 3)
+        zeros = {69: -10_000, 71: -10_000}
+        good = make_record(n=2, traces=[[one, one]] * 3, trace_fields={1: zeros, 2: zeros, 3: zeros})
         self.assertEqual(records.write_reel(good, 3, 10**6)[0], "taken")
         for code in (0, 5, 257):
             self.record_refused(good, code, 11, 0, f"the target code is {code}, not 1 to 4")
@@ -385,17 +419,31 @@ class Refusals(Case):
             (good + b"xyz", end + 7, "3 bytes follow the record's end", f"place {end + 7}"),
         ):
             self.record_refused(record, 1, 12, place, f"place {place}", *parts)
+        smallest = "and that of the smallest power for their numbers is -10000"
         for place, other, *parts in (
             (place_of_card(0), b"\0", "a card byte is 00", "card 1, column 1"),
             (place_of_card(3199), b"\0", "a card byte is 00", "card 40, column 80"),
             (place_of_binary(3217), b"\0\0", "interval is 0, not 1 to 32767", "field 3217, interval"),
             (place_of_binary(3221), b"\xff\xff", "are -1, not 1 to 8000", "field 3221, samples"),
             (place_of_binary(3225), b"\0\x01", "code is 1, where a record has 0", "field 3225, code"),
+            (place_of_field(3, 2, 69), b"\0\x01", f"the scalar of elevations and depths is 1, {smallest}",
+             "trace 3, field 69, elevation-scalar", EARLIER),
+            (place_of_field(1, 2, 71), b"\0\0", f"the scalar of coordinates is 0, {smallest}",
+             "trace 1, field 71, coordinate-scalar", EARLIER),
+            (place_of_field(2, 2, 71), b"\x80\0", "the scalar of coordinates is -32768, which no record has",
+             "trace 2, field 71, coordinate-scalar", EARLIER),
             (place_of_field(3, 2, 115), b"\0\x03", "is 3, not the reel's 2", "trace 3, field 115, samples"),
             (place_of_field(3, 2, 117), b"\0\x03", "is 3, not the reel's 2000", "trace 3, field 117, interval"),
             (place_of_pair(2, 2, 2), pair_bytes(1, 6), "6 * 2^1, isn't canonical", "trace 2, sample 2"),
         ):
             self.record_refused(with_bytes(good, place, other), 1, 13, place, f"place {place}: ", *parts)
+        # In a trace's header 69, 71, 115, 117; then its samples; then the next trace.
+        wrong = b"\0\x07"
+        damaged = with_bytes(with_bytes(good, place_of_field(3, 2, 69), wrong), place_of_samples(2, 2), wrong)
+        for byte_number in (117, 115, 71, 69):
+            place = place_of_field(2, 2, byte_number)
+            damaged = with_bytes(damaged, place, wrong)
+            self.record_refused(damaged, 1, 13, place, f"place {place}: trace 2, field {byte_number}")
         unfit = with_bytes(good, place_of_pair(3, 2, 2), pair_bytes(-280, -3))
         for code in (2, 3, 4):
             self.record_refused(unfit, code, 14, place_of_pair(3, 2, 2), f"-3 * 2^-280, doesn't fit code {code}", "trace 3, sample 2")
@@ -449,6 +497,158 @@ class Refusals(Case):
                 self.assertIn(f": refused by {said[1]}: ", sentence)
                 self.assertIn(f"place {said[2]}", sentence)
                 self.assertEqual(self.run_command("info", path).returncode, 0 if said[1] == 14 else 2)
+
+
+def signed(data, place, width):
+    return int.from_bytes(data[place : place + width], "big", signed=True)
+
+
+def one_trace(fields):
+    """A reel of one trace of two samples with these header numbers."""
+    return make_reel(2000, 2, 1, [make_trace([bytes.fromhex("41100000"), bytes.fromhex("C276A000")], fields)])
+
+
+def earlier_record(reel, record):
+    """The record of a reel as it was made before CR 2: its scalars, elevations and coordinates are those of the reel, bare."""
+    n, code = signed(reel, 3220, 2), signed(reel, 3224, 2)
+    for i in range(1, (len(reel) - 3600) // trace_size(code, n) + 1):
+        start = 3600 + (i - 1) * trace_size(code, n)
+        record = with_bytes(record, place_of_field(i, n, 41), reel[start + 40 : start + 88])
+    return record
+
+
+class Scalars(Case):
+    """Elevations and coordinates under their scalars. The numbers are worked out by hand."""
+
+    def record_of(self, reel, name="a"):
+        path = self.file(f"{name}.sgy", reel)
+        record = self.folder / f"{name}.record"
+        self.fine("read", path, record, "--force")
+        return record.read_bytes()
+
+    def groups(self, record, n=2, trace=1):
+        """The scalar and the numbers of each group."""
+        return [(signed(record, place_of_field(trace, n, scalar), 2), *(signed(record, place_of_field(trace, n, b), 4) for b in group))
+                for scalar, group in GROUPS.items()]
+
+    def test_the_same_survey_with_different_scalars(self):
+        """1,000 under -10 and 10,000 under -100 are both 100."""
+        one = one_trace({41: 1000, 65: -25, 69: -10, 73: 5000, 85: 1, 71: 1})
+        other = one_trace({41: 10_000, 65: -250, 69: -100, 73: 500_000, 85: 100, 71: -100})
+        record = self.record_of(one, "one")
+        self.assertEqual(self.record_of(other, "other"), record)
+        self.assertEqual(hashlib.sha256(self.record_of(other)).hexdigest(), hashlib.sha256(record).hexdigest())
+        self.assertEqual(self.groups(record), [
+            (-10_000, 1_000_000, 0, 0, 0, 0, 0, -25_000), (-10_000, 50_000_000, 0, 0, 10_000)])
+        for reel in ("one", "other"):
+            for kept in ("one", "other"):
+                said = self.fine("verify", self.folder / f"{reel}.sgy", self.folder / f"{kept}.record")
+                self.assertIn("is the record, byte for byte, of", said)
+        # Another value, and another group's scalar.
+        for fields in ({41: 10_001, 65: -250, 69: -100, 73: 5000, 85: 1}, {41: 1000, 65: -25, 69: 1, 73: 5000, 85: 1, 71: -10}):
+            self.assertNotEqual(self.record_of(one_trace(fields)), record)
+
+    def test_the_smallest_power(self):
+        none = (-10_000, 0, 0, 0, 0)
+        for scalar in ALLOWED:  # zeros
+            record = self.record_of(one_trace({69: scalar, 71: scalar}))
+            self.assertEqual(self.groups(record), [(-10_000, 0, 0, 0, 0, 0, 0, 0), none])
+        most, least = 2**31 - 1, -(2**31)
+        for scalar, numbers, held in (
+            (0, (1, 0, 0, -1), (-10_000, 10_000, 0, 0, -10_000)),
+            (-1, (441_200, -612_300, 441_225, -612_305), (-1000, 441_200_000, -612_300_000, 441_225_000, -612_305_000)),
+            (1, (214_748, 0, 0, 0), (-10_000, 2_147_480_000, 0, 0, 0)), (1, (214_749, 0, 0, 0), (-1000, 214_749_000, 0, 0, 0)),
+            (1, (0, 214_748_364, 0, 0), (-10, 0, 2_147_483_640, 0, 0)), (1, (0, 214_748_365, 5, 0), (1, 0, 214_748_365, 5, 0)),
+            (0, (0, -214_748_364, 0, 0), (-10, 0, -2_147_483_640, 0, 0)), (-1, (0, 0, 0, -214_748_365), (1, 0, 0, 0, -214_748_365)),
+            (10_000, (most, 1, 0, 0), (10_000, most, 1, 0, 0)), (10_000, (0, 0, 0, least), (10_000, 0, 0, 0, least)),
+            (10_000, (0, 0, 0, 1), (-10_000, 0, 0, 0, 100_000_000)), (10_000, (0, 0, 0, 21), (-10_000, 0, 0, 0, 2_100_000_000)),
+            (10_000, (0, 0, 0, 22), (-1000, 0, 0, 0, 220_000_000)), (100, (0, 0, -3_000_000, 0), (1, 0, 0, -300_000_000, 0)),
+            (100, (0, 0, 214_748_365, 0), (100, 0, 0, 214_748_365, 0)), (1000, (7, 0, 214_748_364, 0), (100, 70, 0, 2_147_483_640, 0)),
+            (10_000, (0, 0, -214_748_364, 0), (1000, 0, 0, -2_147_483_640, 0)),
+            (-10_000, (most, least, 10, 0), (-10_000, most, least, 10, 0)), (-100, (7, 0, 0, 0), (-10_000, 700, 0, 0, 0)),
+        ):
+            record = self.record_of(one_trace({71: scalar, **dict(zip(GROUPS[71], numbers))}))
+            self.assertEqual(self.groups(record)[1], held, (scalar, numbers))
+            record = self.record_of(one_trace({69: scalar, **dict(zip(GROUPS[69][3:], numbers))}))
+            self.assertEqual(self.groups(record), [(held[0], 0, 0, 0, *held[1:]), none], (scalar, numbers))
+
+    def test_each_trace_by_itself(self):
+        large, small = {41: 2**31 - 1, 69: 10}, {41: 2**31 - 1, 69: -10_000}
+        reel = make_reel(2000, 2, 2, [make_trace([whole32(1)] * 2, fields) for fields in (large, small, {}, large)])
+        record = self.record_of(reel)
+        self.assertEqual([self.groups(record, trace=i)[0][:2] for i in (1, 2, 3, 4)],
+                         [(10, 2**31 - 1), (-10_000, 2**31 - 1), (-10_000, 0), (10, 2**31 - 1)])
+
+    def test_bare_on_the_reel(self):
+        """`look` gives the numbers of the reel, by number and by name; `info` is as it was."""
+        for scalars in ((-10, 1), (0, -1), (10_000, -10_000)):
+            reel = self.file("a.sgy", one_trace({41: 1000, 69: scalars[0], 71: scalars[1], 85: -3}))
+            for field, name, value in ((41, "group-elevation", 1000), (69, "elevation-scalar", scalars[0]),
+                                       (71, "coordinate-scalar", scalars[1]), (85, "group-y", -3), (73, "source-x", 0)):
+                self.assertEqual(self.fine("look", reel, 1, field), f"{value}\n")
+                self.assertEqual(self.fine("look", reel, 1, name), f"{value}\n")
+            self.assertEqual(self.fine("info", reel, "--cards", 0), (
+                f"file      {reel}, 3848 bytes\nkind      reel\ntraces    1\nsamples   2 a trace\ninterval  2000 microseconds\n"
+                "code      1, IBM floating point\nrecord    3471 bytes\n"))
+
+    def test_written_as_in_the_record(self):
+        """A written reel has the record's numbers and scalars; read again it gives the record."""
+        record = self.record_of(one_trace({41: 1246, 69: -10, 73: 441_200, 71: 1}))
+        reel = self.folder / "b.sgy"
+        for code in (1, 4):
+            self.fine("write", self.folder / "a.record", code, reel, "--force")
+            self.assertEqual(reel.read_bytes()[3640:3688], record[place_of_field(1, 2, 41) : place_of_field(1, 2, 89)])
+            for field, value in ((41, 1_246_000), (69, -10_000), (71, -1000), (73, 441_200_000)):
+                self.assertEqual(self.fine("look", reel, 1, field), f"{value}\n")
+            self.fine("verify", reel, self.folder / "a.record")
+        said = self.fine("verify", self.folder / "a.sgy")
+        self.assertEqual(said.count("the record is the same"), 2)
+        self.assertTrue(said.endswith("codes that hold it: 1 4\n"), said)
+
+    def test_earlier_records(self):
+        """A record from before the rule is refused by every command that takes one, which says what was found and where to read on."""
+        listing, new = self.file("a.txt", b"\n" * 40), self.folder / "none"
+        for reel, scalar, right, what, field, byte_number in (
+            (one_trace({69: 1, 71: 1}), 1, -10_000, "elevations and depths", "elevation-scalar", 69),  # zeros
+            (example(), 0, -10_000, "elevations and depths", "elevation-scalar", 69),
+            (one_trace({41: 214_748_365, 69: -1, 71: -1}), -1, 1, "elevations and depths", "elevation-scalar", 69),
+            (one_trace({69: -10_000, 71: 1, 81: 441_200}), 1, -1000, "coordinates", "coordinate-scalar", 71),
+            (one_trace({69: -10_000, 71: 10}), 10, -10_000, "coordinates", "coordinate-scalar", 71),
+        ):
+            record = self.record_of(reel)
+            earlier = self.file("earlier.record", earlier_record(reel, record))
+            place = place_of_field(1, 2, byte_number)
+            said = (f"refused by 13: the scalar of {what} is {scalar}, and that of the smallest power for their numbers is {right} "
+                    f"(place {place}: trace 1, field {byte_number}, {field}); {EARLIER}")
+            for words in (("write", earlier, 1, new), ("cards", earlier), ("cards", earlier, listing, new, "--utf8")):
+                self.assertEqual(self.trouble(2, *words), f"{earlier}: {said}")
+            run = self.run_command("info", earlier)
+            self.assertEqual((run.returncode, run.stderr.decode()), (2, f"aukpocket: {earlier}: {said}\n"))
+            self.assertIn(b"kind      record, refused; its headers as they stand:\ntraces    1\n", run.stdout)
+            reel_path = self.folder / "a.sgy"
+            difference = self.trouble(3, "verify", reel_path, earlier, stdout=None)
+            self.assertTrue(difference.endswith(f" bytes differ); it is {said}; keep the tape"), difference)
+        # The number and the scalar on both sides, though the scalar stands behind the number.
+        reel = SAMPLE.read_bytes()
+        earlier = self.file("earlier.record", earlier_record(reel, self.record_of(reel)))
+        said = self.trouble(3, "verify", SAMPLE, earlier, stdout=None)
+        self.assertTrue(said.startswith(
+            f"{earlier}: isn't the record of {SAMPLE}: trace 1, field 41, group-elevation is 1246000 under scalar -10000 by the reel's "
+            "record and 1246 under scalar -10 in the file (place 3310; "), said)
+        # A scalar that is allowed on no reel, which an earlier version took; and a record without traces, which stays valid.
+        odd = self.file("odd.record", with_bytes(earlier.read_bytes(), place_of_field(1, 240, 69), b"\0\x07"))
+        self.assertEqual(self.trouble(2, "cards", odd), (
+            f"{odd}: refused by 13: the scalar of elevations and depths is 7, which no record has (place 3337: trace 1, field 69, "
+            f"elevation-scalar); {EARLIER}"))
+        self.fine("write", self.file("empty.record", make_record(2000, 2)), 1, self.folder / "empty.sgy")
+
+    def test_where_to_read_on(self):
+        page = (TOP / "docs" / "aukpocket.1").read_text(encoding="utf-8")
+        readme = (TOP / "README.md").read_text(encoding="utf-8")
+        self.assertIn("\n.SH EARLIER RECORDS\n", page)
+        self.assertIn("\n## Earlier records\n", readme)
+        for text in (page.replace("\\-", "-"), readme):
+            self.assertIn("the version before CR 2 (docs/landings/CR-02.md says which commit)", text)
 
 
 class Codes(Case):
@@ -526,6 +726,13 @@ class Verify(Case):
             (place_of_binary(3225), "binary header, field 3225, code is 0 by"), (place_of_binary(3259) + 1, "field 3259, vibrator is 0 by"),
             (header, "the tag and length of trace 3's header is tag 03, length 180 by"),
             (place_of_field(3, n, 37) + 1, "trace 3, field 37, offset is 0 by"), (place_of_field(3, n, 179), "trace 3, field 179, overtravel"),
+            (place_of_field(3, n, 41) + 3, "trace 3, field 41, group-elevation is 1238000 under scalar -10000 by"),
+            (place_of_field(3, n, 65), "trace 3, field 65, group-water is 0 under scalar -10000 by"),
+            (place_of_field(3, n, 69) + 1, "trace 3, field 69, elevation-scalar is -10000 by"),
+            (place_of_field(3, n, 71), "trace 3, field 71, coordinate-scalar is -1000 by"),
+            (place_of_field(3, n, 73) + 2, "trace 3, field 73, source-x is 441200000 under scalar -1000 by"),
+            (place_of_field(3, n, 85) + 1, "trace 3, field 85, group-y is -612315000 under scalar -1000 by"),
+            (place_of_field(3, n, 89), "trace 3, field 89, units is 1 by"),
             (place_of_samples(3, n) + 1, "the tag and length of trace 3's samples is tag 04, length 1440 by"),
             (pair, "trace 3, sample 7 is 0 * 2^0 by"), (place_of_pair(6, n, 240) + 5, "trace 6, sample 240 is 0 * 2^0 by"),
             (place_of_pair(1, n, 90) + 5, "trace 1, sample 90 is -431 * 2^-3 by"),
@@ -534,7 +741,12 @@ class Verify(Case):
             for bit in range(8):
                 self.different(with_bytes(before, place, bytes([before[place] ^ 1 << bit])), name, f"(place {place}; 1 of 13029 bytes differ)")
         flipped = with_bytes(before, place_of_pair(1, n, 90) + 5, bytes([before[place_of_pair(1, n, 90) + 5] ^ 2]))
-        self.different(flipped, "trace 1, sample 90 is -431 * 2^-3 by the reel and -429 * 2^-3 in the file (place 3991; 1 of 13029 bytes")
+        self.different(flipped, (
+            "trace 1, sample 90 is -431 * 2^-3 by the reel's record and -429 * 2^-3 in the file (place 3991; 1 of 13029 bytes differ); keep"))
+        place = place_of_field(3, n, 41) + 3
+        self.different(with_bytes(before, place, bytes([before[place] ^ 2])), (
+            "trace 3, field 41, group-elevation is 1238000 under scalar -10000 by the reel's record and 1238002 under scalar -10000 in the "
+            f"file (place {place}; 1 of 13029 bytes differ); keep the tape"))
 
     def test_other_files(self):
         n = 240
@@ -545,9 +757,12 @@ class Verify(Case):
         self.different(SAMPLE.read_bytes(), "it is a reel, not a record")
         self.different(SAMPLE.read_bytes()[:-7], "it is a reel, not a record")
         cut = with_bytes(self.record, place_of_pair(2, n, 5), b"\x01")[: place_of_pair(2, n, 5) + 3]
-        self.different(cut, "trace 2, sample 5 is 0 * 2^0 by the reel and cut short in the file")
+        self.different(cut, "trace 2, sample 5 is 0 * 2^0 by the reel's record and cut short in the file")
+        cut = with_bytes(self.record, place_of_field(2, n, 41), b"\x01")[: place_of_field(2, n, 69) + 1]
+        self.different(cut, (
+            "trace 2, field 41, group-elevation is 1242000 under scalar -10000 by the reel's record and cut short in the file"))
         other = reels.record_of(make_reel(2000, 240, 1, [make_trace([bytes(4)] * 240)]))
-        self.different(other, "card 1, column 1 is C3, `C`, by the reel and 40 in the file")
+        self.different(other, "card 1, column 1 is C3, `C`, by the reel's record and 40 in the file")
         # The reel is judged first, and a record in its stead is told.
         path = self.file("a.record", self.record)
         self.assertIn("is a record, not a reel: refused by 2", self.trouble(2, "verify", path, path))
@@ -603,7 +818,8 @@ class Kinds(Case):
 
     def test_a_reel_for_a_record(self):
         """Whole, or with something wrong in its traces."""
-        for reel in (SAMPLE.read_bytes(), SAMPLE.read_bytes()[:-1], example(), make_reel(1, 1, 3)):
+        for reel in (SAMPLE.read_bytes(), SAMPLE.read_bytes()[:-1], with_bytes(SAMPLE.read_bytes(), 3668, b"\0\x07"), example(),
+                     make_reel(1, 1, 3)):
             path = self.file("a.sgy", reel)
             said = self.trouble(2, "write", path, 1, self.folder / "none")
             self.assertRegex(said, f"^{path}: is a reel, not a record: refused by 12: tag .. stands where a field should begin ")
@@ -1413,6 +1629,7 @@ class Halfway(Built):
         """A run that has written half its output, and the temporary file that it has written it to."""
         run = subprocess.Popen([str(COMMAND), "read", str(SAMPLE), str(self.output), *words], stdout=subprocess.DEVNULL,
                                env={**os.environ, **self.preload}, preexec_fn=with_signals(*ignored))
+        self.addCleanup(lambda: (run.kill(), run.wait(SECONDS)))  # a test that fails leaves it stopped
         self.assertTrue(os.WIFSTOPPED(os.waitpid(run.pid, os.WUNTRACED)[1]))
         temporary, = self.folder.glob("*.partial")
         self.assertEqual(temporary.read_bytes(), self.record[:6514])
@@ -1514,6 +1731,7 @@ int main(void)
 
     memset(reel, 0x40, 3200);
     reel[3216] = 0x07, reel[3217] = 0xD0, reel[3221] = 2, reel[3225] = 1;
+    reel[3668] = reel[3670] = 0xD8, reel[3669] = reel[3671] = 0xF0;
     reel[3714] = 0, reel[3715] = 2, reel[3716] = 0x07, reel[3717] = 0xD0;
     reel[3840] = 0x41, reel[3841] = 0x10;
     memcpy(reel + 3844, word, 4);
@@ -1554,7 +1772,19 @@ int main(void)
         return 11;
     listing[161] = 'A';
     taken = aukpocket_take_cards(record, 3471, listing, 3240, out, 3472);
-    return taken.number == 17 && taken.length == 0 && taken.beside == 161 ? 0 : 12;
+    if (taken.number != 17 || taken.length != 0 || taken.beside != 161)
+        return 12;
+    field = aukpocket_look_up(reel, 3848, 1, 71);
+    if (field.number != 0 || field.value != -10000)
+        return 13;
+    reel[3670] = 0, reel[3671] = 7;
+    read = aukpocket_read_reel(reel, 3848, record, 3471);
+    none = aukpocket_look_up(reel, 3848, 1, 41);
+    if (read.number != 18 || read.length != 0 || read.beside != 3670 || none.number != 18 || none.value != 0 || none.beside != 3670)
+        return 14;
+    record[3340] = 0x01;
+    written = aukpocket_write_reel(record, 3471, 1, again, 3848);
+    return written.number == 13 && written.beside == 3339 ? 0 : 15;
 }
 """
 

@@ -4,7 +4,8 @@
 
 The record that the command makes of the sample reel, and the reel itself, are decoded by tests/format_reader.py, which was written from
 the page alone, and compared with the numbers and values that tests/make_sample_reel.py made the reel of. So are records and reels in
-every code, and so are listings. The page's example is held to the command's bytes, and its tables to the layout and to code page 037.
+every code, and so are listings. The page's example is held to the command's bytes, its way to find the power of a group to its rule, and
+its tables to the layout and to code page 037.
 """
 
 import random
@@ -22,7 +23,7 @@ sys.path[:0] = [str(TOP / "tools" / "vectors"), str(TOP / "tests")]
 
 import make_sample_reel as sample  # noqa: E402
 import reels  # noqa: E402
-from format_reader import WIDTHS, listing, read_record, read_reel  # noqa: E402
+from format_reader import GROUPS, POWERS, WIDTHS, listing, read_record, read_reel  # noqa: E402
 
 PAGE = (TOP / "docs" / "FORMAT.md").read_text(encoding="utf-8")
 
@@ -54,6 +55,9 @@ def sample_meaning():
     for i in range(1, sample.T + 1):
         header = {**dict.fromkeys(WIDTHS["trace"], 0), **{b: number for b, _, number in sample.trace_fields(i)}}
         header.update({115: sample.N, 117: sample.INTERVAL})
+        # Elevations in tenths, coordinates as they stand: the sample's scalars are -10 and 1.
+        assert (header.pop(69), header.pop(71)) == (-10, 1)
+        header.update({b: Fraction(header[b], 10) for b in GROUPS[69]})
         traces.append((header, [Fraction(eighths, 8) for eighths in sample.eighths(i)]))
     return cards, binary, traces
 
@@ -66,6 +70,55 @@ def example_bytes(text):
         byte, _, times = shown.partition(" x ")
         content += bytes.fromhex(byte) * int(times or 1)
     return content
+
+
+def smallest(values):
+    """The page's rule: the smallest power from -4 to 4 at which all numbers are whole and fit 32 signed bits; and these numbers."""
+    for power in range(-4, 5):
+        numbers = [value / Fraction(10) ** power for value in values]
+        if all(number.denominator == 1 and -(2**31) <= number < 2**31 for number in numbers):
+            return power, list(map(int, numbers))
+
+
+def multiplied(power, numbers):
+    """The page's way to find it."""
+    while power > -4 and all(-214_748_364 <= number <= 214_748_364 for number in numbers):
+        power, numbers = power - 1, [10 * number for number in numbers]
+    return power, numbers
+
+
+def group_numbers(record, scalar):
+    """The scalar and the numbers of a group in the first trace of a record."""
+    header = record[3269:3449]
+    return [int.from_bytes(header[b - 1 : b - 1 + WIDTHS["trace"][b]], "big", signed=True) for b in (scalar, *GROUPS[scalar])]
+
+
+def check_scalars(command, folder, rnd):
+    """The page's example of coordinates, its table of scalars, and its way against its rule and against the command."""
+    part = PAGE.split("**Elevations and coordinates.**")[1].split("**A sample**")[0]
+    rows = (re.search(rf"^\| {name} \|(.*)$", part, re.M)[1] for name in ("scalar", "power"))
+    scalars, powers = (list(map(int, re.findall(r"-?\d+", row))) for row in rows)
+    assert dict(zip(scalars, powers)) == POWERS
+    reels_of = re.findall(r"(?:coordinates|reel with) (-?\d+), (-?\d+), (-?\d+) and (-?\d+) under (?:the scalar )?(-?\d+)", part)
+    held = re.search(r"the record has (-?\d+), (-?\d+), (-?\d+) and (-?\d+) under the scalar (-?\d+)", part).groups()
+    assert len(reels_of) == 2
+    for *numbers, scalar in reels_of:
+        fields = {71: int(scalar), **dict(zip(GROUPS[71], map(int, numbers)))}
+        record = record_of(command, folder, reels.make_reel(2000, 2, 1, [reels.make_trace([bytes(4)] * 2, fields)]))
+        assert group_numbers(record, 71) == [int(held[4]), *map(int, held[:4])]
+    edges = (0, 1, -1, 21_474, 214_748, 214_749, 214_748_364, 214_748_365, 2**31 - 1, -(2**31))
+    for i in range(400):
+        scalar = rnd.choice(list(POWERS))
+        numbers = [rnd.choice((0, 0, rnd.choice(edges), -rnd.choice(edges[:-1]), rnd.randrange(-(10 ** (i % 9)), 10 ** (i % 9) + 1)))
+                   for _ in GROUPS[69]]
+        found = smallest([number * Fraction(10) ** POWERS[scalar] for number in numbers])
+        assert found == multiplied(POWERS[scalar], numbers), (scalar, numbers)
+        if i % 10 == 0:
+            reel = reels.make_reel(2000, 2, 1, [reels.make_trace([bytes(4)] * 2, {69: scalar, **dict(zip(GROUPS[69], numbers))})])
+            record = record_of(command, folder, reel)
+            held = group_numbers(record, 69)
+            assert (POWERS[held[0]], held[1:]) == found, (scalar, numbers)
+            assert read_record(record) == read_reel(reel)
 
 
 def check_page(command, folder):
@@ -102,6 +155,7 @@ def main():
     with tempfile.TemporaryDirectory() as folder:
         folder = Path(folder)
         check_page(command, folder)
+        check_scalars(command, folder, random.Random(69))
         reel = sample.SAMPLE.read_bytes()
         meant = sample_meaning()
         assert read_record(record_of(command, folder, reel)) == meant
@@ -116,7 +170,7 @@ def main():
                 reel = reels.random_reel(rnd, code, n, t)
                 assert read_record(record_of(command, folder, reel)) == read_reel(reel), (code, n, t)
                 count += n * t
-    said = f"the page's example and tables, the sample's record, two listings and {count} further samples agree"
+    said = f"the page's examples and tables, its way to find a power, the sample's record, two listings and {count} further samples agree"
     print(f"format: {said}, {time.monotonic() - begun:.0f} s")
 
 

@@ -18,6 +18,10 @@ WIDTHS = {
 }
 INTERVAL, COUNT, CODE, TRACE_COUNT, TRACE_INTERVAL = 3217, 3221, 3225, 115, 117
 
+# Elevations and depths, and coordinates, by the number that is their scalar; the power of ten that a scalar stands for.
+GROUPS = {69: (41, 45, 49, 53, 57, 61, 65), 71: (73, 77, 81, 85)}
+POWERS = {-10000: -4, -1000: -3, -100: -2, -10: -1, 1: 0, 10: 1, 100: 2, 1000: 3, 10000: 4}
+
 
 def check(fact, what):
     if not fact:
@@ -34,6 +38,16 @@ def numbers(header, content):
     return {b: signed(content[b - first : b - first + widths[b]]) for b in sorted(widths)}
 
 
+def scaled(header, powers):
+    """The numbers of a trace header with the values of its elevations and coordinates in place of their numbers and scalars."""
+    values = dict(header)
+    for scalar, group in GROUPS.items():
+        check(values[scalar] in powers, "a scalar")
+        power = powers[values.pop(scalar)]
+        values.update({b: header[b] * Fraction(10) ** power for b in group})
+    return values
+
+
 def card_text(content):
     return [content[i : i + 80].decode("cp037") for i in range(0, 3200, 80)]
 
@@ -44,7 +58,8 @@ def listing(cards):
 
 
 def read_record(data):
-    """What a record holds: its cards, binary header numbers without the format code, and traces of numbers and values."""
+    """What a record holds: its cards, binary header numbers without the format code, and traces of header numbers and sample values.
+    Elevations and coordinates are values, and their scalars are left out."""
     place = 0
 
     def field(tag, length):
@@ -63,8 +78,10 @@ def read_record(data):
     for _ in range(t):
         header = numbers("trace", field(3, 180))
         check((header[TRACE_COUNT], header[TRACE_INTERVAL]) == (n, binary[INTERVAL]), "a trace header")
+        for scalar, group in GROUPS.items():
+            check(header[scalar] == -10000 or any(abs(header[b]) > 214_748_364 for b in group), "a power that isn't the smallest")
         pairs = field(4, 6 * n)
-        traces.append((header, [pair_value(pairs[i : i + 6]) for i in range(0, 6 * n, 6)]))
+        traces.append((scaled(header, POWERS), [pair_value(pairs[i : i + 6]) for i in range(0, 6 * n, 6)]))
     field(5, 4)
     check(place == len(data) == 3273 + t * (186 + 6 * n), "bytes after the record")
     return card_text(cards), binary, traces
@@ -92,7 +109,8 @@ def read_reel(data):
         check(header[TRACE_COUNT] in (0, n) and header[TRACE_INTERVAL] in (0, interval), "a trace header")
         header.update({TRACE_COUNT: n, TRACE_INTERVAL: interval})
         words = data[start + 240 : start + length]
-        traces.append((header, [word_value(code, words[i : i + width]) for i in range(0, len(words), width)]))
+        values = [word_value(code, words[i : i + width]) for i in range(0, len(words), width)]
+        traces.append((scaled(header, {**POWERS, 0: 0, -1: 0}), values))
     return card_text(data[:3200].replace(b"\x00", b"\x40")), binary, traces
 
 
@@ -114,7 +132,7 @@ def main():
     print(*cards, sep="\n")
     print("binary header", binary)
     for i, (header, values) in enumerate(traces, 1):
-        print(f"trace {i}", header, *map(str, values))
+        print(f"trace {i}", {b: str(number) for b, number in header.items()}, *map(str, values))
 
 
 if __name__ == "__main__":

@@ -3,15 +3,22 @@
 use crate::cards;
 use crate::layout::{number, Shape, BINARY, FIRST_PAIR, FIRST_TRACE, SAMPLES, TAG};
 use crate::refusals::{field, pair_value};
+use crate::scalars;
 use crate::sha256::Sum;
 use crate::trouble::Trouble;
 use std::fmt::Display;
 use std::io::Read;
 use std::ops::Range;
 
-/// What is read at a time, and the most bytes of a part that can differ at its first.
+/// What is read at a time.
 const PIECE: usize = 1 << 20;
-const PART: usize = 6;
+
+/// What is kept of a file from its first difference on: as many bytes as a trace header has from field 41 to the end of its scalars. No
+/// other part of a record is as long.
+const KEPT: usize = 32;
+
+/// The bytes of a sample.
+const PAIR: usize = 6;
 
 /// What a file turned out to be beside the bytes that it should have.
 pub struct Compared {
@@ -46,7 +53,7 @@ pub fn compare(
         sum.add(&piece);
         let rest = expected.get(place..).unwrap_or(&[]);
         if let Some((_, found)) = &mut first {
-            found.extend(piece.iter().take(PART.saturating_sub(found.len())));
+            found.extend(piece.iter().take(KEPT.saturating_sub(found.len())));
         }
         if !rest.starts_with(&piece) {
             differing += piece.iter().zip(rest).filter(|(a, b)| a != b).count() as u64;
@@ -54,7 +61,7 @@ pub fn compare(
                 let same = piece.iter().zip(rest).take_while(|(a, b)| a == b).count();
                 first = Some((
                     place + same,
-                    piece[same..].iter().take(PART).copied().collect(),
+                    piece[same..].iter().take(KEPT).copied().collect(),
                 ));
             }
         }
@@ -71,7 +78,7 @@ pub fn compare(
     })
 }
 
-/// The first difference in words: where it stands, what the reel has there and what the file has.
+/// The first difference in words: where it stands, what the reel's record has there and what the file has.
 pub fn difference(record: &[u8], compared: &Compared) -> Option<String> {
     let (place, found) = compared.first.as_ref()?;
     let place = *place;
@@ -90,27 +97,41 @@ pub fn difference(record: &[u8], compared: &Compared) -> Option<String> {
             part.name
         ));
     }
-    let mut other = record[part.bytes.start..place].to_vec();
-    other.extend(found.iter().take(part.bytes.end - place));
-    let in_file = if other.len() == part.bytes.len() {
-        (part.shown)(&other)
-    } else {
-        "cut short".to_string()
-    };
+    let in_record = part.shown(|at| record.get(at).copied());
+    // What stands before the first difference is as in the record.
+    let in_file = part.shown(|at| match at.checked_sub(place) {
+        None => record.get(at).copied(),
+        Some(behind) => found.get(behind).copied(),
+    });
+    let shown = |text: Option<String>| text.unwrap_or_else(|| "cut short".to_string());
     Some(format!(
-        "{} is {} by the reel and {in_file} in the file (place {place}; {} of {} bytes differ)",
+        "{} is {} by the reel's record and {} in the file (place {place}; {} of {} bytes differ)",
         part.name,
-        (part.shown)(&record[part.bytes.clone()]),
+        shown(in_record),
+        shown(in_file),
         compared.differing,
         record.len()
     ))
 }
 
-/// A part of a record that has one meaning: its name, its bytes, and how these are shown.
+/// A part of a record that has one meaning: its name, its bytes, how these are shown, and the bytes of the scalar that acts on it.
 struct Part {
     name: String,
     bytes: Range<usize>,
-    shown: fn(&[u8]) -> String,
+    in_words: fn(&[u8]) -> String,
+    scalar: Option<Range<usize>>,
+}
+
+impl Part {
+    /// The part in words, by the byte at each place. None where one is missing.
+    fn shown(&self, byte_at: impl Fn(usize) -> Option<u8>) -> Option<String> {
+        let bytes = |range: &Range<usize>| range.clone().map(&byte_at).collect::<Option<Vec<u8>>>();
+        let text = (self.in_words)(&bytes(&self.bytes)?);
+        Some(match &self.scalar {
+            Some(scalar) => format!("{text} under scalar {}", whole(&bytes(scalar)?)),
+            None => text,
+        })
+    }
 }
 
 /// The part that a place in a record falls in.
@@ -118,7 +139,8 @@ fn part_at(record: &[u8], place: usize) -> Part {
     let tag = |start: usize, name: String| Part {
         name,
         bytes: start..start + TAG,
-        shown: tag_and_length,
+        in_words: tag_and_length,
+        scalar: None,
     };
     if place < TAG {
         return tag(0, "the tag and length of the cards".to_string());
@@ -132,7 +154,8 @@ fn part_at(record: &[u8], place: usize) -> Part {
                 from % cards::COLUMNS + 1
             ),
             bytes: place..place + 1,
-            shown: card,
+            in_words: card,
+            scalar: None,
         };
     }
     if place < BINARY + TAG {
@@ -160,7 +183,8 @@ fn part_at(record: &[u8], place: usize) -> Part {
             Part {
                 name: "the count of traces".to_string(),
                 bytes: start + TAG..record.len(),
-                shown: whole,
+                in_words: whole,
+                scalar: None,
             }
         };
     }
@@ -179,12 +203,13 @@ fn part_at(record: &[u8], place: usize) -> Part {
             format!("the tag and length of trace {trace}'s samples"),
         );
     }
-    let sample = (rest - FIRST_PAIR) / PART;
-    let first = start + FIRST_PAIR + sample * PART;
+    let sample = (rest - FIRST_PAIR) / PAIR;
+    let first = start + FIRST_PAIR + sample * PAIR;
     Part {
         name: format!("trace {trace}, sample {}", sample + 1),
-        bytes: first..first + PART,
-        shown: |pair| pair_value(pair, 0),
+        bytes: first..first + PAIR,
+        in_words: |pair| pair_value(pair, 0),
+        scalar: None,
     }
 }
 
@@ -203,7 +228,11 @@ fn header_field(trace: usize, content: usize, place: usize, of: String) -> Part 
     Part {
         name: format!("{of}, {}", field(trace, first + start)),
         bytes: content + start..content + next,
-        shown: whole,
+        in_words: whole,
+        scalar: scalars::acting_on(first + start).map(|scalar| {
+            let place = content + scalar - 1;
+            place..place + 2
+        }),
     }
 }
 
@@ -272,7 +301,7 @@ mod tests {
             let compared = compare(&mut &other[..], &record, "").ok().unwrap();
             let (first, found) = compared.first.unwrap();
             assert_eq!((first, compared.differing), (place, 1));
-            assert_eq!(found, other[place..(place + PART).min(other.len())]);
+            assert_eq!(found, other[place..(place + KEPT).min(other.len())]);
         }
         for length in [0, 1, PIECE, 3 * PIECE - 1] {
             let compared = compare(&mut &record[..length], &record, "").ok().unwrap();

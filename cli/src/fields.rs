@@ -160,6 +160,14 @@ pub fn header(trace: usize) -> &'static [Field] {
     }
 }
 
+/// What the field of a trace header that begins at a byte number holds.
+pub fn meaning(byte_number: usize) -> &'static str {
+    TRACE
+        .iter()
+        .find(|field| field.0 as usize == byte_number)
+        .map_or("unassigned bytes", |field| field.2)
+}
+
 /// The byte number of a field by its name. `count` is another name of `samples`.
 pub fn byte_number(header: &[Field], name: &str) -> Option<u32> {
     let name = if name == "count" { "samples" } else { name };

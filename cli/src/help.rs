@@ -48,6 +48,13 @@ meaning in revision 0. Those that aren't 0 are counted, and a warning on standar
 the exit status stays as it is.
 ";
 
+const SCALARS: &str = "
+Elevations and depths (trace fields 41 to 65, by the scalar in field 69) and coordinates (73 to 85, by
+field 71) count by their scaled values: the record has for each trace the smallest power of ten from -4 to
+4 at which all of a group's numbers are whole and fit 32 bits. Scalars other than 0, 1, -1, and plus or
+minus 10, 100, 1000 and 10000 are refused by 18.
+";
+
 const STATUS: &str = "
 Exit status: 0 fine, 1 wrong words or trouble with a file or memory, 2 refused.
 ";
@@ -59,7 +66,7 @@ aukpocket read REEL RECORD [--force]
 
 Reads the reel and writes its canonical record: the cards, every header number and the exact value of
 every sample. Two reels have the same record exactly when they mean the same.
-{LEFT_OUT}{OUTPUT}{STATUS}"
+{SCALARS}{LEFT_OUT}{OUTPUT}{STATUS}"
     )
 }
 
@@ -76,7 +83,9 @@ Writes the record as a reel in a format code:
   4  two bytes with a gain, four bytes in all
 
 A code that can't hold some sample exactly is refused by 14. Reading the written reel gives the record
-again, byte for byte.
+again, byte for byte. Elevations and coordinates, and their scalars, are written as they stand in the
+record: the same values as on the reel that it was made of, perhaps by other numbers. A record made before
+scalars counted is refused by 13; see EARLIER RECORDS in aukpocket(1), or README.md.
 {OUTPUT}{STATUS}"
     )
 }
@@ -88,7 +97,8 @@ aukpocket look REEL TRACE BYTE
 
 Prints the signed number in one header field. TRACE is 0 for the binary header, 1 for the first trace.
 BYTE is the byte number at which the field begins, or its name. A 0 in trace fields 115 and 117 is
-taken as the reel's. Any fault of the reel is refused first.
+taken as the reel's. All else is the bare number on the reel: no scalar (fields 69 and 71) is applied to
+elevations and coordinates. Any fault of the reel is refused first.
 {STATUS}
 Fields of the binary header (TRACE 0); samples is also called count:
 {}
@@ -156,9 +166,9 @@ aukpocket verify REEL RECORD
 
 With a record, before a tape is destroyed: reads the reel and compares its record with the file RECORD,
 byte for byte. The file is read from the disk itself, where the system allows that. The first difference is
-named by trace and field or sample. What it prints can be kept and handed to `sha256sum -c`: the SHA-256 of
-both files, and a line that begins with # and says whether the file is the reel's record. The reel and its
-record have to fit in memory.
+named by trace and field or sample; elevations and coordinates stand there as in a record, with their
+scalar. What it prints can be kept and handed to `sha256sum -c`: the SHA-256 of both files, and a line that
+begins with # and says whether the file is the reel's record. The reel and its record have to fit in memory.
 
 Without one: reads the reel, writes its record in each of the codes 1 to 4, reads each written reel again
 and compares the records byte for byte. Says which codes hold the reel's samples exactly. The record, one

@@ -7,6 +7,11 @@ use aukpocket::{record_length, reel_length};
 pub const CARDS: usize = 3200;
 pub const HEADERS: usize = 3600;
 
+/// The places on a reel of the interval, the samples a trace and the format code.
+pub const INTERVAL_PLACE: usize = 3216;
+pub const COUNT_PLACE: usize = 3220;
+pub const CODE_PLACE: usize = 3224;
+
 /// The bytes of a field's tag and length in a record, and the places of its tag 02 and of its first trace.
 pub const TAG: usize = 3;
 pub const BINARY: usize = TAG + CARDS;
@@ -38,13 +43,13 @@ pub struct Shape {
 impl Shape {
     /// Of a reel. One that is too short for its headers has no traces.
     pub fn of_reel(reel: &[u8]) -> Shape {
-        let code = number(reel, 3224);
-        let samples = number(reel, 3220);
+        let code = number(reel, CODE_PLACE);
+        let samples = number(reel, COUNT_PLACE);
         let width = if code == 3 { 2 } else { 4 };
         let trace_length = 240 + width * usize::from(samples);
         let traces = reel.len().saturating_sub(HEADERS) / trace_length;
         Shape {
-            interval: number(reel, 3216),
+            interval: number(reel, INTERVAL_PLACE),
             samples,
             code,
             trace_length,

@@ -81,7 +81,7 @@ pub struct Taken {
     pub length: usize,
 }
 
-/// A refusal: the number of its cause, 1 to 17, and what stands beside it: a place, counted from 0, or a length.
+/// A refusal: the number of its cause, 1 to 18, and what stands beside it: a place, counted from 0, or a length.
 #[derive(Clone, Copy, Debug, PartialEq, Eq)]
 pub struct Refusal {
     pub number: u64,
@@ -224,7 +224,7 @@ fn counts(answer: c::ReelAnswer, room: usize) -> Result<Taken, Refusal> {
 
 fn refusal(number: u64, beside: u64) -> Refusal {
     assert!(
-        number <= 17,
+        number <= 18,
         "the library refuses by {number}, which is no cause"
     );
     Refusal { number, beside }
@@ -314,6 +314,37 @@ mod tests {
         assert_eq!(look_up(&reel, 1, 115), Ok(2));
         assert_eq!(look_up(&reel, 2, 115).unwrap_err().number, 15);
         assert_eq!(look_up(&reel, 1, 116).unwrap_err().number, 16);
+    }
+
+    /// Elevations and coordinates: a record has the smallest power's scalar, a field is looked up as it stands on the reel.
+    #[test]
+    fn scalars() {
+        let record_of = |reel: &[u8]| {
+            let mut record = vec![0; 3471];
+            read_reel(reel, &mut record).map(|_| record)
+        };
+        let mut reel = example();
+        reel[3640..3644].copy_from_slice(&1000i32.to_be_bytes());
+        reel[3668..3670].copy_from_slice(&(-10i16).to_be_bytes());
+        let mut record = record_of(&reel).unwrap();
+        assert_eq!(record[3309..3313], 1_000_000i32.to_be_bytes());
+        assert_eq!(record[3337..3341], [0xD8, 0xF0, 0xD8, 0xF0]);
+        assert_eq!(look_up(&reel, 1, 41), Ok(1000));
+        assert_eq!(look_up(&reel, 1, 69), Ok(-10));
+        assert_eq!(look_up(&reel, 1, 71), Ok(0));
+        // The same elevation under another scalar.
+        let mut other = reel.clone();
+        other[3640..3644].copy_from_slice(&10_000i32.to_be_bytes());
+        other[3668..3670].copy_from_slice(&(-100i16).to_be_bytes());
+        assert_eq!(record_of(&other), Ok(record.clone()));
+        other[3670..3672].copy_from_slice(&7i16.to_be_bytes());
+        let refused = record_of(&other).unwrap_err();
+        assert_eq!((refused.number, refused.beside), (18, 3670));
+        assert_eq!(look_up(&other, 0, 3217), Err(refused));
+        record[3339..3341].copy_from_slice(&1i16.to_be_bytes());
+        let refused = write_reel(&record, 1, &mut []).unwrap_err();
+        assert_eq!((refused.number, refused.beside), (13, 3339));
+        assert_eq!(list_cards(&record).unwrap_err(), refused);
     }
 
     #[test]

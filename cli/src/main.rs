@@ -10,6 +10,7 @@ mod layout;
 mod left_out;
 mod listing;
 mod refusals;
+mod scalars;
 mod sha256;
 mod system;
 mod trouble;
@@ -655,12 +656,8 @@ fn verify_record(reel_path: &Path, record_path: &Path) -> Result<(), Trouble> {
     step(format_args!("comparing {record_name}"), length);
     system::forget(&file);
     let compared = compare::compare(&mut file, &record, &record_name)?;
-    let difference = match compare::difference(&record, &compared) {
-        Some(_) if length >= layout::HEADERS as u64 && is_reel_file(record_path) => {
-            Some("it is a reel, not a record".to_string())
-        }
-        difference => difference,
-    };
+    let difference = compare::difference(&record, &compared)
+        .map(|difference| with_kind(record_path, difference));
     let said = match difference {
         None => "is the record, byte for byte, of",
         Some(_) => "is NOT the record of",
@@ -692,9 +689,23 @@ fn verify_record(reel_path: &Path, record_path: &Path) -> Result<(), Trouble> {
     }
 }
 
-/// Whether a file that isn't the record it should be is a reel. One that can't be read twice is none.
-fn is_reel_file(path: &Path) -> bool {
-    path.is_file() && files::load(path).is_ok_and(|bytes| is_reel(&bytes))
+/// What is wrong with a file that isn't the record it should be: its difference; where it is refused at a scalar, as earlier records are,
+/// that too; or else that it is a reel. Of one that can't be read twice there is the difference alone.
+fn with_kind(path: &Path, difference: String) -> String {
+    let bytes = match path.is_file() {
+        true => files::load(path).unwrap_or_default(),
+        false => Vec::new(),
+    };
+    if is_reel(&bytes) {
+        return "it is a reel, not a record".to_string();
+    }
+    match record_fault(write_reel(&bytes, 1, &mut [])) {
+        Some(refusal) if refusals::is_at_scalar(&bytes, refusal) => {
+            let refused = refusals::of_record(&bytes, 1, refusal);
+            format!("{difference}; it is {refused}")
+        }
+        _ => difference,
+    }
 }
 
 /// A file's name as `sha256sum` lists it: a name with a line's end or a backslash is escaped, which a backslash before the sum says.
@@ -802,7 +813,7 @@ fn check(_: &Words) -> Result<(), Trouble> {
             taken.traces, taken.samples, taken.length
         )),
         Err(Refusal { number: 10, beside }) => {
-            let samples = u64::from(number(&reel, 3220));
+            let samples = u64::from(number(&reel, layout::COUNT_PLACE));
             let traces = (beside - 3273) / (186 + 6 * samples);
             print(&format!("taken {traces} {samples} {beside}\n"))
         }

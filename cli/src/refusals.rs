@@ -1,18 +1,26 @@
 //! A refusal in a sentence: the number, what is wrong, the place, and the trace and field that it falls in.
 
 use crate::cards::{COLUMNS, COUNT};
-use crate::fields::header;
+use crate::fields::{header, meaning};
 use crate::kinds::{is_record, is_reel};
 use crate::layout::{
     binary_place, number, Shape, BINARY, CARDS, FIRST_PAIR, FIRST_TRACE, HEADERS, SAMPLES, TAG,
 };
 use crate::listing::{exact, quoted, Edited};
+use crate::scalars::{self, COORDINATES, ELEVATIONS};
 use aukpocket::{Refusal, LISTING_LENGTH};
 
 /// The most traces that a reel or record has.
 const MOST_TRACES: usize = 100_000;
 
-/// A reel's refusal, by 1 to 10. That it is a record is said first.
+/// The scalars that a reel may have.
+const ALLOWED: &str = "0, 1, -1, or plus or minus 10, 100, 1000 or 10000";
+
+/// Where a user with an earlier record reads on.
+const EARLIER: &str = "records made before the rule of the smallest power are refused so: see EARLIER RECORDS in aukpocket(1), \
+                       or README.md";
+
+/// A reel's refusal, by 1 to 10 or by 18. That it is a record is said first.
 pub fn of_reel(reel: &[u8], refusal: Refusal) -> String {
     if is_record(reel) {
         return format!("is a record, not a reel: {}", as_reel(reel, refusal));
@@ -67,6 +75,14 @@ fn as_reel(reel: &[u8], refusal: Refusal) -> String {
             reel.get(place).copied().unwrap_or(0),
             reel_at(&shape, place)
         ),
+        18 => {
+            let (trace, rest) = reel_trace_at(&shape, place);
+            format!(
+                "the {} is {signed}, not {ALLOWED} (place {place}: trace {trace}, {})",
+                meaning(rest + 1),
+                field(trace, rest + 1)
+            )
+        }
         _ => return other(refusal),
     };
     sentence(refusal, &what)
@@ -187,10 +203,15 @@ fn binary_at(place: usize) -> String {
     format!("place {place}: binary header, {}", field(0, place + 1))
 }
 
-/// A place in a trace of a reel.
-fn reel_at(shape: &Shape, place: usize) -> String {
+/// A place in a trace of a reel: the trace, from 1, and the bytes from its first.
+fn reel_trace_at(shape: &Shape, place: usize) -> (usize, usize) {
     let from = place.saturating_sub(HEADERS);
-    let (trace, rest) = (from / shape.trace_length + 1, from % shape.trace_length);
+    (from / shape.trace_length + 1, from % shape.trace_length)
+}
+
+/// A place in a trace of a reel, by what it belongs to.
+fn reel_at(shape: &Shape, place: usize) -> String {
+    let (trace, rest) = reel_trace_at(shape, place);
     if rest < 240 {
         format!("place {place}: trace {trace}, {}", field(trace, rest + 1))
     } else {
@@ -236,6 +257,22 @@ fn record_at(record: &[u8], place: usize) -> String {
     format!("place {place}: {part}")
 }
 
+/// Whether a record is refused by 13 at a scalar.
+pub fn is_at_scalar(record: &[u8], refusal: Refusal) -> bool {
+    refusal.number == 13 && scalar_at(record, place_of(refusal)).is_some()
+}
+
+/// The byte number of the scalar that stands at a place in a record, where one does.
+fn scalar_at(record: &[u8], place: usize) -> Option<usize> {
+    if place < FIRST_TRACE {
+        return None;
+    }
+    let rest = trace_at(record, place).1;
+    [ELEVATIONS, COORDINATES]
+        .into_iter()
+        .find(|scalar| rest == TAG + scalar - 1)
+}
+
 /// Number 13: what is wrong with the number at a place.
 fn wrong_number(record: &[u8], place: usize) -> String {
     let at = record_at(record, place);
@@ -252,6 +289,19 @@ fn wrong_number(record: &[u8], place: usize) -> String {
         } else {
             format!("the format code is {signed}, where a record has 0 ({at})")
         };
+    }
+    if let Some(scalar) = scalar_at(record, place) {
+        let header = record.get(place + 1 - scalar..).unwrap_or(&[]);
+        let what = match scalars::of_record(header, scalar) {
+            Some(smallest) => {
+                format!("and that of the smallest power for their numbers is {smallest}")
+            }
+            None => "which no record has".to_string(),
+        };
+        return format!(
+            "the {} is {signed}, {what} ({at}); {EARLIER}",
+            meaning(scalar)
+        );
     }
     match trace_at(record, place).1 {
         rest if rest == TAG + 114 => format!(
