@@ -59,7 +59,7 @@ module _ (s₁ s₂ : List ℕ) (k : ℕ) where
 -- ## Traces
 
 -- The number of a field of the trace at a place.
-abbrev numberIn : List ℕ → ℕ → Field → ℤ
+abbrev pub numberIn : List ℕ → ℕ → Field → ℤ
 numberIn s at = traceNumber s (samplesOf s) (intervalOf s) at
 
 -- The bare numbers of the trace at a place, its elevations, its coordinates, and its values.
@@ -105,7 +105,7 @@ before : (k : ℕ) → suc k - 1 ≡ k
 before k = omega arith
 
 -- The header number that looking up gives of trace k + 1 is that of the trace at its place;
-looked-up : (s : List ℕ) (k : ℕ) (f : Field) → headerNumber s (suc k) f ≡ numberIn s (firstTrace + k * strideOf s) f
+pub looked-up : (s : List ℕ) (k : ℕ) (f : Field) → headerNumber s (suc k) f ≡ numberIn s (firstTrace + k * strideOf s) f
 looked-up s k f =
     ap₂ (λ (b : Bool) (i : ℕ). pick b (fieldNumber s 0 f) (numberIn s (firstTrace + i * strideOf s) f)) (not-binary k) (before k)
 
@@ -115,7 +115,7 @@ unfolding traceNumbers
 numbers-looked s k = each-map (headerNumber s (suc k)) (numberIn s (firstTrace + k * strideOf s)) (looked-up s k) bareFields
 
 -- and the scaled values of a group.
-group-looked : (s : List ℕ) (k : ℕ) (scalar : Field) (fields : List Field)
+pub group-looked : (s : List ℕ) (k : ℕ) (scalar : Field) (fields : List Field)
     → let at = firstTrace + k * strideOf s in map (scaledValue s k scalar) fields ≡ scaledValues (numberIn s at scalar) (map (numberIn s at) fields)
 group-looked s k scalar [] = refl
 group-looked s k scalar (f ∷ fs) =

@@ -1,4 +1,4 @@
--- The theorems that answer the user's three demands, and the laws that they rest on.
+-- The theorems that answer the user's three demands and the change requests, and the laws that they rest on.
 pub mod Proper
 pub mod Valid
 pub mod Again
@@ -17,3 +17,4 @@ pub mod Demand1
 pub mod Demand2
 pub mod Demand3
 pub mod Determined
+pub mod Scalars

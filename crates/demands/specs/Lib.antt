@@ -1,5 +1,6 @@
--- What the theorems of the three demands are stated with: valid records, words of a value, the table of each call, and what the calls give.
+-- What the theorems of the three demands are stated with: valid records, words of a value, the table of each call, what the calls give, and what a record holds of scaled values.
 pub mod ValidRecord
 pub mod Words
 pub mod Tables
 pub mod Results
+pub mod Scalars

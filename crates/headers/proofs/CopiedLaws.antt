@@ -82,11 +82,11 @@ module _ (s : List ℕ) (b : Bytes s) (n i at : ℕ) where
       (ap₂ (λ (x y : List ℕ). x ++ y) (ap (bytesOf 2) (fill-bits i (number16 s (at + 116)) (number-at s b (at + 116) 2))) (fields-again s b at 119 trace-back (omega arith))))
 
   -- no field of a group is filled in
-  elevations-bare : map (traceNumber s n i at) elevationFields ≡ map (fieldNumber s at) elevationFields
+  pub elevations-bare : map (traceNumber s n i at) elevationFields ≡ map (fieldNumber s at) elevationFields
   unfolding elevationFields traceFields traceWidths
   elevations-bare = refl
 
-  coordinates-bare : map (traceNumber s n i at) coordinateFields ≡ map (fieldNumber s at) coordinateFields
+  pub coordinates-bare : map (traceNumber s n i at) coordinateFields ≡ map (fieldNumber s at) coordinateFields
   unfolding coordinateFields traceFields traceWidths
   coordinates-bare = refl
 

@@ -80,6 +80,15 @@ pub record HeaderFits (h : Header) : Type 0 where
   pub before : Fit widths-front (take 12 (h .numbers))
   pub after : Fit widths-behind (drop 12 (h .numbers))
 
+-- LAW. Of 71 numbers that fit their fields, the elevations and the coordinates fit 32 signed bits.
+pub groups-fit : (zs : List ℤ) → Fit traceWidths zs → Fit32 (elevationsIn zs) × Fit32 (coordinatesIn zs)
+groups-fit zs p =
+    let a = fit-split widths-front (replicate 7 4 ++ (2 ∷ 2 ∷ (replicate 4 4 ++ widths-behind))) zs 12 size-front (rw widths-are at p) in
+    let b = fit-split (replicate 7 4) (2 ∷ 2 ∷ (replicate 4 4 ++ widths-behind)) (drop 12 zs) 7 refl (a .1) in
+    let c = fit-split (2 ∷ 2 ∷ []) (replicate 4 4 ++ widths-behind) (scalarsOn zs) 2 refl (b .1) in
+    let d = fit-split (replicate 4 4) widths-behind (drop 2 (scalarsOn zs)) 4 refl (c .1) in
+    (fit-words 7 (elevationsIn zs) (b .0), fit-words 4 (coordinatesIn zs) (d .0))
+
 -- LAW. 71 numbers that fit their fields mean such a header.
 pub listed-fits : (zs : List ℤ) → Fit traceWidths zs → HeaderFits (listed zs)
 unfolding listed
@@ -90,16 +99,15 @@ listed-fits zs p =
     let d = fit-split (replicate 4 4) widths-behind (drop 2 (scalarsOn zs)) 4 refl (c .1) in
     let n : length (front zs) ≡ 12 = fit-length widths-front (front zs) (a .0) ∙ size-front in
     let m : length (behind zs) ≡ 46 = fit-length widths-behind (behind zs) (d .1) ∙ size-behind in
-    let es = fit-words 7 (elevationsIn zs) (b .0) in
-    let cs = fit-words 4 (coordinatesIn zs) (d .0) in
+    let g = groups-fit zs p in
     record {
       scaled =
           record {
             others = length-append (front zs) (behind zs) ∙ omega arith;
             seven = length-map (elevationsIn zs) _ ∙ fit-length (replicate 7 4) (elevationsIn zs) (b .0);
             four = length-map (coordinatesIn zs) _ ∙ fit-length (replicate 4 4) (coordinatesIn zs) (d .0);
-            elevations-served = smallest-lt (elevationsIn zs) (powerOf (elevationScalarIn zs)) (power-lt (elevationScalarIn zs)) es;
-            coordinates-served = smallest-lt (coordinatesIn zs) (powerOf (coordinateScalarIn zs)) (power-lt (coordinateScalarIn zs)) cs;
+            elevations-served = smallest-lt (elevationsIn zs) (powerOf (elevationScalarIn zs)) (power-lt (elevationScalarIn zs)) (g .0);
+            coordinates-served = smallest-lt (coordinatesIn zs) (powerOf (coordinateScalarIn zs)) (power-lt (coordinateScalarIn zs)) (g .1);
           };
       before = rw (take-at (front zs) (behind zs) 12 n) (a .0);
       after = rw (drop-at (front zs) (behind zs) 12 n) (d .1);
@@ -196,3 +204,12 @@ allowed-again s start h p e = (
   ap (λ (l : List ℤ). isScalar (elevationScalarIn l)) e ∙ elevation-scalar-allowed h p,
   ap (λ (l : List ℤ). isScalar (coordinateScalarIn l)) e ∙ coordinate-scalar-allowed h p,
 )
+
+-- so on a reel and in a record
+pub elevations-fit : (s : List ℕ) → Bytes s → (start : ℕ) → Fit32 (map (fieldNumber s start) elevationFields)
+unfolding elevationFields traceFields traceWidths
+elevations-fit s b start = groups-fit (map (fieldNumber s start) traceFields) (held-fit s b start) .0
+
+pub coordinates-fit : (s : List ℕ) → Bytes s → (start : ℕ) → Fit32 (map (fieldNumber s start) coordinateFields)
+unfolding coordinateFields traceFields traceWidths
+coordinates-fit s b start = groups-fit (map (fieldNumber s start) traceFields) (held-fit s b start) .1

@@ -1,22 +1,25 @@
 -- Which powers serve a group: up to the power of its own scalar, those at which its largest magnitude stays within 2 ^ 31. Assumes
 -- nothing.
-use mathlib.Core.Path.{_≡_, refl, sym, ap, _∙_, subst}
+use mathlib.Core.Path.{_≡_, refl, sym, ap, ap₂, _∙_, subst}
 use mathlib.Core.Logic.{_⊎_, ⊎-elim}
 use mathlib.Core.Bool.{Bool, true, false, _&&_}
 use mathlib.Core.List.{List, [], _∷_}
 use Prim.Native.Nat.{ℕ, zero, suc, _+_, _-_, _*_, _^_, _≤_, _<_, max}
-use native.Mathlib.Nat.{mul-assoc, one-le-pow, pow-le-pow-right, mul-le-mul-left, mul-le-mul-right, le-max-left, le-max-right, pow-suc, sub-add-cancel, zero-mul, max-eq-left, max-eq-right, eq-or-lt-of-le, le-trans}
+use native.Mathlib.Nat.{not-suc-le-zero, mul-assoc, one-le-pow, pow-le-pow-right, mul-le-mul-left, mul-le-mul-right, le-max-left, le-max-right, pow-suc, sub-add-cancel, zero-mul, max-eq-left, max-eq-right, eq-or-lt-of-le, le-trans}
 use native.Mathlib.Omega.{arith}
 use borrow.Author.Tests.{lt-ltb, le-ltb, le-leb, lt-leb}
 use lib.Dec.{T, leb, ltb, eqb}
 use lib.Pow.{pow-add}
 use lib.IntN.{ℤ, pos, negsuc, negℤ, natAbs, _*ℤ_}
-use lib.ListN.{getD}
+use lib.ListN.{length, getD}
 use lib.Signed.{mag}
 use Rattle.numbers.specs.Walk.{pick}
+use Rattle.numbers.proofs.BoolLaws.{and-false}
 use Rattle.numbers.proofs.SignLaws.{below-or}
 use Rattle.numbers.proofs.WalkLaws.{cons-eq}
-use Rattle.value.specs.Writing.{isNegative, numberOf, holds}
+use Rattle.value.specs.Writing.{isNegative, isMultiple, numberOf, holds, inBits}
+use Rattle.value.proofs.Magnitudes.{signed-mul}
+use Rattle.value.proofs.Held.{mul-multiple}
 use Rattle.value.specs.Value.{signMagnitude}
 use Rattle.numbers.proofs.FirstLaws.{first-at, found}
 use Rattle.scalars.specs.Scalar.{zerosIn, powerOf, powers, scaledBy, serves, smallest, numbersAt, scalarOf, groupNumbers, groupScalar}
@@ -169,3 +172,32 @@ numbers-at (n ∷ ns) p d h = cons-eq (number-at n p d h) (numbers-at ns p d h)
 pub group-is : (ns : List ℤ) (p d : ℕ) → p < powers → Fit32 ns → Raised (largest ns) p d → groupOf (scaledBy p ns) ≡ record { numbers = scaledBy d ns; scalar = scalarOf (p - d) }
 unfolding groupNumbers groupScalar
 group-is ns p d h w r = rw (smallest-is ns p d h w r, numbers-at ns p d (r .most))
+
+-- ## Where a power doesn't serve
+
+-- one number under p, at a power up to p, with zeros behind it
+held-below : (n : ℤ) (p q : ℕ) → q ≤ p → holds 32 (10 ^ q) (n *ℤ pos (10 ^ p)) ≡ inBits 32 (n *ℤ pos (10 ^ (p - q)))
+held-below n p q l =
+    let back : p - (p - q) ≡ q = omega arith in
+    let number : numberOf (10 ^ q) (n *ℤ pos (10 ^ p)) ≡ n *ℤ pos (10 ^ (p - q)) = ap (λ (x : ℕ). numberOf (10 ^ x) (n *ℤ pos (10 ^ p))) (sym back) ∙ number-at n p (p - q) (omega arith) in
+    let parts : n *ℤ pos (10 ^ p) ≡ (n *ℤ pos (10 ^ (p - q))) *ℤ pos (10 ^ q) =
+    signed-times (10 ^ p) n ∙ ap (signMagnitude (isNegative n)) (parted (natAbs n) p q l) ∙ sym (signed-mul (isNegative n) (natAbs n * 10 ^ (p - q)) (10 ^ q)) ∙ ap (λ (z : ℤ). z *ℤ pos (10 ^ q)) (sym (signed-times (10 ^ (p - q)) n)) in
+    let whole : isMultiple (10 ^ q) (n *ℤ pos (10 ^ p)) ≡ true = ap (isMultiple (10 ^ q)) parts ∙ mul-multiple (10 ^ q) (n *ℤ pos (10 ^ (p - q))) in
+    ap₂ (λ (b : Bool) (z : ℤ). b && inBits 32 z) whole number
+
+-- LAW. A power below that of the group's scalar doesn't serve it exactly where some number, with as many zeros behind it, leaves 32 bits.
+pub serves-leaves : (ns : List ℤ) (p q : ℕ) → q ≤ p → serves (scaledBy p ns) q ≡ false → (j : ℕ) × (j < length ns) × (inBits 32 (getD ns j (pos 0) *ℤ pos (10 ^ (p - q))) ≡ false)
+serves-leaves [] p q l e = absurd (subst T e tt)
+serves-leaves (n ∷ ns) p q l e = go (λ x. serves-leaves ns p q l x) (inBits 32 (n *ℤ pos (10 ^ (p - q)))) refl
+  where
+    go : (serves (scaledBy p ns) q ≡ false → (j : ℕ) × (j < length ns) × (inBits 32 (getD ns j (pos 0) *ℤ pos (10 ^ (p - q))) ≡ false))
+        → (b : Bool) → inBits 32 (n *ℤ pos (10 ^ (p - q))) ≡ b → (j : ℕ) × (j < suc (length ns)) × (inBits 32 (getD (n ∷ ns) j (pos 0) *ℤ pos (10 ^ (p - q))) ≡ false)
+    go rest false x = (0, omega arith, x)
+    go rest true x =
+        let r = rest (rw (held-below n p q l, x) at e) in
+        (suc (r .0), omega (arith, r .1), r .2)
+
+pub leaves-serves : (ns : List ℤ) (p q : ℕ) → q ≤ p → (j : ℕ) → j < length ns → inBits 32 (getD ns j (pos 0) *ℤ pos (10 ^ (p - q))) ≡ false → serves (scaledBy p ns) q ≡ false
+leaves-serves [] p q l j h e = absurd (not-suc-le-zero h)
+leaves-serves (n ∷ ns) p q l zero h e = rw (held-below n p q l, e)
+leaves-serves (n ∷ ns) p q l (suc j) h e = rw (leaves-serves ns p q l j (omega arith) e) (and-false (holds 32 (10 ^ q) (n *ℤ pos (10 ^ p))))
