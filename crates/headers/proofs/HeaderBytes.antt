@@ -81,7 +81,7 @@ pub record HeaderFits (h : Header) : Type 0 where
   pub after : Fit widths-behind (drop 12 (h .numbers))
 
 -- LAW. Of 71 numbers that fit their fields, the elevations and the coordinates fit 32 signed bits.
-pub groups-fit : (zs : List ℤ) → Fit traceWidths zs → Fit32 (elevationsIn zs) × Fit32 (coordinatesIn zs)
+groups-fit : (zs : List ℤ) → Fit traceWidths zs → Fit32 (elevationsIn zs) × Fit32 (coordinatesIn zs)
 groups-fit zs p =
     let a = fit-split widths-front (replicate 7 4 ++ (2 ∷ 2 ∷ (replicate 4 4 ++ widths-behind))) zs 12 size-front (rw widths-are at p) in
     let b = fit-split (replicate 7 4) (2 ∷ 2 ∷ (replicate 4 4 ++ widths-behind)) (drop 12 zs) 7 refl (a .1) in
@@ -130,7 +130,7 @@ numbers-fit h p =
 
 -- ## Its 71 numbers and 180 bytes, whatever its fields hold
 
-pub header-count : (f : Field → ℤ) → length (headerNumbers (headerOf f)) ≡ 71
+header-count : (f : Field → ℤ) → length (headerNumbers (headerOf f)) ≡ 71
 unfolding headerNumbers headerOf bareFields elevationFields coordinateFields traceFields traceWidths
 header-count f = simp (length-append, length-held)
 

@@ -45,7 +45,7 @@ two [] h = absurd (omega arith)
 two (x ∷ []) h = absurd (omega arith)
 two (x ∷ y ∷ l) h = refl
 
-pub parts-joined : (zs : List ℤ) → length zs ≡ 71
+parts-joined : (zs : List ℤ) → length zs ≡ 71
     → zs ≡ joined (front zs) (elevationsIn zs) (elevationScalarIn zs) (coordinateScalarIn zs) (coordinatesIn zs) (behind zs)
 parts-joined zs n =
     sym (take-append-drop 12 zs)
@@ -141,10 +141,10 @@ module _ (h : Header) (p : Scaled h) where
   pub elevations-are : elevationsIn (headerNumbers h) ≡ groupNumbers (h .elevations)
   elevations-are = rw drop-front (take-at es on 7 size-elevations)
 
-  pub elevation-scalar-is : elevationScalarIn (headerNumbers h) ≡ groupScalar (h .elevations)
+  elevation-scalar-is : elevationScalarIn (headerNumbers h) ≡ groupScalar (h .elevations)
   elevation-scalar-is = rw drop-elevations
 
-  pub coordinate-scalar-is : coordinateScalarIn (headerNumbers h) ≡ groupScalar (h .coordinates)
+  coordinate-scalar-is : coordinateScalarIn (headerNumbers h) ≡ groupScalar (h .coordinates)
   coordinate-scalar-is = rw drop-elevations
 
   pub coordinates-are : coordinatesIn (headerNumbers h) ≡ groupNumbers (h .coordinates)

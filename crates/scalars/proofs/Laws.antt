@@ -1,5 +1,5 @@
 -- The laws of a group under its scalar. Assumes nothing.
-use mathlib.Core.Path.{_≡_, refl, sym, ap, ap₂, _∙_, subst}
+use mathlib.Core.Path.{_≡_, refl, sym, ap, _∙_, subst}
 use mathlib.Core.Logic.{inr}
 use mathlib.Core.Bool.{Bool, true, false, not, _&&_, _||_}
 use mathlib.Core.List.{List, [], _∷_, _++_}
@@ -66,7 +66,7 @@ there q [] = refl
 there q (n ∷ ns) = cons-eq (mul-quot (10 ^ q) n (ten-pos q)) (there q ns)
 
 -- the smallest power serves, where any does
-pub smallest-serves : (vs : List ℤ) → smallest vs < powers → serves vs (smallest vs) ≡ true
+smallest-serves : (vs : List ℤ) → smallest vs < powers → serves vs (smallest vs) ≡ true
 unfolding smallest
 smallest-serves vs h = found (serves vs) powers 0 .passes h
 
@@ -83,24 +83,6 @@ smallest-held vs h = rw (scale-back vs h) (same-refl (groupScalar vs))
 pub scalar-held : (vs : List ℤ) → smallest vs < powers → isScalar (groupScalar vs) ≡ true
 unfolding groupScalar
 scalar-held vs h = power-scalar (smallest vs) h .1
-
--- LAW. Groups of the same scaled values, each under the scalar of its smallest power, are the same.
-pub scale-only : (z₁ z₂ : ℤ) (ns₁ ns₂ : List ℤ) → isSmallest ns₁ z₁ ≡ true → isSmallest ns₂ z₂ ≡ true
-    → scaledValues z₁ ns₁ ≡ scaledValues z₂ ns₂ → (z₁ ≡ z₂) × (ns₁ ≡ ns₂)
-unfolding isSmallest
-scale-only z₁ z₂ ns₁ ns₂ s₁ s₂ e =
-    let z : z₁ ≡ z₂ = same-true z₁ (groupScalar (scaledValues z₁ ns₁)) s₁ ∙ ap groupScalar e ∙ sym (same-true z₂ (groupScalar (scaledValues z₂ ns₂)) s₂) in
-    (z, sym (there (powerOf z₁) ns₁) ∙ ap₂ numbersAt (ap powerOf z) e ∙ there (powerOf z₂) ns₂)
-
--- LAW. Groups of the same scaled values have the same numbers and scalar in a record, whatever their own scalars.
-pub same-group : (z₁ z₂ : ℤ) (ns₁ ns₂ : List ℤ) → scaledValues z₁ ns₁ ≡ scaledValues z₂ ns₂
-    → (groupNumbers (scaledValues z₁ ns₁) ≡ groupNumbers (scaledValues z₂ ns₂)) × (groupScalar (scaledValues z₁ ns₁) ≡ groupScalar (scaledValues z₂ ns₂))
-same-group z₁ z₂ ns₁ ns₂ e = (ap groupNumbers e, ap groupScalar e)
-
--- LAW. And only they: the record's numbers and scalar give the values back.
-pub group-only : (vs₁ vs₂ : List ℤ) → smallest vs₁ < powers → smallest vs₂ < powers
-    → groupNumbers vs₁ ≡ groupNumbers vs₂ → groupScalar vs₁ ≡ groupScalar vs₂ → vs₁ ≡ vs₂
-group-only vs₁ vs₂ h₁ h₂ n z = sym (scale-back vs₁ h₁) ∙ ap₂ scaledValues z n ∙ scale-back vs₂ h₂
 
 -- LAW. A group under the scalar of its smallest power stands in the record as it is.
 pub held-again : (ns : List ℤ) (z : ℤ) → smallest (scaledValues z ns) < powers → isSmallest ns z ≡ true
@@ -150,7 +132,7 @@ zero-serves : (q : ℕ) → holds 32 (10 ^ q) (pos 0) ≡ true
 zero-serves q = rw (zero-mod (10 ^ q), zero-div (10 ^ q))
 
 -- zeros behind a group serve every power
-pub serves-padded : (vs : List ℤ) (k q : ℕ) → serves (vs ++ replicate k (pos 0)) q ≡ serves vs q
+serves-padded : (vs : List ℤ) (k q : ℕ) → serves (vs ++ replicate k (pos 0)) q ≡ serves vs q
 serves-padded [] zero q = refl
 serves-padded [] (suc k) q = rw (zero-serves q, serves-padded [] k q)
 serves-padded (v ∷ vs) k q = rw (serves-padded vs k q)
@@ -161,12 +143,12 @@ first-same t u e zero i = refl
 first-same t u e (suc n) i = rw (e i, first-same t u e n (suc i))
 
 -- LAW. Zeros behind a group don't change its smallest power, and stay zeros at it.
-pub smallest-padded : (vs : List ℤ) (k : ℕ) → smallest (vs ++ replicate k (pos 0)) ≡ smallest vs
+smallest-padded : (vs : List ℤ) (k : ℕ) → smallest (vs ++ replicate k (pos 0)) ≡ smallest vs
 unfolding smallest
 smallest-padded vs k = first-same (serves (vs ++ replicate k (pos 0))) (serves vs) (serves-padded vs k) powers 0
 
 -- a list of zeros, scaled or at a power
-pub zeros-scaled : (k p : ℕ) → scaledBy p (replicate k (pos 0)) ≡ replicate k (pos 0)
+zeros-scaled : (k p : ℕ) → scaledBy p (replicate k (pos 0)) ≡ replicate k (pos 0)
 zeros-scaled zero p = refl
 zeros-scaled (suc k) p = cons-eq (ap pos (zero-mul (10 ^ p))) (zeros-scaled k p)
 

@@ -67,7 +67,7 @@ edge (negsuc n) k h =
     (λ (l : 2 ^ 31 + 1 ≤ suc n * 10 ^ k). rw (le-ltb (suc n * 10 ^ k) (2 ^ 31 + 1) l, lt-leb (suc n * 10 ^ k) (2 ^ 31) (omega arith))) (below-or (suc n * 10 ^ k) (2 ^ 31 + 1))
 
 -- one number under p, at a power up to p
-pub served : (n : ℤ) (p q : ℕ) → mag n < 2 ^ 31 → q ≤ p → holds 32 (10 ^ q) (n *ℤ pos (10 ^ p)) ≡ leb (natAbs n * 10 ^ (p - q)) (2 ^ 31)
+served : (n : ℤ) (p q : ℕ) → mag n < 2 ^ 31 → q ≤ p → holds 32 (10 ^ q) (n *ℤ pos (10 ^ p)) ≡ leb (natAbs n * 10 ^ (p - q)) (2 ^ 31)
 served n p q h l =
     ap (holds 32 (10 ^ q)) (signed-times (10 ^ p) n ∙ ap (signMagnitude (isNegative n)) (parted (natAbs n) p q l)) ∙ holds-signed (isNegative n) 32 (natAbs n * 10 ^ (p - q)) (10 ^ q) (ten-pos q) ∙ edge n (p - q) h
 
@@ -141,7 +141,7 @@ smallest-lt ns p h w = omega (arith, smallest-le ns p h w)
 -- ## The numbers at the smallest power
 
 -- a negated magnitude of at most 2 ^ 31 fits
-pub neg-fits : (x : ℕ) → x ≤ 2 ^ 31 → mag (negℤ (pos x)) < 2 ^ 31
+neg-fits : (x : ℕ) → x ≤ 2 ^ 31 → mag (negℤ (pos x)) < 2 ^ 31
 neg-fits zero h = omega arith
 neg-fits (suc x) h = omega arith
 
@@ -164,7 +164,7 @@ number-at n p d h =
     let q : a * 10 ^ p ≡ a * 10 ^ d * 10 ^ (p - d) = parted a p (p - d) (omega arith) ∙ ap (λ (x : ℕ). a * 10 ^ x * 10 ^ (p - d)) back in
     ap (numberOf (10 ^ (p - d))) (signed-times (10 ^ p) n ∙ ap (signMagnitude s) q) ∙ quot-signed s (a * 10 ^ d) (10 ^ (p - d)) (ten-pos (p - d)) ∙ sym (signed-times (10 ^ d) n)
 
-pub numbers-at : (ns : List ℤ) (p d : ℕ) → d ≤ p → numbersAt (p - d) (scaledBy p ns) ≡ scaledBy d ns
+numbers-at : (ns : List ℤ) (p d : ℕ) → d ≤ p → numbersAt (p - d) (scaledBy p ns) ≡ scaledBy d ns
 numbers-at [] p d h = refl
 numbers-at (n ∷ ns) p d h = cons-eq (number-at n p d h) (numbers-at ns p d h)
 

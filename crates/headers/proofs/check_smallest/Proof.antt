@@ -27,47 +27,11 @@ at-71 c =
     rw (toZ-ofZ {w = w16} (sfits-of (c .before .scalar-at2 .ok)), c .before .scalar-at2 .ensures, c .before .before .four-at .ensures) at (c .is-smallest2 .ensures) in
     e ∙ test-padded (numbersIn (st .args .s .now) 4 (st .args .start + 72)) 3 (number2 (st .args .s .now) (st .args .start + 70))
 
-add-seven-at : tie.Need-add-seven-at
-add-seven-at c = search needs
-
-seven-at-requires : tie.Need-seven-at-requires
-seven-at-requires c κs = search needs
-
-add-scalar-at : tie.Need-add-scalar-at
-add-scalar-at c = search needs
-
-scalar-at-requires : tie.Need-scalar-at-requires
-scalar-at-requires c κs = search needs
-
-is-smallest-requires : tie.Need-is-smallest-requires
-is-smallest-requires c κs = search needs
-
-add-t9 : tie.Need-add-t9
-add-t9 c = search needs
-
 returns : tie.Need-returns
 unfolding smallestCauses
 returns c =
     let a = c .before .before .before .before .before .args in
     rw (elevations-in (a .s .now) (a .start), sym (at-69 (c .before)) ∙ not-true _ (c .if1 .taken))
-
-add-four-at : tie.Need-add-four-at
-add-four-at c = search needs
-
-four-at-requires : tie.Need-four-at-requires
-four-at-requires c κs = search needs
-
-add-scalar-at-2 : tie.Need-add-scalar-at-2
-add-scalar-at-2 c = search needs
-
-scalar-at-requires-2 : tie.Need-scalar-at-requires-2
-scalar-at-requires-2 c κs = search needs
-
-is-smallest-requires-2 : tie.Need-is-smallest-requires-2
-is-smallest-requires-2 c κs = search needs
-
-add-t11 : tie.Need-add-t11
-add-t11 c = search needs
 
 returns-2 : tie.Need-returns-2
 unfolding smallestCauses
@@ -85,18 +49,18 @@ pub check-smallest-spec : {M : Type 1} → statement M
 check-smallest-spec =
     tie.close
     (tie.spec
-    add-seven-at
-    seven-at-requires
-    add-scalar-at
-    scalar-at-requires
-    is-smallest-requires
-    add-t9
+    (λ c. search needs)
+    (λ c κs. search needs)
+    (λ c. search needs)
+    (λ c κs. search needs)
+    (λ c κs. search needs)
+    (λ c. search needs)
     returns
-    add-four-at
-    four-at-requires
-    add-scalar-at-2
-    scalar-at-requires-2
-    is-smallest-requires-2
-    add-t11
+    (λ c. search needs)
+    (λ c κs. search needs)
+    (λ c. search needs)
+    (λ c κs. search needs)
+    (λ c κs. search needs)
+    (λ c. search needs)
     returns-2
     returns-3)

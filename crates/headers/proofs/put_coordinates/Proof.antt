@@ -20,51 +20,6 @@ use borrow.Author.Needs.{sfits-of, needs}
 use Rattle.headers.proofs.put_coordinates.Statement.{statement}
 use Rattle.headers.proofs.put_coordinates.Tie as tie
 
-add-four-at : tie.Need-add-four-at
-add-four-at c = search needs
-
-four-at-requires : tie.Need-four-at-requires
-four-at-requires c κs = search needs
-
-add-scalar-at : tie.Need-add-scalar-at
-add-scalar-at c = search needs
-
-scalar-at-requires : tie.Need-scalar-at-requires
-scalar-at-requires c κs = search needs
-
-at-smallest-requires : tie.Need-at-smallest-requires
-at-smallest-requires c κs = search needs
-
-bits16-requires : tie.Need-bits16-requires
-bits16-requires c κs = search needs
-
-sub-put16 : tie.Need-sub-put16
-sub-put16 c = search needs
-
-part-put16-start : tie.Need-part-put16-start
-part-put16-start c = search needs
-
-part-put16-end : tie.Need-part-put16-end
-part-put16-end c = search needs
-
-put16-requires : tie.Need-put16-requires
-put16-requires c κs = search needs
-
-sub-put-numbers : tie.Need-sub-put-numbers
-sub-put-numbers c = search needs
-
-part-put-numbers-start : tie.Need-part-put-numbers-start
-part-put-numbers-start c = search needs
-
-part-put-numbers-end : tie.Need-part-put-numbers-end
-part-put-numbers-end c = search needs
-
-put-numbers-requires : tie.Need-put-numbers-requires
-put-numbers-requires c κs = search needs
-
-same-length : tie.Need-same-length
-same-length c = search needs
-
 -- the group as a record holds it, with zeros behind it
 group : (c : tie.After-at-smallest) → let st = c .before .before .before .before .before in
     c .at-smallest .result ≡ groupOf (scaledValues (number2 (st .args .reel .now) (st .args .at + 70)) (numbersIn (st .args .reel .now) 4 (st .args .at + 72) ++ replicate 3 (pos 0)))
@@ -91,19 +46,19 @@ pub put-coordinates-spec : {M : Type 1} → statement M
 put-coordinates-spec =
     tie.close
     (tie.spec
-    add-four-at
-    four-at-requires
-    add-scalar-at
-    scalar-at-requires
-    at-smallest-requires
-    bits16-requires
-    sub-put16
-    part-put16-start
-    part-put16-end
-    put16-requires
-    sub-put-numbers
-    part-put-numbers-start
-    part-put-numbers-end
-    put-numbers-requires
-    same-length
+    (λ c. search needs)
+    (λ c κs. search needs)
+    (λ c. search needs)
+    (λ c κs. search needs)
+    (λ c κs. search needs)
+    (λ c κs. search needs)
+    (λ c. search needs)
+    (λ c. search needs)
+    (λ c. search needs)
+    (λ c κs. search needs)
+    (λ c. search needs)
+    (λ c. search needs)
+    (λ c. search needs)
+    (λ c κs. search needs)
+    (λ c. search needs)
     returns)

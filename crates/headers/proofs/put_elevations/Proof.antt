@@ -20,51 +20,6 @@ use borrow.Author.Needs.{sfits-of, needs}
 use Rattle.headers.proofs.put_elevations.Statement.{statement}
 use Rattle.headers.proofs.put_elevations.Tie as tie
 
-add-seven-at : tie.Need-add-seven-at
-add-seven-at c = search needs
-
-seven-at-requires : tie.Need-seven-at-requires
-seven-at-requires c κs = search needs
-
-add-scalar-at : tie.Need-add-scalar-at
-add-scalar-at c = search needs
-
-scalar-at-requires : tie.Need-scalar-at-requires
-scalar-at-requires c κs = search needs
-
-at-smallest-requires : tie.Need-at-smallest-requires
-at-smallest-requires c κs = search needs
-
-sub-put-numbers : tie.Need-sub-put-numbers
-sub-put-numbers c = search needs
-
-part-put-numbers-start : tie.Need-part-put-numbers-start
-part-put-numbers-start c = search needs
-
-part-put-numbers-end : tie.Need-part-put-numbers-end
-part-put-numbers-end c = search needs
-
-put-numbers-requires : tie.Need-put-numbers-requires
-put-numbers-requires c κs = search needs
-
-bits16-requires : tie.Need-bits16-requires
-bits16-requires c κs = search needs
-
-sub-put16 : tie.Need-sub-put16
-sub-put16 c = search needs
-
-part-put16-start : tie.Need-part-put16-start
-part-put16-start c = search needs
-
-part-put16-end : tie.Need-part-put16-end
-part-put16-end c = search needs
-
-put16-requires : tie.Need-put16-requires
-put16-requires c κs = search needs
-
-same-length : tie.Need-same-length
-same-length c = search needs
-
 -- the group as a record holds it
 group : (c : tie.After-at-smallest) → c .at-smallest .result ≡ groupOf (elevationsAt (c .before .before .before .before .before .args .reel .now) (c .before .before .before .before .before .args .at))
 group c = rw (toZ-ofZ {w = w16} (sfits-of (c .before .scalar-at .ok)), c .before .scalar-at .ensures, c .before .before .seven-at .ensures) at (c .at-smallest .ensures)
@@ -89,19 +44,19 @@ pub put-elevations-spec : {M : Type 1} → statement M
 put-elevations-spec =
     tie.close
     (tie.spec
-    add-seven-at
-    seven-at-requires
-    add-scalar-at
-    scalar-at-requires
-    at-smallest-requires
-    sub-put-numbers
-    part-put-numbers-start
-    part-put-numbers-end
-    put-numbers-requires
-    bits16-requires
-    sub-put16
-    part-put16-start
-    part-put16-end
-    put16-requires
-    same-length
+    (λ c. search needs)
+    (λ c κs. search needs)
+    (λ c. search needs)
+    (λ c κs. search needs)
+    (λ c κs. search needs)
+    (λ c. search needs)
+    (λ c. search needs)
+    (λ c. search needs)
+    (λ c κs. search needs)
+    (λ c κs. search needs)
+    (λ c. search needs)
+    (λ c. search needs)
+    (λ c. search needs)
+    (λ c κs. search needs)
+    (λ c. search needs)
     returns)

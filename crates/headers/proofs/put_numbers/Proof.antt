@@ -42,22 +42,10 @@ mul-bits32 c = omega (arith, c .before .before .before .pre .0, c .loop-test .ta
 array-copy-out-bits32 : tie.Need-array-copy-out-bits32 Inv-loop μ-loop
 array-copy-out-bits32 c = omega (arith, c .before .before .before .pre .0, c .loop-test .taken)
 
-bits32-requires : tie.Need-bits32-requires Inv-loop μ-loop
-bits32-requires c κs = tt
-
-sub-put32 : tie.Need-sub-put32 Inv-loop μ-loop
-sub-put32 c = omega arith
-
-part-put32-start : tie.Need-part-put32-start Inv-loop μ-loop
-part-put32-start c = omega arith
-
 part-put32-end : tie.Need-part-put32-end Inv-loop μ-loop
 part-put32-end c =
     let l = c .before .before .before .loop in
     omega (arith, l .inv .1, l .inv .2, c .before .before .loop-test .taken)
-
-put32-requires : tie.Need-put32-requires Inv-loop μ-loop
-put32-requires c κs = tt
 
 add-j : tie.Need-add-j Inv-loop μ-loop
 add-j c = omega (arith, c .before .before .before .before .before .before .before .before .before .pre .0, c .before .before .before .before .before .before .loop-test .taken)
@@ -98,11 +86,11 @@ put-numbers-spec =
     add-e
     mul-bits32
     array-copy-out-bits32
-    bits32-requires
-    sub-put32
-    part-put32-start
+    (λ c κs. tt)
+    (λ c. omega arith)
+    (λ c. omega arith)
     part-put32-end
-    put32-requires
+    (λ c κs. tt)
     add-j
     loop-less
     loop-again

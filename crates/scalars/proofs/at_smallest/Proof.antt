@@ -17,23 +17,11 @@ power-is c = rw (toZ-ofZ (c .before .fits .scalar)) at (c .power .ensures)
 told : (c : tie.After-raised) → Raised (largest (c .before .before .before .args .group)) (powerOf (c .before .before .before .args .scalar)) (c .raised .result)
 told c = rw (c .before .largest-of .ensures .0, power-is (c .before .before)) at (c .raised .ensures)
 
-power-requires : tie.Need-power-requires
-power-requires c κs = search needs
-
-largest-of-requires : tie.Need-largest-of-requires
-largest-of-requires c κs = search needs
-
-raised-requires : tie.Need-raised-requires
-raised-requires c κs = search needs
-
 times-all-requires : tie.Need-times-all-requires
 times-all-requires c κs =
     let r = told c in
     let p = power-lt (c .before .before .before .args .scalar) in
     (omega (arith, r .most), rw (c .before .largest-of .ensures .0) at (c .raised .ensures .within))
-
-sub-scalar-of : tie.Need-sub-scalar-of
-sub-scalar-of c = search needs
 
 scalar-of-requires : tie.Need-scalar-of-requires
 scalar-of-requires c κs =
@@ -52,10 +40,10 @@ pub at-smallest-spec : {M : Type 1} → statement M
 at-smallest-spec =
     tie.close
     (tie.spec
-    power-requires
-    largest-of-requires
-    raised-requires
+    (λ c κs. search needs)
+    (λ c κs. search needs)
+    (λ c κs. search needs)
     times-all-requires
-    sub-scalar-of
+    (λ c. search needs)
     scalar-of-requires
     returns)

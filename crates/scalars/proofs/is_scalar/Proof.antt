@@ -37,9 +37,6 @@ none-of n h f =
 cast-magnitude : tie.Need-cast-magnitude
 cast-magnitude c = rw (toZ-ofZ (c .fits .scalar)) (wide (c .args .scalar) (c .fits .scalar))
 
-magnitude-requires : tie.Need-magnitude-requires
-magnitude-requires c κs = search needs
-
 returns : tie.Need-returns
 returns c = rw (← (magnitude-is (c .before .before))) (none-of _ (c .if1 .left) (c .before .match .rest .1))
 
@@ -50,4 +47,4 @@ returns-3 : tie.Need-returns-3
 returns-3 c = rw (← (magnitude-is (c .before .before))) (below-two _ (c .if1 .taken))
 
 pub is-scalar-spec : {M : Type 1} → statement M
-is-scalar-spec = tie.close (tie.spec cast-magnitude magnitude-requires returns returns-2 returns-3)
+is-scalar-spec = tie.close (tie.spec cast-magnitude (λ c κs. search needs) returns returns-2 returns-3)

@@ -8,9 +8,6 @@ use Rattle.scalars.proofs.Powers.{power-lt, smallest-lt}
 use Rattle.scalars.proofs.is_smallest.Statement.{statement}
 use Rattle.scalars.proofs.is_smallest.Tie as tie
 
-smallest-power-requires : tie.Need-smallest-power-requires
-smallest-power-requires c κs = search needs
-
 -- the power found is that of the definition
 found : (c : tie.After-smallest-power) → c .smallest-power .result ≡ smallest (scaledValues (c .before .args .scalar) (c .before .args .group))
 found c = rw (toZ-ofZ (c .before .fits .scalar)) at (c .smallest-power .ensures)
@@ -27,4 +24,4 @@ returns c =
     same-bits z (c .scalar-of .result) (c .before .before .fits .scalar) (sfits-of (c .scalar-of .ok)) ∙ ap (sameNumber z) (c .scalar-of .ensures ∙ ap scalarOf (found (c .before)))
 
 pub is-smallest-spec : {M : Type 1} → statement M
-is-smallest-spec = tie.close (tie.spec smallest-power-requires scalar-of-requires returns)
+is-smallest-spec = tie.close (tie.spec (λ c κs. search needs) scalar-of-requires returns)

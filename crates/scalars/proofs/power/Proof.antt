@@ -29,18 +29,6 @@ positive (negsuc n) e = absurd (subst T e tt)
 cast-magnitude : tie.Need-cast-magnitude
 cast-magnitude c = rw (toZ-ofZ (c .fits .scalar)) (wide (c .args .scalar) (c .fits .scalar))
 
-magnitude-requires : tie.Need-magnitude-requires
-magnitude-requires c κs = search needs
-
-zeros-in-requires : tie.Need-zeros-in-requires
-zeros-in-requires c κs = search needs
-
-sub-result : tie.Need-sub-result
-sub-result c = search needs
-
-add-result : tie.Need-add-result
-add-result c = search needs
-
 returns : tie.Need-returns
 returns c =
     let f = c .before .before .before .fits .scalar in
@@ -58,9 +46,9 @@ power-spec =
     tie.close
     (tie.spec
     cast-magnitude
-    magnitude-requires
-    zeros-in-requires
-    sub-result
-    add-result
+    (λ c κs. search needs)
+    (λ c κs. search needs)
+    (λ c. search needs)
+    (λ c. search needs)
     returns
     returns-2)

@@ -8,29 +8,7 @@ use Rattle.scalars.proofs.Powers.{power-lt, smallest-is}
 use borrow.Author.Needs.{needs}
 use Rattle.scalars.proofs.smallest_power.Statement.{statement}
 use Rattle.scalars.proofs.smallest_power.Tie as tie
-use Rattle.scalars.proofs.smallest_power.Reads as reads
-use Rattle.scalars.proofs.smallest_power.Lts as lts
-use Rattle.scalars.proofs.largest_of.Reads as largest-of-reads
-use Rattle.scalars.proofs.power.Reads as power-reads
-use Rattle.scalars.proofs.raised.Reads as raised-reads
 
--- src/lib.rt:93:9
-power-requires : tie.Need-power-requires
-power-requires c κs = search needs
-
--- src/lib.rt:94:16
-largest-of-requires : tie.Need-largest-of-requires
-largest-of-requires c κs = search needs
-
--- src/lib.rt:94:9
-raised-requires : tie.Need-raised-requires
-raised-requires c κs = search needs
-
--- src/lib.rt:94:5
-sub-result : tie.Need-sub-result
-sub-result c = search needs
-
--- src/lib.rt:90:1
 returns : tie.Need-returns
 returns c =
     let st = c .before .before .before in
@@ -43,4 +21,4 @@ returns c =
 
 pub smallest-power-spec : {M : Type 1} → statement M
 smallest-power-spec =
-    tie.close (tie.spec power-requires largest-of-requires raised-requires sub-result returns)
+    tie.close (tie.spec (λ c κs. search needs) (λ c κs. search needs) (λ c κs. search needs) (λ c. search needs) returns)

@@ -30,47 +30,23 @@ product c i = ap₂ _*ℤ_ (read-at (group c) i (told c .1)) (toZ-ofZ {w = w32} 
 fits : (c : tie.After-ten-to) (i : ℕ) → mag (toZ w32 (ofZ w32 (getD (group c) i (pos 0))) *ℤ toZ w32 (ofZ w32 (c .ten-to .result))) < 2 ^ 31
 fits c i = rw (product c i) (times-at (group c) i (c .before .args .d) (told c .1) (c .before .pre .1))
 
-ten-to-requires : tie.Need-ten-to-requires
-ten-to-requires c κs = search needs
-
-array-copy-out-times : tie.Need-array-copy-out-times
-array-copy-out-times c = search needs
-
 times-requires : tie.Need-times-requires
 times-requires c κs = fits (c .before) 0
-
-array-copy-out-times-2 : tie.Need-array-copy-out-times-2
-array-copy-out-times-2 c = search needs
 
 times-requires-2 : tie.Need-times-requires-2
 times-requires-2 c κs = fits (c .before .before .before) 1
 
-array-copy-out-times-3 : tie.Need-array-copy-out-times-3
-array-copy-out-times-3 c = search needs
-
 times-requires-3 : tie.Need-times-requires-3
 times-requires-3 c κs = fits (c .before .before .before .before .before) 2
-
-array-copy-out-times-4 : tie.Need-array-copy-out-times-4
-array-copy-out-times-4 c = search needs
 
 times-requires-4 : tie.Need-times-requires-4
 times-requires-4 c κs = fits (c .before .before .before .before .before .before .before) 3
 
-array-copy-out-times-5 : tie.Need-array-copy-out-times-5
-array-copy-out-times-5 c = search needs
-
 times-requires-5 : tie.Need-times-requires-5
 times-requires-5 c κs = fits (c .before .before .before .before .before .before .before .before .before) 4
 
-array-copy-out-times-6 : tie.Need-array-copy-out-times-6
-array-copy-out-times-6 c = search needs
-
 times-requires-6 : tie.Need-times-requires-6
 times-requires-6 c κs = fits (c .before .before .before .before .before .before .before .before .before .before .before) 5
-
-array-copy-out-times-7 : tie.Need-array-copy-out-times-7
-array-copy-out-times-7 c = search needs
 
 times-requires-7 : tie.Need-times-requires-7
 times-requires-7 c κs = fits (c .before .before .before .before .before .before .before .before .before .before .before .before .before) 6
@@ -91,19 +67,19 @@ pub times-all-spec : {M : Type 1} → statement M
 times-all-spec =
     tie.close
     (tie.spec
-    ten-to-requires
-    array-copy-out-times
+    (λ c κs. search needs)
+    (λ c. search needs)
     times-requires
-    array-copy-out-times-2
+    (λ c. search needs)
     times-requires-2
-    array-copy-out-times-3
+    (λ c. search needs)
     times-requires-3
-    array-copy-out-times-4
+    (λ c. search needs)
     times-requires-4
-    array-copy-out-times-5
+    (λ c. search needs)
     times-requires-5
-    array-copy-out-times-6
+    (λ c. search needs)
     times-requires-6
-    array-copy-out-times-7
+    (λ c. search needs)
     times-requires-7
     returns)
