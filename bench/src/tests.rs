@@ -93,21 +93,23 @@ fn writing_damaged_records() {
 /// The scalar of the smallest power, which a record may have over any group.
 const LEAST: i16 = -10_000;
 
-/// Every scalar there is in either field, of a reel and of a record, over groups of all magnitudes.
+/// Every scalar there is, in either field and in both, of a reel and of a record, over groups of all
+/// magnitudes.
 #[test]
 fn reading_and_writing_every_scalar() {
     let (mut reel, mut record) = one_trace();
     let mut random = Random(3);
     let mut causes = [0; CAUSES];
     for scalar in i16::MIN..=i16::MAX {
-        for (here, other) in [(68, 70), (70, 68)] {
+        for (of_elevations, of_coordinates) in [(scalar, LEAST), (LEAST, scalar), (scalar, scalar)]
+        {
             let most = random.below(32) + 1;
             for place in (40..68).chain(72..88).step_by(4) {
                 let number = 1i32 << random.below(most);
                 put_bytes(&mut reel, &mut record, place, &number.to_be_bytes());
             }
-            put_bytes(&mut reel, &mut record, here, &scalar.to_be_bytes());
-            put_bytes(&mut reel, &mut record, other, &LEAST.to_be_bytes());
+            put_bytes(&mut reel, &mut record, 68, &of_elevations.to_be_bytes());
+            put_bytes(&mut reel, &mut record, 70, &of_coordinates.to_be_bytes());
             causes[agreed(Call::Read, 1, &reel, record.len())] += 1;
             causes[agreed(Call::Write, 1, &record, reel.len())] += 1;
         }
