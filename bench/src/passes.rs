@@ -1,5 +1,5 @@
 //! The library's two passes in plain Rust, the first over all causes, the second writing into the
-//! lent buffer, around what is done for each sample.
+//! lent buffer, around what is done for each group of a trace header and for each sample.
 
 use independent::{Refused, Taken};
 
@@ -8,6 +8,13 @@ const REEL_HEADERS: usize = 3_600;
 const TRACE_HEADER: usize = 240;
 const BINARY_FIELDS: usize = 60;
 const TRACE_FIELDS: usize = 180;
+
+/// Offsets in a trace header: of fields 41 to 65 and of 69, their scalar; of field 71 and of 73 to 85,
+/// on which it acts.
+pub const ELEVATIONS: usize = 40;
+pub const ELEVATION_SCALAR: usize = 68;
+pub const COORDINATE_SCALAR: usize = 70;
+pub const COORDINATES: usize = 72;
 
 // Offsets of fields 3217, 3221 and 3225 in the binary header, of 115 and 117 in a trace's.
 const INTERVAL: usize = 16;
@@ -29,8 +36,19 @@ const RECORD_END: usize = FIELD_HEAD + 4;
 pub const NOT_CANONICAL: u64 = 13;
 pub const UNFIT: u64 = 14;
 
-/// What is done for each sample, by the words and the pairs of a trace and a code of 1 to 4.
-pub trait Samples {
+/// What is done for the elevations and the coordinates of a trace, by the fields of its header; and
+/// for each sample, by the words and the pairs of a trace and a code of 1 to 4.
+pub trait Steps {
+    /// Whether a reel may have this scalar.
+    fn is_scalar(scalar: i16) -> bool;
+
+    /// Puts both groups of a reel's header and their scalars as a record holds them. The first pass has
+    /// found that the scalars are allowed.
+    fn put_groups(header: &[u8], fields: &mut [u8]);
+
+    /// The offset of a record's first scalar that isn't that of the smallest power.
+    fn refused_scalar(fields: &[u8]) -> Option<usize>;
+
     /// The first gain word that is refused.
     fn refused_gain(words: &[u8]) -> Option<usize>;
 
@@ -73,7 +91,7 @@ fn held_stride(samples: usize) -> usize {
 // ## Reading
 
 #[inline(always)]
-pub fn read_reel<S: Samples>(reel: &[u8], out: &mut [u8]) -> Result<Taken, Refused> {
+pub fn read_reel<S: Steps>(reel: &[u8], out: &mut [u8]) -> Result<Taken, Refused> {
     let numbers = check_reel::<S>(reel)?;
     let ReelNumbers {
         samples, traces, ..
@@ -98,7 +116,7 @@ struct ReelNumbers {
     traces: usize,
 }
 
-fn check_reel<S: Samples>(reel: &[u8]) -> Result<ReelNumbers, Refused> {
+fn check_reel<S: Steps>(reel: &[u8]) -> Result<ReelNumbers, Refused> {
     if reel.len() < REEL_HEADERS {
         return refused(1, reel.len());
     }
@@ -140,6 +158,11 @@ fn check_reel<S: Samples>(reel: &[u8]) -> Result<ReelNumbers, Refused> {
         if own != 0 && own != interval {
             return refused(8, place + TRACE_INTERVAL);
         }
+        for scalar in [ELEVATION_SCALAR, COORDINATE_SCALAR] {
+            if !S::is_scalar(be16(header, scalar) as i16) {
+                return refused(18, place + scalar);
+            }
+        }
         if code == 4 {
             if let Some(k) = S::refused_gain(words) {
                 return refused(9, place + TRACE_HEADER + 4 * k);
@@ -155,7 +178,7 @@ fn check_reel<S: Samples>(reel: &[u8]) -> Result<ReelNumbers, Refused> {
     })
 }
 
-fn put_record<S: Samples>(reel: &[u8], numbers: &ReelNumbers, out: &mut [u8]) {
+fn put_record<S: Steps>(reel: &[u8], numbers: &ReelNumbers, out: &mut [u8]) {
     let (headers, behind) = reel.split_at(REEL_HEADERS);
     let (cards, binary) = headers.split_at(CARD_BYTES);
     let (front, rest) = out.split_at_mut(RECORD_HEAD);
@@ -177,6 +200,7 @@ fn put_record<S: Samples>(reel: &[u8], numbers: &ReelNumbers, out: &mut [u8]) {
         let (header_field, samples_field) = held.split_at_mut(FIELD_HEAD + TRACE_FIELDS);
         let fields = put_head(header_field, 3);
         fields.copy_from_slice(&header[..TRACE_FIELDS]);
+        S::put_groups(header, fields);
         fill_in(fields, TRACE_COUNT, numbers.samples as u16);
         fill_in(fields, TRACE_INTERVAL, numbers.interval);
 
@@ -203,7 +227,7 @@ fn fill_in(fields: &mut [u8], at: usize, own: u16) {
 // ## Writing
 
 #[inline(always)]
-pub fn write_reel<S: Samples>(record: &[u8], code: u32, out: &mut [u8]) -> Result<Taken, Refused> {
+pub fn write_reel<S: Steps>(record: &[u8], code: u32, out: &mut [u8]) -> Result<Taken, Refused> {
     let RecordNumbers { samples, traces } = check_record::<S>(record, code)?;
     let stride = TRACE_HEADER + samples * sample_bytes(code);
     let length = REEL_HEADERS + traces * stride;
@@ -223,7 +247,7 @@ struct RecordNumbers {
     traces: usize,
 }
 
-fn check_record<S: Samples>(record: &[u8], code: u32) -> Result<RecordNumbers, Refused> {
+fn check_record<S: Steps>(record: &[u8], code: u32) -> Result<RecordNumbers, Refused> {
     if !(1..=4).contains(&code) {
         return refused(11, 0);
     }
@@ -248,7 +272,7 @@ fn check_record<S: Samples>(record: &[u8], code: u32) -> Result<RecordNumbers, R
     let mut at = RECORD_HEAD;
     let mut traces = 0;
     while more(record, traces, at) {
-        let pairs = check_head(record, count, interval, at)?;
+        let pairs = check_head::<S>(record, count, interval, at)?;
         if let Err((number, k)) = S::check_pairs(code, pairs) {
             // Any 12 or 13 behind a sample that doesn't fit comes before it.
             check_form::<S>(record, count, interval, traces, at)?;
@@ -272,7 +296,7 @@ fn more(record: &[u8], traces: usize, at: usize) -> bool {
 
 /// 12 and 13 from a place on.
 #[cold]
-fn check_form<S: Samples>(
+fn check_form<S: Steps>(
     record: &[u8],
     count: u16,
     interval: u16,
@@ -280,7 +304,7 @@ fn check_form<S: Samples>(
     mut at: usize,
 ) -> Result<(), Refused> {
     while more(record, traces, at) {
-        let pairs = check_head(record, count, interval, at)?;
+        let pairs = check_head::<S>(record, count, interval, at)?;
         if let Some(k) = S::uncanonical_pair(pairs) {
             return refused(13, at + 2 * FIELD_HEAD + TRACE_FIELDS + PAIR_BYTES * k);
         }
@@ -291,8 +315,16 @@ fn check_form<S: Samples>(
 }
 
 /// 12 and 13 of a trace but for its pairs, which it gives.
-fn check_head(record: &[u8], count: u16, interval: u16, at: usize) -> Result<&[u8], Refused> {
+fn check_head<S: Steps>(
+    record: &[u8],
+    count: u16,
+    interval: u16,
+    at: usize,
+) -> Result<&[u8], Refused> {
     let header = check_field(record, at, 3, TRACE_FIELDS)?;
+    if let Some(scalar) = S::refused_scalar(header) {
+        return refused(13, at + FIELD_HEAD + scalar);
+    }
     if be16(header, TRACE_COUNT) != count {
         return refused(13, at + FIELD_HEAD + TRACE_COUNT);
     }
@@ -323,7 +355,7 @@ fn check_field(record: &[u8], at: usize, tag: u8, size: usize) -> Result<&[u8], 
     Ok(&field[FIELD_HEAD..FIELD_HEAD + size])
 }
 
-fn put_reel<S: Samples>(record: &[u8], code: u32, samples: usize, stride: usize, out: &mut [u8]) {
+fn put_reel<S: Steps>(record: &[u8], code: u32, samples: usize, stride: usize, out: &mut [u8]) {
     let (headers, traces) = out.split_at_mut(REEL_HEADERS);
     let (cards, binary) = headers.split_at_mut(CARD_BYTES);
     cards.copy_from_slice(&record[FIELD_HEAD..][..CARD_BYTES]);

@@ -12,6 +12,20 @@ pub const SAMPLES: [&str; 4] = [
     "gain words, gains 0 to 15, 16-bit numbers of both signs; 1 in 64 is zero",
 ];
 
+/// What the trace headers are: the elevations and the coordinates. Either scalar is drawn anew for each
+/// trace, which is harder than a reel that has one.
+pub const HEADERS: &str =
+    "elevations and depths of 10 to 9,999 under scalar 1 or -10, both signs, 1 in 4 zero; coordinates of 100,000 to 9,999,999 under 1, -10 or -100, both signs, 1 in 16 zero";
+
+/// Offsets in a trace header, and the scalars that are drawn.
+const ELEVATIONS: usize = 40;
+const ELEVATION_SCALAR: usize = 68;
+const ELEVATION_SCALARS: [i16; 2] = [1, -10];
+const COORDINATE_SCALAR: usize = 70;
+const COORDINATES: usize = 72;
+const COORDINATES_END: usize = 88;
+const COORDINATE_SCALARS: [i16; 3] = [1, -10, -100];
+
 /// Knuth's multiplier and increment, and the permuted output of O'Neill's PCG.
 pub struct Random(pub u64);
 
@@ -27,6 +41,40 @@ impl Random {
 
     pub fn below(&mut self, limit: u32) -> u32 {
         ((u64::from(self.next()) * u64::from(limit)) >> 32) as u32
+    }
+
+    fn one_of(&mut self, scalars: &[i16]) -> [u8; 2] {
+        let scalar = scalars[self.below(scalars.len() as u32) as usize];
+        scalar.to_be_bytes()
+    }
+
+    /// A number of so many decimal digits, of either sign; one in so many is zero.
+    fn number(&mut self, least_digits: u32, most_digits: u32, one_in: u32) -> [u8; 4] {
+        if self.below(one_in) == 0 {
+            return [0; 4];
+        }
+        let least = 10u32.pow(least_digits - 1 + self.below(most_digits - least_digits + 1));
+        let magnitude = (least + self.below(9 * least)) as i32;
+        let number = if self.next() >> 31 == 0 {
+            magnitude
+        } else {
+            -magnitude
+        };
+        number.to_be_bytes()
+    }
+
+    /// The elevations and the coordinates, each with their scalar.
+    fn put_groups(&mut self, header: &mut [u8]) {
+        for number in header[ELEVATIONS..ELEVATION_SCALAR].chunks_exact_mut(4) {
+            number.copy_from_slice(&self.number(2, 4, 4));
+        }
+        let scalar = self.one_of(&ELEVATION_SCALARS);
+        header[ELEVATION_SCALAR..][..2].copy_from_slice(&scalar);
+        let scalar = self.one_of(&COORDINATE_SCALARS);
+        header[COORDINATE_SCALAR..][..2].copy_from_slice(&scalar);
+        for number in header[COORDINATES..COORDINATES_END].chunks_exact_mut(4) {
+            number.copy_from_slice(&self.number(6, 7, 16));
+        }
     }
 
     fn word(&mut self, code: u32) -> [u8; 4] {
@@ -75,6 +123,7 @@ pub fn make(code: u32, samples: u16, bytes: usize) -> Vec<u8> {
             let bytes = random.next().to_be_bytes();
             field.copy_from_slice(&bytes[..field.len()]);
         }
+        random.put_groups(header);
         header[..4].copy_from_slice(&number.to_be_bytes());
         header[4..8].copy_from_slice(&number.to_be_bytes());
         header[114..116].copy_from_slice(&samples.to_be_bytes());

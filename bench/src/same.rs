@@ -1,9 +1,11 @@
 //! The library's own algorithm in plain Rust: its two passes, with its steps and its tests for each
-//! sample, one for one. It is what the proved code would be if a Rust programmer had written it, and
+//! group of a trace header and for each sample, one for one. It is what the proved code would be if a Rust programmer had written it, and
 //! nothing in it was chosen by measuring.
 
-use crate::passes::{self, Samples, NOT_CANONICAL, PAIR_BYTES, UNFIT};
+use crate::passes::{self, Steps, NOT_CANONICAL, PAIR_BYTES, UNFIT};
+use crate::passes::{COORDINATES, COORDINATE_SCALAR, ELEVATIONS, ELEVATION_SCALAR};
 use independent::{Refused, Taken};
+use std::array;
 
 const DENOMINATOR_POWER: u32 = 280;
 const HIGHEST_SHIFT: u32 = 531;
@@ -21,7 +23,40 @@ pub fn write_reel(record: &[u8], code: u32, out: &mut [u8]) -> Result<Taken, Ref
     passes::write_reel::<Same>(record, code, out)
 }
 
-impl Samples for Same {
+impl Steps for Same {
+    #[inline(always)]
+    fn is_scalar(scalar: i16) -> bool {
+        matches!(scalar.unsigned_abs(), 0 | 1 | 10 | 100 | 1_000 | 10_000)
+    }
+
+    #[inline(always)]
+    fn put_groups(header: &[u8], fields: &mut [u8]) {
+        let elevations = seven_at(header, ELEVATIONS);
+        let Group { numbers, scalar } =
+            at_smallest(elevations, scalar_at(header, ELEVATION_SCALAR));
+        put_numbers(&numbers, &mut fields[ELEVATIONS..ELEVATION_SCALAR]);
+        put_scalar(scalar, ELEVATION_SCALAR, fields);
+
+        let coordinates = four_at(header, COORDINATES);
+        let Group { numbers, scalar } =
+            at_smallest(coordinates, scalar_at(header, COORDINATE_SCALAR));
+        put_scalar(scalar, COORDINATE_SCALAR, fields);
+        put_numbers(&numbers[..4], &mut fields[COORDINATES..COORDINATES + 16]);
+    }
+
+    #[inline(always)]
+    fn refused_scalar(fields: &[u8]) -> Option<usize> {
+        let scalar = scalar_at(fields, ELEVATION_SCALAR);
+        if !is_smallest(seven_at(fields, ELEVATIONS), scalar) {
+            return Some(ELEVATION_SCALAR);
+        }
+        let scalar = scalar_at(fields, COORDINATE_SCALAR);
+        if !is_smallest(four_at(fields, COORDINATES), scalar) {
+            return Some(COORDINATE_SCALAR);
+        }
+        None
+    }
+
     #[inline(always)]
     fn refused_gain(words: &[u8]) -> Option<usize> {
         words
@@ -63,6 +98,121 @@ impl Samples for Same {
             3 => put_words::<2>(pairs, words, whole16_of),
             _ => put_words::<4>(pairs, words, gain_of),
         }
+    }
+}
+
+// ## Elevations and coordinates
+
+/// A group's seven numbers and their scalar. A group of four has zeros behind it, which every power
+/// serves.
+struct Group {
+    numbers: [i32; 7],
+    scalar: i16,
+}
+
+fn number_at(fields: &[u8], at: usize) -> i32 {
+    i32::from_be_bytes(fields[at..at + 4].try_into().unwrap())
+}
+
+fn scalar_at(fields: &[u8], at: usize) -> i16 {
+    i16::from_be_bytes(fields[at..at + 2].try_into().unwrap())
+}
+
+fn seven_at(fields: &[u8], at: usize) -> [i32; 7] {
+    array::from_fn(|k| number_at(fields, at + 4 * k))
+}
+
+fn four_at(fields: &[u8], at: usize) -> [i32; 7] {
+    let [a, b, c, d] = array::from_fn(|k| number_at(fields, at + 4 * k));
+    [a, b, c, d, 0, 0, 0]
+}
+
+fn put_numbers(numbers: &[i32], out: &mut [u8]) {
+    for (number, bytes) in numbers.iter().zip(out.chunks_exact_mut(4)) {
+        bytes.copy_from_slice(&number.to_be_bytes());
+    }
+}
+
+fn put_scalar(scalar: i16, at: usize, fields: &mut [u8]) {
+    fields[at..at + 2].copy_from_slice(&scalar.to_be_bytes());
+}
+
+/// The group at the smallest power that serves it, and the scalar of that power.
+fn at_smallest(group: [i32; 7], scalar: i16) -> Group {
+    let p = power(scalar);
+    let d = raised(largest(group), p);
+    let f = ten_to(d);
+    Group {
+        numbers: group.map(|number| number * f),
+        scalar: scalar_of(p - d),
+    }
+}
+
+fn is_smallest(group: [i32; 7], scalar: i16) -> bool {
+    let p = power(scalar);
+    scalar == scalar_of(p - raised(largest(group), p))
+}
+
+/// The largest magnitude of a group.
+fn largest(group: [i32; 7]) -> u32 {
+    group.map(i32::unsigned_abs).into_iter().fold(0, u32::max)
+}
+
+/// The power of a scalar, 0 to 8 for the powers of ten from -4 to 4.
+fn power(scalar: i16) -> u32 {
+    let zeros = match scalar.unsigned_abs() {
+        10 => 1,
+        100 => 2,
+        1_000 => 3,
+        10_000 => 4,
+        _ => 0,
+    };
+    if scalar < 0 {
+        4 - zeros
+    } else {
+        4 + zeros
+    }
+}
+
+/// How many zeros, `p` at most, can be put behind a magnitude within 2^31.
+fn raised(magnitude: u32, p: u32) -> u32 {
+    let mut f = magnitude;
+    let mut d = 0;
+    while d < p {
+        if f > 214_748_364 {
+            return d;
+        }
+        f *= 10;
+        d += 1;
+    }
+    d
+}
+
+fn ten_to(d: u32) -> i32 {
+    match d {
+        0 => 1,
+        1 => 10,
+        2 => 100,
+        3 => 1_000,
+        4 => 10_000,
+        5 => 100_000,
+        6 => 1_000_000,
+        7 => 10_000_000,
+        _ => 100_000_000,
+    }
+}
+
+fn scalar_of(power: u32) -> i16 {
+    match power {
+        0 => -10_000,
+        1 => -1_000,
+        2 => -100,
+        3 => -10,
+        4 => 1,
+        5 => 10,
+        6 => 100,
+        7 => 1_000,
+        _ => 10_000,
     }
 }
 

@@ -45,6 +45,7 @@ pub fn preface(megabytes: usize, runs: usize, segyio: Option<String>) {
     for (code, samples) in (1..).zip(reels::SAMPLES) {
         println!("- Code {code}: {samples}.");
     }
+    println!("- Trace headers: {}.", reels::HEADERS);
 }
 
 pub fn comparison(rows: &[Row]) {

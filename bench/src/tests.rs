@@ -11,6 +11,9 @@ const SAMPLES: u16 = 3;
 const BYTES: usize = 5_000;
 const DAMAGES: usize = 20_000;
 
+/// One more than the highest number of a cause.
+const CAUSES: usize = 19;
+
 /// Changes some bytes, and the length now and then.
 fn damaged(random: &mut Random, bytes: &[u8]) -> Vec<u8> {
     let mut bytes = bytes.to_vec();
@@ -53,7 +56,7 @@ fn agreed(what: Call, code: u32, input: &[u8], room: usize) -> usize {
 #[test]
 fn reading_damaged_reels() {
     let mut random = Random(1);
-    let mut causes = [0; 17];
+    let mut causes = [0; CAUSES];
     for code in 1..=4 {
         let reel = reels::make(code, SAMPLES, BYTES);
         for _ in 0..DAMAGES {
@@ -62,7 +65,7 @@ fn reading_damaged_reels() {
             causes[agreed(Call::Read, code, &reel, room)] += 1;
         }
     }
-    for number in [0, 1, 2, 3, 4, 5, 7, 8, 9, 10] {
+    for number in [0, 1, 2, 3, 4, 5, 7, 8, 9, 10, 18] {
         assert!(causes[number] > 50, "{causes:?}");
     }
 }
@@ -70,7 +73,7 @@ fn reading_damaged_reels() {
 #[test]
 fn writing_damaged_records() {
     let mut random = Random(2);
-    let mut causes = [0; 17];
+    let mut causes = [0; CAUSES];
     for code in 1..=4 {
         let reel = reels::make(code, SAMPLES, BYTES);
         let mut record = vec![0; crate::record_length(&reel, code)];
@@ -87,13 +90,89 @@ fn writing_damaged_records() {
     }
 }
 
+/// The scalar of the smallest power, which a record may have over any group.
+const LEAST: i16 = -10_000;
+
+/// Every scalar there is, in either field and in both, of a reel and of a record, over groups of all
+/// magnitudes.
+#[test]
+fn reading_and_writing_every_scalar() {
+    let (mut reel, mut record) = one_trace();
+    let mut random = Random(3);
+    let mut causes = [0; CAUSES];
+    for scalar in i16::MIN..=i16::MAX {
+        for (of_elevations, of_coordinates) in [(scalar, LEAST), (LEAST, scalar), (scalar, scalar)]
+        {
+            let most = random.below(32) + 1;
+            for place in (40..68).chain(72..88).step_by(4) {
+                let number = 1i32 << random.below(most);
+                put_bytes(&mut reel, &mut record, place, &number.to_be_bytes());
+            }
+            put_bytes(&mut reel, &mut record, 68, &of_elevations.to_be_bytes());
+            put_bytes(&mut reel, &mut record, 70, &of_coordinates.to_be_bytes());
+            causes[agreed(Call::Read, 1, &reel, record.len())] += 1;
+            causes[agreed(Call::Write, 1, &record, reel.len())] += 1;
+        }
+    }
+    for number in [13, 18] {
+        assert!(causes[number] > 50, "{causes:?}");
+    }
+}
+
+/// Every allowed scalar, over one number about the limits of each power in each place of its group.
+#[test]
+fn reading_and_writing_groups_about_the_limits() {
+    let (mut reel, mut record) = one_trace();
+    let mut numbers = vec![0, i32::MIN, i32::MIN + 1];
+    for zeros in 0..=9 {
+        let largest = i32::MAX / 10i32.pow(zeros);
+        for number in [largest - 1, largest, largest.saturating_add(1)] {
+            numbers.extend([number, -number]);
+        }
+    }
+    let mut causes = [0; CAUSES];
+    for scalar in [
+        0i16, 1, 10, 100, 1_000, 10_000, -1, -10, -100, -1_000, -10_000,
+    ] {
+        for (here, other, group) in [(68, 70, 40..68), (70, 68, 72..88)] {
+            for place in group.step_by(4) {
+                put_bytes(&mut reel, &mut record, 40, &[0; 48]);
+                put_bytes(&mut reel, &mut record, here, &scalar.to_be_bytes());
+                put_bytes(&mut reel, &mut record, other, &LEAST.to_be_bytes());
+                for number in &numbers {
+                    put_bytes(&mut reel, &mut record, place, &number.to_be_bytes());
+                    causes[agreed(Call::Read, 1, &reel, record.len())] += 1;
+                    causes[agreed(Call::Write, 1, &record, reel.len())] += 1;
+                }
+            }
+        }
+    }
+    for number in [0, 13] {
+        assert!(causes[number] > 50, "{causes:?}");
+    }
+    assert_eq!(causes[18], 0);
+}
+
+/// A reel of one trace and one sample, and its record.
+fn one_trace() -> (Vec<u8>, Vec<u8>) {
+    let reel = reels::make(1, 1, 0);
+    let mut record = vec![0; crate::record_length(&reel, 1)];
+    independent::read_reel(&reel, &mut record).expect("a valid reel");
+    (reel, record)
+}
+
+/// Puts bytes into the header of their trace, of both.
+fn put_bytes(reel: &mut [u8], record: &mut [u8], at: usize, bytes: &[u8]) {
+    for header in [&mut reel[3_600..], &mut record[3_269..]] {
+        header[at..at + bytes.len()].copy_from_slice(bytes);
+    }
+}
+
 /// Every exponent of a canonical pair and some beyond, with mantissas about the limits of a fraction
 /// and of the whole numbers.
 #[test]
 fn writing_pairs_about_the_limits() {
-    let reel = reels::make(1, 1, 0);
-    let mut record = vec![0; crate::record_length(&reel, 1)];
-    independent::read_reel(&reel, &mut record).expect("a valid reel");
+    let (reel, mut record) = one_trace();
     let pair = record.len() - 13;
     let mut mantissas = vec![0, 2, i32::MIN];
     for bits in [1, 15, 16, 20, 21, 24, 25, 31] {
@@ -103,7 +182,7 @@ fn writing_pairs_about_the_limits() {
             mantissas.extend(i32::try_from(-odd));
         }
     }
-    let mut causes = [0; 17];
+    let mut causes = [0; CAUSES];
     for e in -282i16..=253 {
         record[pair..pair + 2].copy_from_slice(&e.to_be_bytes());
         for m in &mantissas {

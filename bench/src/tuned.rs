@@ -1,9 +1,11 @@
 //! The library's passes in plain Rust, tuned by what measured faster: signed numbers in place of
 //! sign and magnitude, no branch on a sign, and no test for a canonical pair in the second pass, for
-//! which the first has looked.
+//! which the first has looked. A group of a trace header is raised by tables, without a loop.
 
-use crate::passes::{self, Samples, NOT_CANONICAL, PAIR_BYTES, UNFIT};
+use crate::passes::{self, Steps, NOT_CANONICAL, PAIR_BYTES, UNFIT};
+use crate::passes::{COORDINATES, COORDINATE_SCALAR, ELEVATIONS, ELEVATION_SCALAR};
 use independent::{Refused, Taken};
+use std::array;
 
 const DENOMINATOR_POWER: i32 = 280;
 const LEAST_EXPONENT: i16 = -280;
@@ -21,7 +23,29 @@ pub fn write_reel(record: &[u8], code: u32, out: &mut [u8]) -> Result<Taken, Ref
     passes::write_reel::<Tuned>(record, code, out)
 }
 
-impl Samples for Tuned {
+impl Steps for Tuned {
+    #[inline(always)]
+    fn is_scalar(scalar: i16) -> bool {
+        matches!(scalar.unsigned_abs(), 0 | 1 | 10 | 100 | 1_000 | 10_000)
+    }
+
+    #[inline(always)]
+    fn put_groups(header: &[u8], fields: &mut [u8]) {
+        put_group::<7>(header, ELEVATIONS, ELEVATION_SCALAR, fields);
+        put_group::<4>(header, COORDINATES, COORDINATE_SCALAR, fields);
+    }
+
+    #[inline(always)]
+    fn refused_scalar(fields: &[u8]) -> Option<usize> {
+        if !is_smallest::<7>(fields, ELEVATIONS, ELEVATION_SCALAR) {
+            return Some(ELEVATION_SCALAR);
+        }
+        if !is_smallest::<4>(fields, COORDINATES, COORDINATE_SCALAR) {
+            return Some(COORDINATE_SCALAR);
+        }
+        None
+    }
+
     #[inline(always)]
     fn refused_gain(words: &[u8]) -> Option<usize> {
         words.chunks_exact(4).position(|word| word[0] != 0)
@@ -61,6 +85,84 @@ impl Samples for Tuned {
             3 => put_words(pairs, words, Pair::whole16_word),
             _ => put_words(pairs, words, Pair::gain_word),
         }
+    }
+}
+
+// ## Elevations and coordinates
+
+/// The scalars of the powers of ten from -4 to 4.
+const SCALARS: [i16; 9] = [-10_000, -1_000, -100, -10, 1, 10, 100, 1_000, 10_000];
+
+/// Ten to the powers of 0 to 8, and the largest magnitudes behind which 1 to 8 zeros can be put.
+const TENS: [i32; 9] = {
+    let mut tens = [1; 9];
+    let mut zeros = 1;
+    while zeros < 9 {
+        tens[zeros] = tens[zeros - 1] * 10;
+        zeros += 1;
+    }
+    tens
+};
+const LARGEST: [u32; 8] = {
+    let mut largest = [0; 8];
+    let mut zeros = 1;
+    while zeros < 9 {
+        largest[zeros - 1] = (i32::MAX / TENS[zeros]) as u32;
+        zeros += 1;
+    }
+    largest
+};
+
+#[inline(always)]
+fn numbers_at<const K: usize>(fields: &[u8], at: usize) -> [i32; K] {
+    let numbers = fields[at..at + 4 * K].as_chunks().0;
+    array::from_fn(|k| i32::from_be_bytes(numbers[k]))
+}
+
+#[inline(always)]
+fn scalar_at(fields: &[u8], at: usize) -> i16 {
+    i16::from_be_bytes([fields[at], fields[at + 1]])
+}
+
+#[inline(always)]
+fn largest_of<const K: usize>(numbers: [i32; K]) -> u32 {
+    numbers.map(i32::unsigned_abs).into_iter().fold(0, u32::max)
+}
+
+/// Puts the K numbers and the scalar of a group as a record holds them.
+#[inline(always)]
+fn put_group<const K: usize>(header: &[u8], at: usize, scalar: usize, fields: &mut [u8]) {
+    let numbers = numbers_at::<K>(header, at);
+    let power = match scalar_at(header, scalar) {
+        -10_000 => 0,
+        -1_000 => 1,
+        -100 => 2,
+        -10 => 3,
+        10 => 5,
+        100 => 6,
+        1_000 => 7,
+        10_000 => 8,
+        _ => 4,
+    };
+    let magnitude = largest_of(numbers);
+    let fit = LARGEST.map(|largest| usize::from(magnitude <= largest));
+    let zeros = power.min(fit.into_iter().sum());
+    let (bytes, _) = fields[at..at + 4 * K].as_chunks_mut();
+    for (bytes, number) in bytes.iter_mut().zip(numbers) {
+        *bytes = (number * TENS[zeros]).to_be_bytes();
+    }
+    fields[scalar..scalar + 2].copy_from_slice(&SCALARS[power - zeros].to_be_bytes());
+}
+
+/// A scalar is that of the smallest power where it is the least, or where the numbers take no zero.
+#[inline(always)]
+fn is_smallest<const K: usize>(fields: &[u8], at: usize, scalar: usize) -> bool {
+    match scalar_at(fields, scalar) {
+        -10_000 => true,
+        -1_000 | -100 | -10 | 1 | 10 | 100 | 1_000 | 10_000 => {
+            largest_of(numbers_at::<K>(fields, at)) > LARGEST[0]
+        }
+        _ => false,
     }
 }
 
