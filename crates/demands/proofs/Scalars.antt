@@ -29,7 +29,7 @@ use Rattle.numbers.proofs.WalkLaws.{walk-each}
 use Rattle.value.specs.Writing.{inBits}
 use Rattle.value.proofs.Held.{in-mag, mag-in}
 use Rattle.scalars.specs.Scalar.{powers, isScalar, powerOf, scalarOf, scaledBy, scaledValues, serves, smallest, groupScalar, isSmallest}
-use Rattle.scalars.proofs.Fit32.{Fit32}
+use Rattle.scalars.specs.Parts.{Fit32}
 use Rattle.scalars.proofs.Powers.{power-lt, own-serves, smallest-lt, serves-leaves, leaves-serves}
 use Rattle.scalars.proofs.Laws.{power-scalar, same-refl, same-true}
 use Rattle.scalars.proofs.Meant as meant

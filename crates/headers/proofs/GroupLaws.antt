@@ -1,21 +1,26 @@
--- The groups of a header in their bytes. Assumes nothing.
-use mathlib.Core.Path.{_≡_, refl, sym, ap, _∙_}
+-- The groups of a header in their bytes. Each byte is below 256 where a law says so; nothing else is assumed.
+use mathlib.Core.Path.{_≡_, refl, sym, ap, _∙_, subst}
 use mathlib.Core.List.{List, [], _∷_, _++_, map}
-use Prim.Native.Nat.{ℕ, _+_, _*_, _^_, _≤_, _<_}
-use native.Mathlib.Numerals.{add-one}
+use Prim.Native.Nat.{ℕ, zero, suc, _+_, _-_, _*_, _^_, _<_}
+use native.Mathlib.Nat.{not-suc-le-zero}
 use native.Mathlib.Omega.{arith}
-use lib.ListN.{length, getD, take, drop, replicate, length-map, length-append, drop-of-length-le}
-use lib.Seq.{drop-cons, getD-take, take-at, take-all, length-take-le}
+use lib.ListN.{length, replicate, length-map, length-append}
 use lib.IntN.{ℤ, pos, _*ℤ_}
-use Rattle.numbers.specs.BigEndian.{bytesOf}
+use lib.Signed.{mag}
+use Rattle.numbers.specs.Walk.{walk, flat, bytesAt}
+use Rattle.numbers.specs.BigEndian.{number, bytesOf}
 use Rattle.numbers.specs.TwosComplement.{bitsOf}
-use Rattle.numbers.specs.Terms.{All}
+use Rattle.numbers.specs.Terms.{All, Bytes}
 use Rattle.numbers.proofs.WalkLaws.{size-walk, flat-size}
-use Rattle.scalars.specs.Scalar.{scaledValues, groupNumbers, groupScalar, isSmallest, sameNumber, powerOf}
-use Rattle.scalars.proofs.Laws.{length-held, scaled-padded, numbers-padded, scalar-padded}
+use Rattle.numbers.proofs.ByteLaws.{number-at}
+use Rattle.numbers.proofs.SignLaws.{mag-signed}
+use Rattle.scalars.specs.Scalar.{powerOf, scaledValues, smallest, groupNumbers, groupScalar, scaleOf, isSmallest, sameNumber}
+use Rattle.scalars.specs.Parts.{Fit32}
+use Rattle.scalars.proofs.Powers.{power-lt, smallest-lt, group-scaled}
+use Rattle.scalars.proofs.Laws.{fit-held, length-held, scaled-padded, scalar-padded, smallest-padded}
 use Rattle.reel.specs.Layout.{traceWidths, traceFields, fieldNumber}
 use Rattle.reel.specs.Meaning.{elevationFields, coordinateFields}
-use Rattle.headers.specs.Parts.{number2, number4, numbersIn, groupBytes, elevationsAt, coordinatesAt, elevationsCopied, coordinatesCopied}
+use Rattle.headers.specs.Parts.{number2, number4, numbersIn, timesFactor, groupBytes, elevationsAt, coordinatesAt, elevationsCopied, coordinatesCopied}
 
 -- the numbers one by one
 pub numbers-four : (s : List ℕ) (at : ℕ) → numbersIn s 4 at ≡ number4 s at ∷ number4 s (at + 4) ∷ number4 s (at + 8) ∷ number4 s (at + 12) ∷ []
@@ -61,15 +66,21 @@ pub test-padded : (ns : List ℤ) (k : ℕ) (z : ℤ) → isSmallest (ns ++ repl
 unfolding isSmallest
 test-padded ns k z = rw (scaled-padded (powerOf z) ns k) (ap (sameNumber z) (scalar-padded (scaledValues z ns) k))
 
--- nor in what a record holds of it
-pub scalar-of-padded : (ns : List ℤ) (k : ℕ) (z : ℤ) → groupScalar (scaledValues z (ns ++ replicate k (pos 0))) ≡ groupScalar (scaledValues z ns)
-scalar-of-padded ns k z = ap groupScalar (scaled-padded (powerOf z) ns k) ∙ scalar-padded (scaledValues z ns) k
+-- LAW. The numbers of a group that a record holds are those on the reel times the factor of its scale; and these fit.
+pub factor-is : (ns : List ℤ) (z : ℤ) → Fit32 ns → timesFactor (scaleOf ns z .factor) ns ≡ groupNumbers (scaledValues z ns)
+unfolding scaleOf
+factor-is ns z w = sym (group-scaled ns (powerOf z) (power-lt z) w)
 
-pub numbers-of-padded : (ns : List ℤ) (n k : ℕ) (z : ℤ) → length ns ≡ n → take n (groupNumbers (scaledValues z (ns ++ replicate k (pos 0)))) ≡ groupNumbers (scaledValues z ns)
-numbers-of-padded ns n k z e =
-    let vs = scaledValues z ns in
-    let size : length (groupNumbers vs) ≡ n = length-held vs ∙ length-map ns _ ∙ e in
-    ap (take n) (ap groupNumbers (scaled-padded (powerOf z) ns k) ∙ numbers-padded vs k) ∙ take-at (groupNumbers vs) (replicate k (pos 0)) n size
+pub factor-fits : (ns : List ℤ) (z : ℤ) → Fit32 ns → Fit32 (timesFactor (scaleOf ns z .factor) ns)
+factor-fits ns z w = subst Fit32 (sym (factor-is ns z w)) (fit-held (scaledValues z ns) (smallest-lt ns (powerOf z) (power-lt z) w))
+
+-- zeros behind a group play no part in its scale
+pub scale-padded : (ns : List ℤ) (k : ℕ) (z : ℤ) → scaleOf (ns ++ replicate k (pos 0)) z ≡ scaleOf ns z
+unfolding scaleOf groupScalar
+scale-padded ns k z =
+    let s = scaled-padded (powerOf z) ns k in
+    let e : smallest (scaledValues z (ns ++ replicate k (pos 0))) ≡ smallest (scaledValues z ns) = ap smallest s ∙ smallest-padded (scaledValues z ns) k in
+    rw e
 
 -- ## Numbers in four bytes each
 
@@ -81,27 +92,35 @@ size-group zs = flat-size (λ z. bytesOf 4 (bitsOf 32 z)) (λ z. Unit {0}) 4 (λ
     all [] = tt
     all (x ∷ l) = (tt, all l)
 
--- the first of those that are left
-pub group-more : (g : List ℤ) (k j : ℕ) → j < k → k ≤ length g
-    → groupBytes (drop j (take k g)) ≡ bytesOf 4 (bitsOf 32 (getD g j (pos 0))) ++ groupBytes (drop (j + 1) (take k g))
-unfolding groupBytes
-group-more g k j h l =
-    let n : j < length (take k g) = rw (length-take-le k g l) h in
-    rw (add-one j, drop-cons (take k g) j (pos 0) n, getD-take k g j (pos 0) h)
-
-pub group-none : (g : List ℤ) (k j : ℕ) → k ≤ j → k ≤ length g → groupBytes (drop j (take k g)) ≡ []
-unfolding groupBytes
-group-none g k j h l =
-    let n : length (take k g) ≤ j = rw (length-take-le k g l) h in
-    rw (drop-of-length-le (take k g) n)
-
 pub size-in : (s : List ℕ) (k at : ℕ) → length (numbersIn s k at) ≡ k
 unfolding numbersIn
 size-in s k at = size-walk (number4 s) 4 k at
 
--- seven numbers are all of them
-pub all-seven : (z : ℤ) (ns : List ℤ) → length ns ≡ 7 → take 7 (groupNumbers (scaledValues z ns)) ≡ groupNumbers (scaledValues z ns)
-all-seven z ns e = take-all 7 (groupNumbers (scaledValues z ns)) (omega (arith, length-held (scaledValues z ns), length-map ns (λ n. n *ℤ pos (10 ^ powerOf z))))
+-- along the reel
+each-times : (factor : ℤ) (l : List ℤ) → groupBytes (timesFactor factor l) ≡ flat (map (λ (n : ℤ). bytesOf 4 (bitsOf 32 (n *ℤ factor))) l)
+unfolding groupBytes
+each-times factor [] = refl
+each-times factor (n ∷ l) = ap (λ (r : List ℕ). bytesOf 4 (bitsOf 32 (n *ℤ factor)) ++ r) (each-times factor l)
+
+pub times-walk : (s : List ℕ) (factor : ℤ) (k at : ℕ)
+    → groupBytes (timesFactor factor (numbersIn s k at)) ≡ flat (map (λ (n : ℤ). bytesOf 4 (bitsOf 32 (n *ℤ factor))) (walk (number4 s) 4 k at))
+unfolding numbersIn
+times-walk s factor k at = each-times factor (walk (number4 s) 4 k at)
+
+-- the first of k products that fit, and the rest
+pub fit-more : (s : List ℕ) (factor : ℤ) (k at : ℕ) → 0 < k → Fit32 (timesFactor factor (numbersIn s k at))
+    → (mag (number4 s at *ℤ factor) < 2 ^ 31) × Fit32 (timesFactor factor (numbersIn s (k - 1) (at + 4)))
+unfolding numbersIn
+fit-more s factor zero at h w = absurd (not-suc-le-zero h)
+fit-more s factor (suc k) at h w =
+    let e : suc k - 1 ≡ k = omega arith in
+    (w .0, rw e (w .1))
+
+-- a header's numbers fit
+pub numbers-fit : (s : List ℕ) → Bytes s → (k at : ℕ) → Fit32 (numbersIn s k at)
+unfolding numbersIn
+numbers-fit s b zero at = tt
+numbers-fit s b (suc k) at = (mag-signed 32 (number (bytesAt s at 4)) (omega arith) (number-at s b at 4), numbers-fit s b k (at + 4))
 
 pub size-held : (z : ℤ) (ns : List ℤ) (n : ℕ) → length ns ≡ n → length (groupBytes (groupNumbers (scaledValues z ns))) ≡ n * 4
 size-held z ns n e = size-group (groupNumbers (scaledValues z ns)) ∙ ap (λ (x : ℕ). x * 4) (length-held (scaledValues z ns) ∙ length-map ns (λ n. n *ℤ pos (10 ^ powerOf z)) ∙ e)

@@ -14,7 +14,7 @@ use Rattle.numbers.specs.declared.Check.the-variants.{Fine}
 use Rattle.numbers.proofs.CauseLaws.{passed, then-fine}
 use Rattle.numbers.specs.Terms.{Bytes}
 use Rattle.scalars.specs.Scalar.{powers, powerOf, smallest, groupNumbers, groupScalar, isScalar, isSmallest}
-use Rattle.scalars.proofs.Fit32.{Fit32}
+use Rattle.scalars.specs.Parts.{Fit32}
 use Rattle.scalars.proofs.Powers.{power-lt, smallest-lt}
 use Rattle.scalars.proofs.Laws.{fit-held, scalar-fits16, length-held}
 use Rattle.reel.specs.Layout.{Field, traceWidths, traceFields, elevationScalar, coordinateScalar, fieldNumber}

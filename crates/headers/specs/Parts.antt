@@ -2,7 +2,7 @@
 use Prim.Native.Nat.{ℕ, _+_}
 use mathlib.Core.List.{List, _++_, map}
 use lib.Dec.{eqb}
-use lib.IntN.{ℤ}
+use lib.IntN.{ℤ, _*ℤ_}
 use Rattle.numbers.specs.Walk.{pick, walk, flat, bytesAt, overwritten}
 use Rattle.numbers.specs.Places.{bytePlace}
 use Rattle.numbers.specs.BigEndian.{number, bytesOf}
@@ -21,6 +21,10 @@ number2 s p = signedOf 16 (number (bytesAt s p 2))
 -- The numbers of k fields of four bytes from a place on.
 unfoldable pub numbersIn : List ℕ → ℕ → ℕ → List ℤ
 numbersIn s k at = walk (number4 s) 4 k at
+
+-- Numbers times a factor.
+abbrev pub timesFactor : ℤ → List ℤ → List ℤ
+timesFactor factor ns = map (λ n. n *ℤ factor) ns
 
 -- Numbers in four bytes each.
 unfoldable pub groupBytes : List ℤ → List ℕ

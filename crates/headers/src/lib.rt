@@ -2,13 +2,15 @@
 // the cause 13 against a record's scalars.
 ghost use mathlib.Core.Path.{_≡_};
 ghost use mathlib.Core.List.{_++_};
-ghost use Prim.Native.Nat.{_+_, _*_, _≤_, _<_};
-ghost use lib.ListN.{length, take, replicate};
-ghost use lib.IntN.{pos};
+ghost use Prim.Native.Nat.{_+_, _*_, _^_, _≤_, _<_};
+ghost use lib.ListN.{length, replicate};
+ghost use lib.IntN.{pos, _*ℤ_};
+ghost use lib.Signed.{mag};
 ghost use Rattle.numbers.specs.Places.{placeNo, byteNo, bytePlace};
+ghost use Rattle.scalars.specs.Parts.{Fit32};
 ghost use Rattle.reel.specs.Layout.{number16};
 ghost use Rattle.headers.specs.Header.{headerSize, smallestCauses, headerJudged, headerRead};
-ghost use Rattle.headers.specs.Parts.{number4, number2, numbersIn, groupBytes, elevationsCopied, coordinatesCopied, ownOr, fieldFilled, groupsCopied, headerCopied};
+ghost use Rattle.headers.specs.Parts.{number4, number2, numbersIn, timesFactor, groupBytes, elevationsCopied, coordinatesCopied, ownOr, fieldFilled, groupsCopied, headerCopied};
 use numbers::ByteNo;
 use numbers::Check;
 use numbers::Place;
@@ -96,18 +98,31 @@ pub fn judge_header(s: &[u8], start: Place) -> Check
 
 // ## The header of a trace of a reel, as its record holds it
 
-// The first k numbers of a group, four bytes each.
-fn put_numbers(g: [i32; 7], k: usize, out: &mut [u8])
-    requires { ⌜ (k ≤ 7) × (length (now out) ≡ k * 4) ⌝ }
-    ensures { λ _. ⌜ now (out .exit) ≡ groupBytes (take k g) ⌝ }
+// A product that fits.
+fn times(n: i32, factor: i32) -> i32
+    requires { ⌜ mag (n *ℤ factor) < 2 ^ 31 ⌝ }
+    ensures { λ r. ⌜ r ≡ n *ℤ factor ⌝ }
 {
-    let mut j = 0;
+    n * factor
+}
+
+// k numbers from a place on, times a factor, four bytes each.
+fn put_numbers(reel: &[u8], at: usize, k: usize, factor: i32, out: &mut [u8])
+    requires { ⌜ (at + k * 4 ≤ length (now reel)) × (length (now out) ≡ k * 4) × Fit32 (timesFactor factor (numbersIn (now reel) k at)) ⌝ }
+    ensures { λ _. ⌜ now (out .exit) ≡ groupBytes (timesFactor factor (numbersIn (now (reel .entry)) k at)) ⌝ }
+{
+    let mut p = at;
     let mut o = 0;
-    while j < k {
+    let mut left = k;
+    while 0 < left {
         let e = o + 4;
-        slices::put32(numbers::bits32(g[j]), &mut out[o..e]);
+        slices::put32(
+            numbers::bits32(times(number_at(reel, p), factor)),
+            &mut out[o..e],
+        );
+        p += 4;
         o = e;
-        j += 1;
+        left -= 1;
     }
 }
 
@@ -116,10 +131,9 @@ fn put_elevations(reel: &[u8], at: usize, out: &mut [u8])
     requires { ⌜ (at + headerSize ≤ length (now reel)) × (length (now out) ≡ 30) ⌝ }
     ensures { λ _. ⌜ now (out .exit) ≡ elevationsCopied (now (reel .entry)) at ⌝ }
 {
-    let g = scalars::at_smallest(seven_at(reel, at + 40), scalar_at(reel, at + 68));
-    let numbers = g.numbers;
-    put_numbers(numbers, 7, &mut out[0..28]);
-    slices::put16(numbers::bits16(g.scalar), &mut out[28..30]);
+    let scale = scalars::scale_of(seven_at(reel, at + 40), scalar_at(reel, at + 68));
+    put_numbers(reel, at + 40, 7, scale.factor, &mut out[0..28]);
+    slices::put16(numbers::bits16(scale.scalar), &mut out[28..30]);
 }
 
 // The scalar of its coordinates, and the coordinates.
@@ -127,10 +141,9 @@ fn put_coordinates(reel: &[u8], at: usize, out: &mut [u8])
     requires { ⌜ (at + headerSize ≤ length (now reel)) × (length (now out) ≡ 18) ⌝ }
     ensures { λ _. ⌜ now (out .exit) ≡ coordinatesCopied (now (reel .entry)) at ⌝ }
 {
-    let g = scalars::at_smallest(four_at(reel, at + 72), scalar_at(reel, at + 70));
-    let numbers = g.numbers;
-    slices::put16(numbers::bits16(g.scalar), &mut out[0..2]);
-    put_numbers(numbers, 4, &mut out[2..18]);
+    let scale = scalars::scale_of(four_at(reel, at + 72), scalar_at(reel, at + 70));
+    slices::put16(numbers::bits16(scale.scalar), &mut out[0..2]);
+    put_numbers(reel, at + 72, 4, scale.factor, &mut out[2..18]);
 }
 
 // Its fields, with fields 41 to 85 at their smallest powers.

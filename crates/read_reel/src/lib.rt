@@ -92,12 +92,16 @@ fn put_traces(
     let mut at = 3600;
     let mut o = 0;
     let mut left = t;
-    while 0 < left {
+    while 1 < left {
         let e = o + m;
         put_trace(reel, code, n, i, at, &mut out[o..e]);
         at += w;
         o = e;
         left -= 1;
+    }
+    if 0 < left {
+        let f = o + m;
+        put_trace(reel, code, n, i, at, &mut out[o..f]);
     }
 }
 

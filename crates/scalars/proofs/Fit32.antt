@@ -18,13 +18,8 @@ use denote.Shadow.{shadow}
 use denote.Laws.{Is}
 use denote.Array.{Array, each}
 use denote.Signed.{SInt}
-use Rattle.numbers.specs.Terms.{All}
-use Rattle.scalars.specs.Parts.{largest}
+use Rattle.scalars.specs.Parts.{largest, Fit32}
 use Rattle.scalars.specs.Scalar.{sameNumber}
-
--- numbers of 32 signed bits
-abbrev pub Fit32 : List ℤ → Type 0
-Fit32 ns = All (λ (n : ℤ). mag n < 2 ^ 31) ns
 
 each-fits : (ns : List ℤ) (us : List Val) → shadow (each ℤ (SInt w32 .own) ns us) → Fit32 ns
 each-fits [] us s = tt

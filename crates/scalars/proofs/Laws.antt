@@ -18,7 +18,8 @@ use Rattle.numbers.proofs.FirstLaws.{found}
 use Rattle.value.proofs.Magnitudes.{in-bits}
 use Rattle.scalars.specs.Scalar.{powers, isScalar, powerOf, scalarOf, scaledBy, scaledValues, serves, smallest, numbersAt, groupNumbers, groupScalar, sameNumber, isSmallest}
 use Rattle.scalars.specs.Parts.{largest}
-use Rattle.scalars.proofs.Fit32.{Fit32, largest-fits}
+use Rattle.scalars.proofs.Fit32.{largest-fits}
+use Rattle.scalars.specs.Parts.{Fit32}
 use Rattle.numbers.proofs.BoolLaws.{and-true}
 use Rattle.value.proofs.Held.{in-mag, quot-mul, mul-quot}
 use Rattle.scalars.proofs.Quotients.{signed-times}
@@ -143,7 +144,7 @@ first-same t u e zero i = refl
 first-same t u e (suc n) i = rw (e i, first-same t u e n (suc i))
 
 -- LAW. Zeros behind a group don't change its smallest power, and stay zeros at it.
-smallest-padded : (vs : List ℤ) (k : ℕ) → smallest (vs ++ replicate k (pos 0)) ≡ smallest vs
+pub smallest-padded : (vs : List ℤ) (k : ℕ) → smallest (vs ++ replicate k (pos 0)) ≡ smallest vs
 unfolding smallest
 smallest-padded vs k = first-same (serves (vs ++ replicate k (pos 0))) (serves vs) (serves-padded vs k) powers 0
 

@@ -5,7 +5,7 @@ use mathlib.Core.Logic.{_⊎_, ⊎-elim}
 use mathlib.Core.Bool.{Bool, true, false, _&&_}
 use mathlib.Core.List.{List, [], _∷_}
 use Prim.Native.Nat.{ℕ, zero, suc, _+_, _-_, _*_, _^_, _≤_, _<_, max}
-use native.Mathlib.Nat.{not-suc-le-zero, mul-assoc, one-le-pow, pow-le-pow-right, mul-le-mul-left, mul-le-mul-right, le-max-left, le-max-right, pow-suc, sub-add-cancel, zero-mul, max-eq-left, max-eq-right, eq-or-lt-of-le, le-trans}
+use native.Mathlib.Nat.{not-suc-le-zero, mul-assoc, one-le-pow, pow-le-pow-right, mul-le-mul-left, mul-le-mul-right, le-max-left, le-max-right, pow-suc, sub-add-cancel, zero-mul, max-eq-left, max-eq-right, eq-or-lt-of-le}
 use native.Mathlib.Omega.{arith}
 use borrow.Author.Tests.{lt-ltb, le-ltb, le-leb, lt-leb}
 use lib.Dec.{T, leb, ltb, eqb}
@@ -22,9 +22,10 @@ use Rattle.value.proofs.Magnitudes.{signed-mul}
 use Rattle.value.proofs.Held.{mul-multiple}
 use Rattle.value.specs.Value.{signMagnitude}
 use Rattle.numbers.proofs.FirstLaws.{first-at, found}
-use Rattle.scalars.specs.Scalar.{zerosIn, powerOf, powers, scaledBy, serves, smallest, numbersAt, scalarOf, groupNumbers, groupScalar}
-use Rattle.scalars.specs.Parts.{largest, Raised, groupOf}
-use Rattle.scalars.proofs.Fit32.{Fit32, largest-fits}
+use Rattle.scalars.specs.Scalar.{zerosIn, powerOf, powers, scaledBy, serves, smallest, numbersAt, groupNumbers}
+use Rattle.scalars.specs.Parts.{largest, Raised}
+use Rattle.scalars.proofs.Fit32.{largest-fits}
+use Rattle.scalars.specs.Parts.{Fit32}
 use Rattle.scalars.proofs.Quotients.{signed-times, quot-signed, holds-signed}
 
 one-of-two : (t : Bool) (x y m : ℕ) → x ≤ m → y ≤ m → pick t x y ≤ m
@@ -150,11 +151,6 @@ pub times-fits : (n : ℤ) (d : ℕ) → mag n < 2 ^ 31 → natAbs n * 10 ^ d �
 times-fits (pos n) d h l = ⊎-elim (λ (e : n * 10 ^ d ≡ 2 ^ 31). absurd (no-edge n d h e)) (λ (x : n * 10 ^ d < 2 ^ 31). x) (eq-or-lt-of-le l)
 times-fits (negsuc n) d h l = neg-fits (suc n * 10 ^ d) l
 
-pub times-at : (ns : List ℤ) (i d : ℕ) → Fit32 ns → largest ns * 10 ^ d ≤ 2 ^ 31 → mag (getD ns i (pos 0) *ℤ pos (10 ^ d)) < 2 ^ 31
-times-at [] i d w l = times-fits (pos 0) d (omega arith) l
-times-at (n ∷ ns) zero d w l = times-fits n d (w .0) (le-trans (mul-le-mul-right (10 ^ d) (le-max-left (natAbs n) (largest ns))) l)
-times-at (n ∷ ns) (suc i) d w l = times-at ns i d (w .1) (le-trans (mul-le-mul-right (10 ^ d) (le-max-right (natAbs n) (largest ns))) l)
-
 -- d below the power of the scalar, the numbers have d zeros more
 pub number-at : (n : ℤ) (p d : ℕ) → d ≤ p → numberOf (10 ^ (p - d)) (n *ℤ pos (10 ^ p)) ≡ n *ℤ pos (10 ^ d)
 number-at n p d h =
@@ -168,10 +164,14 @@ numbers-at : (ns : List ℤ) (p d : ℕ) → d ≤ p → numbersAt (p - d) (scal
 numbers-at [] p d h = refl
 numbers-at (n ∷ ns) p d h = cons-eq (number-at n p d h) (numbers-at ns p d h)
 
--- LAW. What a record holds of a group, by the zeros that can be put behind its numbers.
-pub group-is : (ns : List ℤ) (p d : ℕ) → p < powers → Fit32 ns → Raised (largest ns) p d → groupOf (scaledBy p ns) ≡ record { numbers = scaledBy d ns; scalar = scalarOf (p - d) }
-unfolding groupNumbers groupScalar
-group-is ns p d h w r = rw (smallest-is ns p d h w r, numbers-at ns p d (r .most))
+-- LAW. What a record holds of a group: its numbers, each with as many zeros behind it as the smallest power lies below that of its scalar.
+pub group-scaled : (ns : List ℤ) (p : ℕ) → p < powers → Fit32 ns → groupNumbers (scaledBy p ns) ≡ scaledBy (p - smallest (scaledBy p ns)) ns
+unfolding groupNumbers
+group-scaled ns p h w =
+    let q = smallest (scaledBy p ns) in
+    let l : q ≤ p = smallest-le ns p h w in
+    let back : p - (p - q) ≡ q = omega arith in
+    ap (λ (x : ℕ). numbersAt x (scaledBy p ns)) (sym back) ∙ numbers-at ns p (p - q) (omega arith)
 
 -- ## Where a power doesn't serve
 

@@ -8,6 +8,7 @@ use lib.IntN.{ℤ, pos, negsuc, negℤ, natAbs, _*ℤ_}
 use Rattle.numbers.specs.Walk.{pick}
 use Rattle.numbers.specs.First.{first}
 use Rattle.value.specs.Writing.{numberOf, holds}
+use Rattle.scalars.specs.declared.Scale.{Scale}
 
 -- ## Scalars and powers
 
@@ -74,6 +75,15 @@ groupNumbers vs = numbersAt (smallest vs) vs
 
 unfoldable pub groupScalar : List ℤ → ℤ
 groupScalar vs = scalarOf (smallest vs)
+
+-- What takes the numbers of a group under a scalar to the smallest power: as many zeros behind each as the smallest power lies below that of
+-- the scalar, and the scalar of the smallest.
+unfoldable pub scaleOf : List ℤ → ℤ → Scale
+scaleOf ns scalar =
+    record {
+      factor = pos (10 ^ (powerOf scalar - smallest (scaledValues scalar ns)));
+      scalar = groupScalar (scaledValues scalar ns);
+    }
 
 -- Two numbers are the same.
 abbrev pub sameNumber : ℤ → ℤ → Bool

@@ -2,15 +2,13 @@
 // power at which all its numbers are whole and fit 32 signed bits.
 ghost use mathlib.Core.Path.{_≡_};
 ghost use Prim.Native.Nat.{_+_, _*_, _^_, _<_, _≤_, max};
-ghost use lib.IntN.{pos, natAbs, _*ℤ_};
-ghost use lib.Signed.{mag};
-ghost use Rattle.scalars.specs.Scalar.{zerosIn, isScalar, powerOf, scalarOf, scaledBy, scaledValues, smallest, isSmallest, powers};
-ghost use Rattle.scalars.specs.Parts.{largest, Raised, groupOf};
+ghost use lib.IntN.{pos, natAbs};
+ghost use Rattle.scalars.specs.Scalar.{powers, isScalar, zerosIn, powerOf, scalarOf, scaledValues, smallest, scaleOf, isSmallest};
+ghost use Rattle.scalars.specs.Parts.{largest, Raised};
 
-// A group's seven numbers and their scalar. A group of fewer is filled up with zeros, which every power
-// serves.
-pub struct Group {
-    pub numbers: [i32; 7],
+// What takes a group to its smallest power: the factor of its numbers, and the scalar of that power.
+pub struct Scale {
+    pub factor: i32,
     pub scalar: i16,
 }
 
@@ -112,14 +110,6 @@ fn ten_to(d: u32) -> i32
     }
 }
 
-// A product that fits.
-fn times(n: i32, f: i32) -> i32
-    requires { ⌜ mag (n *ℤ f) < 2 ^ 31 ⌝ }
-    ensures { λ r. ⌜ r ≡ n *ℤ f ⌝ }
-{
-    n * f
-}
-
 // The scalar of a power.
 fn scalar_of(q: u32) -> i16
     requires { ⌜ q < powers ⌝ }
@@ -138,33 +128,15 @@ fn scalar_of(q: u32) -> i16
     }
 }
 
-// A group's numbers, with zeros behind each.
-fn times_all(g: [i32; 7], d: u32) -> [i32; 7]
-    requires { ⌜ (d < powers) × (largest g * 10 ^ d ≤ 2 ^ 31) ⌝ }
-    ensures { λ r. ⌜ r ≡ scaledBy d g ⌝ }
-{
-    let f = ten_to(d);
-    [
-        times(g[0], f),
-        times(g[1], f),
-        times(g[2], f),
-        times(g[3], f),
-        times(g[4], f),
-        times(g[5], f),
-        times(g[6], f),
-    ]
-}
-
-// A group under a scalar as a record holds it: its numbers at the smallest power that serves it, and
-// the scalar of that power.
-pub fn at_smallest(group: [i32; 7], scalar: i16) -> Group
-    ensures { λ r. ⌜ r ≡ groupOf (scaledValues scalar group) ⌝ }
+// What takes a group under a scalar to the smallest power that serves it. A group of fewer than seven numbers is filled up with zeros,
+// which every power serves.
+pub fn scale_of(group: [i32; 7], scalar: i16) -> Scale
+    ensures { λ r. ⌜ r ≡ scaleOf group scalar ⌝ }
 {
     let p = power(scalar);
     let d = raised(largest_of(group), p);
-    let numbers = times_all(group, d);
-    Group {
-        numbers,
+    Scale {
+        factor: ten_to(d),
         scalar: scalar_of(p - d),
     }
 }

@@ -1,44 +1,65 @@
 -- `headers::put_elevations` meets its contract. Assumes nothing.
-use mathlib.Core.Path.{_≡_, ap, _∙_}
-use mathlib.Core.List.{List}
-use Prim.Native.Nat.{_+_}
-use lib.IntN.{ℤ}
-use lib.ListN.{take}
-use mir.Syntax.{w16}
-use mir.Val.{SFits}
+use mathlib.Core.Path.{_≡_, refl, ap, _∙_}
+use mathlib.Core.List.{List, _++_}
+use Prim.Native.Nat.{ℕ, _+_}
+use native.Mathlib.Omega.{arith}
+use borrow.Author.Needs.{sfits-of, needs}
+use lib.IntN.{ℤ, pos}
+use lib.ListN.{replicate}
+use mir.Syntax.{w16, w32}
+use mir.Val.{SFits, toZ, ofZ}
 use mir.Facts.{toZ-ofZ}
 use Rattle.numbers.specs.BigEndian.{bytesOf}
 use Rattle.numbers.specs.TwosComplement.{bitsOf}
+use Rattle.numbers.proofs.ByteLaws.{all-bytes}
 use Rattle.numbers.proofs.WalkLaws.{copied}
 use Rattle.numbers.proofs.Filling.{in-turn}
-use Rattle.scalars.specs.Scalar.{groupNumbers, groupScalar}
-use Rattle.scalars.specs.Parts.{groupOf}
-use Rattle.scalars.specs.declared.Group.{Group}
-use Rattle.headers.specs.Parts.{number2, numbersIn, groupBytes, elevationsAt, elevationsCopied}
-use Rattle.headers.proofs.GroupLaws.{size-in, size-held, all-seven}
-use borrow.Author.Needs.{sfits-of, needs}
+use Rattle.scalars.specs.Scalar.{groupNumbers, groupScalar, scaleOf}
+use Rattle.scalars.specs.Parts.{Fit32}
+use Rattle.scalars.specs.declared.Scale.{Scale}
+use Rattle.headers.specs.Parts.{number2, numbersIn, timesFactor, groupBytes, elevationsAt, coordinatesAt, elevationsCopied, coordinatesCopied}
+use Rattle.headers.proofs.GroupLaws.{size-in, size-held, numbers-fit, factor-is, factor-fits, scale-padded}
 use Rattle.headers.proofs.put_elevations.Statement.{statement}
 use Rattle.headers.proofs.put_elevations.Tie as tie
 
--- the group as a record holds it
-group : (c : tie.After-at-smallest) → c .at-smallest .result ≡ groupOf (elevationsAt (c .before .before .before .before .before .args .reel .now) (c .before .before .before .before .before .args .at))
-group c = rw (toZ-ofZ {w = w16} (sfits-of (c .before .scalar-at .ok)), c .before .scalar-at .ensures, c .before .before .seven-at .ensures) at (c .at-smallest .ensures)
+-- the scale of the group
+scale : (c : tie.After-scale-of) → let a = c .before .before .before .before .before .args in c .scale-of .result ≡ scaleOf (numbersIn (a .reel .now) 7 (a .at + 40)) (number2 (a .reel .now) (a .at + 68))
+scale c = rw (toZ-ofZ {w = w16} (sfits-of (c .before .scalar-at .ok)), c .before .scalar-at .ensures, c .before .before .seven-at .ensures) at (c .scale-of .ensures)
+
+-- the group's numbers fit
+fits : (c : tie.After-scale-of) → let a = c .before .before .before .before .before .args in Fit32 (numbersIn (a .reel .now) 7 (a .at + 40))
+fits c =
+    let a = c .before .before .before .before .before .args in
+    numbers-fit (a .reel .now) (all-bytes (a .reel .now) (λ i. omega (arith, c .before .before .before .before .shared-slice-known .given i))) 7 (a .at + 40)
+
+-- the factor as it is read
+factor : (c : tie.After-struct-told) → let a = c .before .before .before .before .before .before .before .args in toZ w32 (ofZ w32 (c .before .before .scale-of .result .factor)) ≡ scaleOf (numbersIn (a .reel .now) 7 (a .at + 40)) (number2 (a .reel .now) (a .at + 68)) .factor
+factor c =
+    let f : SFits w32 (c .before .before .scale-of .result .factor) = sfits-of {w = w32} (c .struct-told .given .0 .1) in
+    toZ-ofZ f ∙ ap (λ (x : Scale). x .factor) (scale (c .before .before))
+
+put-numbers-requires : tie.Need-put-numbers-requires
+put-numbers-requires c κs =
+    let s = c .before .before .before .before .before .before .before in
+    let a = s .args in
+    (omega (arith, s .pre .0), c .before .put-numbers-arg .given .2, rw (factor c) (factor-fits (numbersIn (a .reel .now) 7 (a .at + 40)) (number2 (a .reel .now) (a .at + 68)) (fits (c .before .before))))
 
 returns : tie.Need-returns
-unfolding elevationsCopied
+unfolding elevationsCopied scaleOf
 returns c =
     let st = c .before .before .before .before .before .before .before .before .before .before .before .before .before .before .before .before in
     let s = st .args .reel .now in
     let at = st .args .at in
-    let vs = elevationsAt s at in
-    let g = group (c .before .before .before .before .before .before .before .before .before .before .before) in
-    let ns : c .before .before .before .before .before .before .before .before .before .before .before .at-smallest .result .numbers ≡ groupNumbers vs = ap (λ (x : Group). x .numbers) g in
-    let z : c .before .before .before .before .before .before .before .before .before .before .before .at-smallest .result .scalar ≡ groupScalar vs = ap (λ (x : Group). x .scalar) g in
-    let f : SFits w16 (c .before .before .before .before .before .before .before .before .before .before .before .at-smallest .result .scalar) = sfits-of {w = w16} (c .before .before .before .before .before .struct-told .given .1 .0 .1) in
-    let n : c .before .before .before .before .bits16 .result ≡ bitsOf 16 (groupScalar vs) = (rw (toZ-ofZ f) at (c .before .before .before .before .bits16 .ensures)) ∙ ap (bitsOf 16) z in
-    let e₁ = c .before .before .before .before .before .before .before .before .put-numbers .ensures ∙ ap (λ (l : List ℤ). groupBytes (take 7 l)) ns ∙ ap groupBytes (all-seven (number2 s (at + 68)) (numbersIn s 7 (at + 40)) (size-in s 7 (at + 40))) in
+    let ns = numbersIn s 7 (at + 40) in
+    let x = number2 s (at + 68) in
+    let g = c .before .before .before .before .before .before .before .before .before .before .before in
+    let told = c .before .before .before .before .before .before .before .before .before in
+    let z : g .scale-of .result .scalar ≡ groupScalar (elevationsAt s at) = ap (λ (y : Scale). y .scalar) (scale g) in
+    let f : SFits w16 (g .scale-of .result .scalar) = sfits-of {w = w16} (c .before .before .before .before .before .struct-told2 .given .1 .0 .1) in
+    let n : c .before .before .before .before .bits16 .result ≡ bitsOf 16 (groupScalar (elevationsAt s at)) = (rw (toZ-ofZ f) at (c .before .before .before .before .bits16 .ensures)) ∙ ap (bitsOf 16) z in
+    let e₁ = c .before .before .before .before .before .before .before .before .put-numbers .ensures ∙ ap (λ (y : ℤ). groupBytes (timesFactor y ns)) (factor told) ∙ ap groupBytes (factor-is ns x (fits g)) in
     let e₂ = copied _ _ (c .before .before .put16 .ensures) (c .before .before .before .put16-arg .given .2) ∙ ap (bytesOf 2) n in
-    in-turn 28 2 (st .args .out .now) (st .pre .1) (size-held (number2 s (at + 68)) (numbersIn s 7 (at + 40)) 7 (size-in s 7 (at + 40))) e₁ e₂
+    in-turn 28 2 (st .args .out .now) (st .pre .1) (size-held x ns 7 (size-in s 7 (at + 40))) e₁ e₂
 
 pub put-elevations-spec : {M : Type 1} → statement M
 put-elevations-spec =
@@ -52,7 +73,8 @@ put-elevations-spec =
     (λ c. search needs)
     (λ c. search needs)
     (λ c. search needs)
-    (λ c κs. search needs)
+    (λ c. search needs)
+    put-numbers-requires
     (λ c κs. search needs)
     (λ c. search needs)
     (λ c. search needs)

@@ -7,7 +7,7 @@ use Rattle.numbers.proofs.Filling.{Filling, start as begin, finish, part-put}
 use Rattle.numbers.proofs.WalkLaws.{times-more, flat-none}
 use Rattle.numbers.specs.Walk.{flat}
 use lib.ListN.{length}
-use Prim.Native.Nat.{ℕ, _+_, _*_, _≤_}
+use Prim.Native.Nat.{ℕ, _+_, _-_, _*_, _≤_}
 use mathlib.Core.List.{map}
 use mathlib.Core.Path.{_≡_, refl, sym, ap, _∙_}
 use native.Mathlib.Omega.{arith}
@@ -29,10 +29,10 @@ loop-holds c =
     (omega (arith, s .pre .4), s .pre .5, omega arith, begin _ _ (s .pre .5 ∙ ap (λ (x : ℕ). a .t * x) (s .pre .3) ∙ sym (size-traces (a .reel .now) (a .code) (a .n) (a .i) (a .w) (a .t) firstTrace)))
 
 add-e : tie.Need-add-e Inv-loop μ-loop
-add-e c = omega (arith, times-more (c .before .loop .left) (c .before .before .before .before .args .m) (c .loop-test .taken), c .before .loop .inv .1, c .before .loop .inv .2)
+add-e c = omega (arith, times-more (c .before .loop .left) (c .before .before .before .before .args .m) (omega (arith, c .loop-test .taken)), c .before .loop .inv .1, c .before .loop .inv .2)
 
 part-put-trace-end : tie.Need-part-put-trace-end Inv-loop μ-loop
-part-put-trace-end c = omega (arith, times-more (c .before .loop .left) (c .before .before .before .before .args .m) (c .loop-test .taken), c .before .loop .inv .1, c .before .loop .inv .2)
+part-put-trace-end c = omega (arith, times-more (c .before .loop .left) (c .before .before .before .before .args .m) (omega (arith, c .loop-test .taken)), c .before .loop .inv .1, c .before .loop .inv .2)
 
 put-trace-requires : tie.Need-put-trace-requires Inv-loop μ-loop
 put-trace-requires c κs =
@@ -40,12 +40,12 @@ put-trace-requires c κs =
     let l = c .before .before .loop in (
       s .pre .0,
       s .pre .1,
-      omega (arith, times-more (l .left) (s .args .w) (c .before .loop-test .taken), s .pre .2, l .inv .0),
+      omega (arith, times-more (l .left) (s .args .w) (omega (arith, c .before .loop-test .taken)), s .pre .2, l .inv .0),
       omega (arith, s .pre .3),
     )
 
 add-at : tie.Need-add-at Inv-loop μ-loop
-add-at c = omega (arith, times-more (c .before .before .before .before .before .loop .left) (c .before .before .before .before .before .before .before .before .args .w) (c .before .before .before .before .loop-test .taken), c .before .before .before .before .before .loop .inv .0)
+add-at c = omega (arith, times-more (c .before .before .before .before .before .loop .left) (c .before .before .before .before .before .before .before .before .args .w) (omega (arith, c .before .before .before .before .loop-test .taken)), c .before .before .before .before .before .loop .inv .0)
 
 sub-left : tie.Need-sub-left Inv-loop μ-loop
 sub-left c = omega (arith, c .before .before .before .before .loop-test .taken)
@@ -61,16 +61,58 @@ loop-again c =
     let a = s .args in
     let r = a .reel .now in
     let l = h .loop in
-    let f = part-put (recordTraceCopied r (a .code) (a .n) (a .i)) (λ p. p) (a .w) (a .m) (λ p. size-trace r (a .code) (a .n) (a .i) p ∙ sym (s .pre .3)) (l .left) (l .at) (l .o) (l .o + a .m) (t .loop-test .taken) refl (l .inv .3) (c .before .before .put-trace .ensures) in
-    (omega (arith, times-more (l .left) (a .w) (t .loop-test .taken)), f .size ∙ sym (l .inv .3 .size) ∙ l .inv .1, omega (arith, times-more (l .left) (a .m) (t .loop-test .taken)), f)
+    let f = part-put (recordTraceCopied r (a .code) (a .n) (a .i)) (λ p. p) (a .w) (a .m) (λ p. size-trace r (a .code) (a .n) (a .i) p ∙ sym (s .pre .3)) (l .left) (l .at) (l .o) (l .o + a .m) (omega (arith, t .loop-test .taken)) refl (l .inv .3) (c .before .before .put-trace .ensures) in
+    (omega (arith, times-more (l .left) (a .w) (omega (arith, t .loop-test .taken))), f .size ∙ sym (l .inv .3 .size) ∙ l .inv .1, omega (arith, times-more (l .left) (a .m) (omega (arith, t .loop-test .taken))), f)
+
+add-f : tie.Need-add-f Inv-loop μ-loop
+add-f c =
+    let l = c .before .before .loop in
+    omega (arith, times-more (l .left) (c .before .before .before .before .before .args .m) (c .if1 .taken), l .inv .1, l .inv .2)
+
+part-put-trace-end-2 : tie.Need-part-put-trace-end-2 Inv-loop μ-loop
+part-put-trace-end-2 c =
+    let l = c .before .before .loop in
+    omega (arith, times-more (l .left) (c .before .before .before .before .before .args .m) (c .if1 .taken), l .inv .1, l .inv .2)
+
+put-trace-requires-2 : tie.Need-put-trace-requires-2 Inv-loop μ-loop
+put-trace-requires-2 c κs =
+    let s = c .before .before .before .before .before .before in
+    let l = c .before .before .before .loop in (
+      s .pre .0,
+      s .pre .1,
+      omega (arith, times-more (l .left) (s .args .w) (c .before .if1 .taken), s .pre .2, l .inv .0),
+      omega (arith, s .pre .3),
+    )
 
 same-length : tie.Need-same-length Inv-loop μ-loop
-same-length c = c .before .loop .inv .1 ∙ sym (c .before .before .before .before .pre .5)
+same-length c =
+    let t = c .before .before .before .before in
+    let h = t .before .before in
+    let s = h .before .before .before in
+    let a = s .args in
+    let r = a .reel .now in
+    let l = h .loop in
+    let f = part-put (recordTraceCopied r (a .code) (a .n) (a .i)) (λ p. p) (a .w) (a .m) (λ p. size-trace r (a .code) (a .n) (a .i) p ∙ sym (s .pre .3)) (l .left) (l .at) (l .o) (l .o + a .m) (t .if1 .taken) refl (l .inv .3) (c .before .before .put-trace2 .ensures) in
+    f .size ∙ sym (l .inv .3 .size) ∙ l .inv .1 ∙ sym (s .pre .5)
 
 returns : tie.Need-returns Inv-loop μ-loop
 returns c =
-    let a = c .before .before .before .before .args in
-    finish (c .before .loop .inv .3) (flat-none (recordTraceCopied (a .reel .now) (a .code) (a .n) (a .i)) (λ p. p) (a .w) (c .before .loop .left) (c .before .loop .at) (c .loop-test .left))
+    let t = c .before .before .before .before in
+    let h = t .before .before in
+    let s = h .before .before .before in
+    let a = s .args in
+    let r = a .reel .now in
+    let l = h .loop in
+    let f = part-put (recordTraceCopied r (a .code) (a .n) (a .i)) (λ p. p) (a .w) (a .m) (λ p. size-trace r (a .code) (a .n) (a .i) p ∙ sym (s .pre .3)) (l .left) (l .at) (l .o) (l .o + a .m) (t .if1 .taken) refl (l .inv .3) (c .before .before .put-trace2 .ensures) in
+    finish f (flat-none (recordTraceCopied r (a .code) (a .n) (a .i)) (λ p. p) (a .w) (l .left - 1) (l .at + a .w) (omega (arith, t .before .loop-test .left)))
+
+same-length-2 : tie.Need-same-length-2 Inv-loop μ-loop
+same-length-2 c = c .before .before .loop .inv .1 ∙ sym (c .before .before .before .before .before .pre .5)
+
+returns-2 : tie.Need-returns-2 Inv-loop μ-loop
+returns-2 c =
+    let a = c .before .before .before .before .before .args in
+    finish (c .before .before .loop .inv .3) (flat-none (recordTraceCopied (a .reel .now) (a .code) (a .n) (a .i)) (λ p. p) (a .w) (c .before .before .loop .left) (c .before .before .loop .at) (c .if1 .left))
 
 pub put-traces-spec : {M : Type 1} → statement M
 put-traces-spec =
@@ -88,5 +130,12 @@ put-traces-spec =
     sub-left
     loop-less
     loop-again
+    add-f
+    (λ c. omega arith)
+    (λ c. omega arith)
+    part-put-trace-end-2
+    put-trace-requires-2
     same-length
-    returns)
+    returns
+    same-length-2
+    returns-2)
