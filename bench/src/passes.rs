@@ -40,7 +40,7 @@ pub const UNFIT: u64 = 14;
 /// for each sample, by the words and the pairs of a trace and a code of 1 to 4.
 pub trait Steps {
     /// Whether a reel may have this scalar.
-    fn is_scalar(scalar: i16) -> bool;
+    fn is_allowed(scalar: i16) -> bool;
 
     /// Puts both groups of a reel's header and their scalars as a record holds them. The first pass has
     /// found that the scalars are allowed.
@@ -159,7 +159,7 @@ fn check_reel<S: Steps>(reel: &[u8]) -> Result<ReelNumbers, Refused> {
             return refused(8, place + TRACE_INTERVAL);
         }
         for scalar in [ELEVATION_SCALAR, COORDINATE_SCALAR] {
-            if !S::is_scalar(be16(header, scalar) as i16) {
+            if !S::is_allowed(be16(header, scalar) as i16) {
                 return refused(18, place + scalar);
             }
         }

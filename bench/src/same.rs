@@ -1,6 +1,6 @@
 //! The library's own algorithm in plain Rust: its two passes, with its steps and its tests for each
-//! group of a trace header and for each sample, one for one. It is what the proved code would be if a Rust programmer had written it, and
-//! nothing in it was chosen by measuring.
+//! group of a trace header and for each sample, one for one. It is what the proved code would be if a
+//! Rust programmer had written it, and nothing in it was chosen by measuring.
 
 use crate::passes::{self, Steps, NOT_CANONICAL, PAIR_BYTES, UNFIT};
 use crate::passes::{COORDINATES, COORDINATE_SCALAR, ELEVATIONS, ELEVATION_SCALAR};
@@ -25,23 +25,29 @@ pub fn write_reel(record: &[u8], code: u32, out: &mut [u8]) -> Result<Taken, Ref
 
 impl Steps for Same {
     #[inline(always)]
-    fn is_scalar(scalar: i16) -> bool {
+    fn is_allowed(scalar: i16) -> bool {
         matches!(scalar.unsigned_abs(), 0 | 1 | 10 | 100 | 1_000 | 10_000)
     }
 
     #[inline(always)]
     fn put_groups(header: &[u8], fields: &mut [u8]) {
         let elevations = seven_at(header, ELEVATIONS);
-        let Group { numbers, scalar } =
-            at_smallest(elevations, scalar_at(header, ELEVATION_SCALAR));
-        put_numbers(&numbers, &mut fields[ELEVATIONS..ELEVATION_SCALAR]);
+        let Scale { factor, scalar } = scale_of(elevations, scalar_at(header, ELEVATION_SCALAR));
+        put_numbers(
+            &header[ELEVATIONS..],
+            factor,
+            &mut fields[ELEVATIONS..ELEVATION_SCALAR],
+        );
         put_scalar(scalar, ELEVATION_SCALAR, fields);
 
         let coordinates = four_at(header, COORDINATES);
-        let Group { numbers, scalar } =
-            at_smallest(coordinates, scalar_at(header, COORDINATE_SCALAR));
+        let Scale { factor, scalar } = scale_of(coordinates, scalar_at(header, COORDINATE_SCALAR));
         put_scalar(scalar, COORDINATE_SCALAR, fields);
-        put_numbers(&numbers[..4], &mut fields[COORDINATES..COORDINATES + 16]);
+        put_numbers(
+            &header[COORDINATES..],
+            factor,
+            &mut fields[COORDINATES..COORDINATES + 16],
+        );
     }
 
     #[inline(always)]
@@ -103,10 +109,9 @@ impl Steps for Same {
 
 // ## Elevations and coordinates
 
-/// A group's seven numbers and their scalar. A group of four has zeros behind it, which every power
-/// serves.
-struct Group {
-    numbers: [i32; 7],
+/// What takes a group to its smallest power: the factor of its numbers, and the scalar of that power.
+struct Scale {
+    factor: i32,
     scalar: i16,
 }
 
@@ -127,9 +132,9 @@ fn four_at(fields: &[u8], at: usize) -> [i32; 7] {
     [a, b, c, d, 0, 0, 0]
 }
 
-fn put_numbers(numbers: &[i32], out: &mut [u8]) {
-    for (number, bytes) in numbers.iter().zip(out.chunks_exact_mut(4)) {
-        bytes.copy_from_slice(&number.to_be_bytes());
+fn put_numbers(numbers: &[u8], factor: i32, out: &mut [u8]) {
+    for (number, bytes) in numbers.chunks_exact(4).zip(out.chunks_exact_mut(4)) {
+        bytes.copy_from_slice(&(number_at(number, 0) * factor).to_be_bytes());
     }
 }
 
@@ -137,13 +142,13 @@ fn put_scalar(scalar: i16, at: usize, fields: &mut [u8]) {
     fields[at..at + 2].copy_from_slice(&scalar.to_be_bytes());
 }
 
-/// The group at the smallest power that serves it, and the scalar of that power.
-fn at_smallest(group: [i32; 7], scalar: i16) -> Group {
+/// What takes a group to the smallest power that serves it. A group of four has zeros behind it, which
+/// every power serves.
+fn scale_of(group: [i32; 7], scalar: i16) -> Scale {
     let p = power(scalar);
     let d = raised(largest(group), p);
-    let f = ten_to(d);
-    Group {
-        numbers: group.map(|number| number * f),
+    Scale {
+        factor: ten_to(d),
         scalar: scalar_of(p - d),
     }
 }

@@ -25,7 +25,7 @@ pub fn write_reel(record: &[u8], code: u32, out: &mut [u8]) -> Result<Taken, Ref
 
 impl Steps for Tuned {
     #[inline(always)]
-    fn is_scalar(scalar: i16) -> bool {
+    fn is_allowed(scalar: i16) -> bool {
         matches!(scalar.unsigned_abs(), 0 | 1 | 10 | 100 | 1_000 | 10_000)
     }
 

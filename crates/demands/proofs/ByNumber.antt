@@ -16,7 +16,7 @@ use Rattle.numbers.proofs.AllLaws.{map-same}
 use Rattle.value.specs.Value.{exactValue}
 use Rattle.scalars.specs.Scalar.{powerOf, scaledValues}
 use Rattle.reel.specs.Layout.{Field, cardBytes, firstTrace, traceHeader, binaryFields, elevationScalar, coordinateScalar, fieldNumber, intervalOf, samplesOf, codeOf, sampleBytes, strideOf, tracesOf}
-use Rattle.reel.specs.Meaning.{blank, cardText, otherThan, binaryNumbers, traceNumber, elevationFields, coordinateFields, bareFields, headerOf, Trace, traceMeaning, meaningOf, MeanTheSame}
+use Rattle.reel.specs.Meaning.{blank, cardText, otherThan, binaryNumbers, traceNumber, elevationFields, coordinateFields, unscaledFields, headerOf, Trace, traceMeaning, meaningOf, MeanTheSame}
 use Rattle.look_up.specs.LookUp.{headerNumber}
 use Rattle.reel_theorems.proofs.Same.{samples-same}
 use Rattle.demands.specs.Results.{sampleValue, scaledValue, Agree}
@@ -64,7 +64,7 @@ numberIn s at = traceNumber s (samplesOf s) (intervalOf s) at
 
 -- The bare numbers of the trace at a place, its elevations, its coordinates, and its values.
 traceNumbers : List ℕ → ℕ → List ℤ
-traceNumbers s at = map (numberIn s at) bareFields
+traceNumbers s at = map (numberIn s at) unscaledFields
 
 traceElevations : List ℕ → ℕ → List ℤ
 traceElevations s at = scaledValues (numberIn s at elevationScalar) (map (numberIn s at) elevationFields)
@@ -110,9 +110,9 @@ looked-up s k f =
     ap₂ (λ (b : Bool) (i : ℕ). pick b (fieldNumber s 0 f) (numberIn s (firstTrace + i * strideOf s) f)) (not-binary k) (before k)
 
 -- so are its bare numbers,
-numbers-looked : (s : List ℕ) (k : ℕ) → map (headerNumber s (suc k)) bareFields ≡ traceNumbers s (firstTrace + k * strideOf s)
+numbers-looked : (s : List ℕ) (k : ℕ) → map (headerNumber s (suc k)) unscaledFields ≡ traceNumbers s (firstTrace + k * strideOf s)
 unfolding traceNumbers
-numbers-looked s k = each-map (headerNumber s (suc k)) (numberIn s (firstTrace + k * strideOf s)) (looked-up s k) bareFields
+numbers-looked s k = each-map (headerNumber s (suc k)) (numberIn s (firstTrace + k * strideOf s)) (looked-up s k) unscaledFields
 
 -- and the scaled values of a group.
 pub group-looked : (s : List ℕ) (k : ℕ) (scalar : Field) (fields : List Field)
@@ -167,7 +167,7 @@ module _ (s₁ s₂ : List ℕ) where
         cards = byte-each s₁ s₂ cardBytes (m .cards);
         binary = each-same (fieldNumber s₁ 0) (fieldNumber s₂ 0) (otherThan 3225 binaryFields) (m .binary);
         count = sym (all-count s₁) ∙ m .count ∙ all-count s₂;
-        numbers = list-each traceNumbers (λ s k. headerNumber s (suc k)) bareFields numbers-looked s₁ s₂ (sym (all-numbers s₁) ∙ m .numbers ∙ all-numbers s₂);
+        numbers = list-each traceNumbers (λ s k. headerNumber s (suc k)) unscaledFields numbers-looked s₁ s₂ (sym (all-numbers s₁) ∙ m .numbers ∙ all-numbers s₂);
         elevations = list-each traceElevations (λ s k. scaledValue s k elevationScalar) elevationFields elevations-looked s₁ s₂ (sym (all-elevations s₁) ∙ m .elevations ∙ all-elevations s₂);
         coordinates = list-each traceCoordinates (λ s k. scaledValue s k coordinateScalar) coordinateFields coordinates-looked s₁ s₂ (sym (all-coordinates s₁) ∙ m .coordinates ∙ all-coordinates s₂);
         values = values-each m;
@@ -197,7 +197,7 @@ module _ (s₁ s₂ : List ℕ) where
         cards = bytes-same s₁ s₂ cardBytes (a .cards);
         binary = b;
         count = all-count s₁ ∙ a .count ∙ sym (all-count s₂);
-        numbers = all-numbers s₁ ∙ list-all traceNumbers (λ s k. headerNumber s (suc k)) bareFields numbers-looked s₁ s₂ (a .count) (a .numbers) ∙ sym (all-numbers s₂);
+        numbers = all-numbers s₁ ∙ list-all traceNumbers (λ s k. headerNumber s (suc k)) unscaledFields numbers-looked s₁ s₂ (a .count) (a .numbers) ∙ sym (all-numbers s₂);
         elevations = all-elevations s₁ ∙ list-all traceElevations (λ s k. scaledValue s k elevationScalar) elevationFields elevations-looked s₁ s₂ (a .count) (a .elevations) ∙ sym (all-elevations s₂);
         coordinates = all-coordinates s₁ ∙ list-all traceCoordinates (λ s k. scaledValue s k coordinateScalar) coordinateFields coordinates-looked s₁ s₂ (a .count) (a .coordinates) ∙ sym (all-coordinates s₂);
         values = all-values s₁ ∙ values-all (samples-same s₁ s₂ h₁ h₂ b) a ∙ sym (all-values s₂);

@@ -20,8 +20,8 @@
 -- - `program_line`, of `line`: the line is `programLine input (output before)`. That `main` reads its input, lends 65,536 bytes and prints
 --   this line is tested, not proved.
 --
--- The rows of each call are in `specs/Tables`, those of 1 to 9 and 18 in `ReelTable` of `reel_theorems`. Over each theorem stands the clause that
--- it answers, in the user's words; where it is a sentence of document 01, that is said. Beside each, here and in the files on the other
+-- The rows of each call are in `specs/Tables`, those of 1 to 9 and 18 in `ReelTable` of `reel_theorems`; 18, and 13 at a scalar, are set by
+-- document 02 (CR 2). Over each theorem stands the clause that it answers, in the user's words; where it is a sentence of document 01, that is said. Beside each, here and in the files on the other
 -- demands, stands what it rules out of document 01's list: the six wrong programs of "Agreement between the parties", and the six "Mistakes
 -- to rule out".
 use mathlib.Core.Path.{_≡_, refl, sym, ap, _∙_, subst}
@@ -112,7 +112,7 @@ module _ (s out : List ℕ) where
   -- THEOREM. "each refusal has the number and place that document 01 sets, and is given in just the cases set there": reading is refused
   -- exactly when a row applies, by its number and place.
   -- Rules out a reader that declines every reel, and one that says output too short before working out the length: 10 needs that no row of 1
-  -- to 9 applies and that the output is shorter than the record, and has the record's length beside it.
+  -- to 9 and 18 applies and that the output is shorter than the record, and has the record's length beside it.
   pub read-refused : (number place : ℕ) → Iff (readOutcome s out .said ≡ refused number place) (ReadRow s (length out) number place)
   read-refused = refused-by readSays (readNumbers s) refl (λ n p. refl) (ReadRow s (length out)) readChecks (read-exact s (length out))
 
@@ -272,9 +272,10 @@ module _ (s : List ℕ) (k : ℕ) (b : ByteNo) where
   look-up-taken = taken-by lookUpSays [] refl (λ n p. refl) (LookUpRow s k b) (lookUpCauses s k b) look-up-exact
 
   -- THEOREM. Document 01: "It returns the signed number, with 115 and 117 filled in and 3225 as on the reel". Where it is taken, some
-  -- assigned field of that header begins at the byte number, and the number is that field's.
+  -- assigned field of that header begins at the byte number, and the number is that field's. Document 02 (CR 2): "Look-up still gives the
+  -- bare numbers": no scalar is applied, and 69 and 71 are as on the reel.
   -- Rules out a look-up that gives one fixed number, one that takes the first trace's number for the rest, and filling field 115 only for
-  -- the first trace.
+  -- the first trace; and a look-up that applies a scalar.
   pub look-up-number : lookUpOutcome s k b .said ≡ taken [] → AssignedNumber s k b (lookUpOutcome s k b .value)
   unfolding lookUpOutcome
   look-up-number e = go (lookUpCauses s k b) refl e

@@ -10,13 +10,16 @@
 --
 -- "A record or a written reel is the output's first bytes, as many as the length returned" (document 01). That a reel is read without
 -- refusal exactly where none of the causes set for reading applies is `read-taken`, of demand 1. `MeanTheSame`, in `Meaning` of `reel`,
--- looks at the two reels' bytes only.
+-- looks at the two reels' bytes only. Document 02 (CR 2) changes what it compares: "Reels now count as equal by the scaled values of these
+-- fields, exactly; 69 and 71 themselves no longer count." `Scalars`, beside this file, has its other theorems.
 --
 -- - `records-equal`: where the readings of two reels are taken, each in any code and each into any output, the two records are equal
 --   exactly when the reels mean the same.
--- - `by-number`, `by-sample`: that is, when they agree card byte by card byte, header field by header field, in T and sample by sample;
---   `sixteen`: sample values are compared V by V, whole numbers over 16^70.
--- - `cards-alike`, `own-alike`: the spellings taken as one, and no others.
+-- - `by-number`, `by-sample`: that is, when they agree card byte by card byte, in the number of each header field that no scalar acts on, in
+--   the scaled value of each elevation and coordinate, in T and sample by sample; `sixteen`: sample values are compared V by V, whole
+--   numbers over 16^70.
+-- - `cards-alike`, `own-alike`: of card bytes and of fields 115 and 117, the spellings taken as one, and no others. Those of elevations and
+--   coordinates are compared by value.
 -- - `reel-again`: where the reading of a reel is taken, and the writing of its record under any code is taken, the writing returns the same
 --   T and N and the length of such a reel; no cause of 1 to 9 and 18 applies to the reel that was written, it is in that code, it means the same
 --   as the first reel and has the same record; and reading it into an output long enough is taken with the same T, N and length, and gives
@@ -82,8 +85,9 @@ pub sixteen : 2 ^ denominatorPower ≡ 16 ^ 70
 sixteen = refl
 
 -- THEOREM. "They mean the same when they have the same card text, the same number in every assigned header field but the sample format
--- code, the same count of traces, and sample by sample the same exact value, a whole number over 16 to the power 70." They mean the same
--- exactly when they agree number by number, `Agree`.
+-- code, the same count of traces, and sample by sample the same exact value, a whole number over 16 to the power 70." For fields
+-- 41 to 85 document 02 (CR 2) puts in place of this: "Reels now count as equal by the scaled values of these fields, exactly; 69 and 71
+-- themselves no longer count." They mean the same exactly when they agree number by number, `Agree`.
 -- Alone it rules out none of the list: it spells out what `records-equal` compares.
 pub by-number : (s₁ s₂ : List ℕ) → Bytes s₁ → Bytes s₂ → Iff (MeanTheSame s₁ s₂) (Agree s₁ s₂)
 by-number s₁ s₂ b₁ b₂ = (means-agree s₁ s₂, agree-means s₁ s₂ b₁ b₂)

@@ -14,7 +14,7 @@ use Rattle.numbers.proofs.ByteLaws.{bytes-of, length-bytes, number-at}
 use Rattle.numbers.proofs.SignLaws.{bits-signed}
 use Rattle.reel.specs.Layout.{fieldsFrom, binaryWidths, binaryFields, traceWidths, traceFields, fieldNumber, number16}
 use Rattle.reel.specs.Meaning.{otherThan, Header, Trace, Meaning}
-use Rattle.headers.specs.Header.{numberBytes, headerNumbers, headerBytes}
+use Rattle.headers.specs.Header.{numberBytes, recordNumbers, headerBytes}
 use Rattle.headers.proofs.NumberLaws.{numbers-append}
 use Rattle.headers.proofs.Ranges.{fit-length, size-numbers}
 use Rattle.headers.proofs.TraceLaws.{trace-front, trace-back, countField, intervalField}
@@ -151,7 +151,7 @@ trace-around s at = refl
 -- The bytes of a header in a record are bytes.
 pub bytes-header : (h : Header) → Bytes (headerBytes h)
 unfolding headerBytes
-bytes-header h = bytes-numbers traceWidths (headerNumbers h)
+bytes-header h = bytes-numbers traceWidths (recordNumbers h)
 
 module _ (n i : ℕ) (t : Trace) (p : ProperTrace n i t) where
   -- A trace's fields have 180 bytes.
@@ -161,9 +161,9 @@ module _ (n i : ℕ) (t : Trace) (p : ProperTrace n i t) where
   -- A trace's fields that stand in a list of bytes from the place `at` on.
   module _ (s : List ℕ) (b : Bytes s) (at : ℕ) (rest : List ℕ) (f : From s at (headerBytes (t .header) ++ rest)) where
     -- Their 71 numbers are those of the trace's header.
-    pub numbers-again : map (fieldNumber s at) traceFields ≡ headerNumbers (t .header)
+    pub numbers-again : map (fieldNumber s at) traceFields ≡ recordNumbers (t .header)
     unfolding headerBytes traceFields
-    numbers-again = from-numbers at 1 traceWidths (headerNumbers (t .header)) rest (omega arith) (omega arith) (numbers-fit (t .header) (p .header)) f
+    numbers-again = from-numbers at 1 traceWidths (recordNumbers (t .header)) rest (omega arith) (omega arith) (numbers-fit (t .header) (p .header)) f
 
     -- Field 115 is N.
     pub count-again : number16 s (at + 114) ≡ n

@@ -25,7 +25,7 @@ use Rattle.value.specs.Pair.{pairOf, isCanonical, pairLength, pairIn}
 use Rattle.sample_theorems.proofs.Pairs.{value-pair-back}
 use Rattle.reel.specs.Layout.{Field, cardBytes, binaryWidths, binaryFields, traceWidths, traceFields, fieldNumber, firstTrace, number16, samplesOf, intervalOf, codeOf, strideOf, tracesOf}
 use Rattle.reel.specs.Causes.{mostTraces, neither, traceCauses, causesOf}
-use Rattle.reel.specs.Meaning.{blank, cardText, binaryNumbers, filled, traceNumber, bareFields, headerOf, traceMeaning, meaningOf}
+use Rattle.reel.specs.Meaning.{blank, cardText, binaryNumbers, filled, traceNumber, unscaledFields, headerOf, traceMeaning, meaningOf}
 use Rattle.reel.proofs.CheckLaws.{reel-fine}
 use Rattle.record.specs.Form.{heldInterval, heldSamples, tracesPlace, heldStride, heldCount, formCauses}
 use Rattle.record.specs.Held.{heldValue, heldTrace, heldBy}
@@ -61,11 +61,11 @@ value-held s at c = ap isCanonical (value-pair-back (pairIn (bytesAt s at pairLe
 
 -- The numbers of fields 115 and 117 in a trace's header, by the numbers of its fields.
 held-count : (f : Field → ℤ) → getD (headerOf f .numbers) 25 (pos 0) ≡ f countField
-unfolding headerOf bareFields traceFields traceWidths
+unfolding headerOf unscaledFields traceFields traceWidths
 held-count f = refl
 
 held-interval : (f : Field → ℤ) → getD (headerOf f .numbers) 26 (pos 0) ≡ f intervalField
-unfolding headerOf bareFields traceFields traceWidths
+unfolding headerOf unscaledFields traceFields traceWidths
 held-interval f = refl
 
 -- The header of a record's trace fits.

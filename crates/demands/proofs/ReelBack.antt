@@ -34,7 +34,7 @@ use Rattle.sample_theorems.proofs.Words.{writing-sound}
 use Rattle.reel.specs.Layout.{cardBytes, firstTrace, traceHeader, binaryFields, traceFields, fieldNumber, intervalOf, samplesOf, codeOf, sampleBytes, stride, strideOf, wholeIn, overIn, tracesOf}
 use Rattle.reel.specs.Causes.{mostSamples, mostTraces, mostInterval, neither, limitCauses, wordCause, traceCauses, behindCauses, causesOf}
 use Rattle.reel.specs.Meaning.{blank, cardText, otherThan, binaryNumbers, filled, traceNumber, Trace, traceMeaning, Meaning, meaningOf}
-use Rattle.headers.specs.Header.{headerNumbers, headerBytes}
+use Rattle.headers.specs.Header.{recordNumbers, headerBytes, headerSize}
 use Rattle.headers.proofs.TraceLaws.{trace-numbers, countField, intervalField}
 use Rattle.headers.proofs.Listed.{behind-at}
 use Rattle.headers.proofs.HeaderBytes.{header-again, allowed-again}
@@ -200,7 +200,7 @@ module _ (code n i : ℕ) (c : isCode code ≡ true) (t : Trace) (h : Ready code
     unfolding traceMeaning
     trace-again = trace-eq (header-again (traceNumber s n i at) (t .header) (h .proper .header) numbers) values
       where
-        whole : map (fieldNumber s at) traceFields ≡ headerNumbers (t .header)
+        whole : map (fieldNumber s at) traceFields ≡ recordNumbers (t .header)
         whole = numbers-again n i t (h .proper) s b at _ from-header
 
         count : fieldNumber s at countField ≡ pos n
@@ -209,7 +209,7 @@ module _ (code n i : ℕ) (c : isCode code ≡ true) (t : Trace) (h : Ready code
         spacing : fieldNumber s at intervalField ≡ pos i
         spacing = sym (interval-at s at) ∙ ap (λ (l : List ℤ). getD l 39 (pos 0)) whole ∙ behind-at (t .header) (h .proper .header .scaled) 14 ∙ h .proper .i-is
 
-        numbers : map (traceNumber s n i at) traceFields ≡ headerNumbers (t .header)
+        numbers : map (traceNumber s n i at) traceFields ≡ recordNumbers (t .header)
         numbers =
             trace-numbers s n i at
             ∙ rw (filled-same n (fieldNumber s at countField) count, filled-same i (fieldNumber s at intervalField) spacing) (sym (trace-around s at) ∙ whole)
@@ -346,3 +346,9 @@ module _ (code n i : ℕ) (m : Meaning) (p : Proper n i m) (c : isCode code ≡ 
           (from-walk (reelOf code m) (traceWritten code) (Ready code n i) (stride n (sampleBytes code)) (size-trace code n i c) (traceMeaning (reelOf code m) code n i) (λ (t : Trace). t)
           (λ t at rest h e. trace-again code n i c t h (reelOf code m) reel-bytes at rest e) (m .traces) firstTrace [] ready from-traces
           ∙ map-id (m .traces))
+
+  -- LAW. The headers of the reel's traces are those of the meaning's, one behind the other.
+  pub reel-headers : walk (λ at. bytesAt (reelOf code m) at headerSize) (stride n (sampleBytes code)) (length (m .traces)) firstTrace ≡ map (λ (t : Trace). headerBytes (t .header)) (m .traces)
+  reel-headers =
+      from-walk (reelOf code m) (traceWritten code) (Ready code n i) (stride n (sampleBytes code)) (size-trace code n i c) (λ at. bytesAt (reelOf code m) at headerSize) (λ (t : Trace). headerBytes (t .header))
+      (λ t at rest h e. from-bytes (headerBytes (t .header)) _ headerSize (size-header n i t (h .proper)) (from-header code n i c t h (reelOf code m) reel-bytes at rest e)) (m .traces) firstTrace [] ready from-traces

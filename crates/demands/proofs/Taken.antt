@@ -1,24 +1,26 @@
 -- What readings and writings that are taken need and give. Where each byte of a reel or of a record must be below 256, the law says so;
 -- nothing else is assumed.
 use mathlib.Core.Path.{_≡_, refl, sym, ap, ap₂, _∙_}
-use mathlib.Core.List.{List, [], _∷_, _++_}
+use mathlib.Core.List.{List, [], _∷_, _++_, map}
 use mathlib.Core.Bool.{Bool, true, not}
 use Prim.Native.Nat.{ℕ, _≤_}
 use borrow.Author.Tests.{le-ltb, not-false}
 use lib.Dec.{ltb}
 use lib.ListN.{length, drop}
 use lib.IntN.{ℤ}
+use Rattle.numbers.specs.Walk.{walk, bytesAt}
 use Rattle.numbers.specs.Cause.{refuseIf, then}
 use Rattle.numbers.specs.Outcome.{Said, taken, Outcome}
 use Rattle.numbers.specs.declared.Check.{Check}
 use Rattle.numbers.specs.declared.Check.the-variants.{Fine}
 use Rattle.numbers.specs.Terms.{All, Bytes}
-use Rattle.numbers.proofs.WalkLaws.{cons-eq, size-walk}
+use Rattle.numbers.proofs.WalkLaws.{cons-eq, size-walk, map-walk}
 use Rattle.numbers.proofs.CauseLaws.{passed, then-fine, at-most}
 use Rattle.numbers.proofs.SaidLaws.{says-fine}
 use Rattle.numbers.proofs.AllLaws.{all-with}
 use Rattle.value.specs.Value.{isCode}
-use Rattle.reel.specs.Layout.{firstTrace, intervalOf, samplesOf, codeOf, strideOf, tracesOf}
+use Rattle.headers.specs.Header.{headerSize, headerBytes}
+use Rattle.reel.specs.Layout.{firstTrace, sampleBytes, stride, intervalOf, samplesOf, codeOf, strideOf, tracesOf}
 use Rattle.reel.specs.Causes.{causesOf}
 use Rattle.reel.specs.Meaning.{Trace, traceMeaning, Meaning, meaningOf}
 use Rattle.record.specs.Record.{recordOf, reelRecord}
@@ -33,7 +35,7 @@ use Rattle.demands.proofs.Proper.{ProperTrace, Proper}
 use Rattle.demands.proofs.Again.{held-again}
 use Rattle.demands.proofs.ProperLaws.{held-proper}
 use Rattle.demands.proofs.Fitting.{FittingTrace, Fitting, fit-is, fits-is}
-use Rattle.demands.proofs.ReelBack.{reel-bytes, reel-code, reel-samples, reel-traces, reel-no-cause, reel-again}
+use Rattle.demands.proofs.ReelBack.{reel-bytes, reel-code, reel-samples, reel-traces, reel-no-cause, reel-again, reel-headers}
 use Rattle.demands.specs.Words.{HasWord, Worded}
 
 -- ## Words for every sample
@@ -126,6 +128,14 @@ held-count r =
     let n = heldSamples r in
     size-walk (heldTrace r n) (heldStride n) (heldCount r n) tracesPlace
 
+-- The headers of what a record holds, one behind the other.
+held-headers : (r : List ℕ) → map (λ (t : Trace). headerBytes (t .header)) (heldBy r .traces)
+    ≡ walk (λ at. headerBytes (heldTrace r (heldSamples r) at .header)) (heldStride (heldSamples r)) (heldCount r (heldSamples r)) tracesPlace
+unfolding heldBy
+held-headers r =
+    let n = heldSamples r in
+    map-walk (λ (t : Trace). headerBytes (t .header)) (heldTrace r n) (heldStride n) (heldCount r n) tracesPlace
+
 -- A record that is written.
 module _ (r : List ℕ) (b : Bytes r) (code : ℕ) (out : List ℕ) (w : Writable r code out) where
   -- What the record holds is proper, and each of its samples fits the code.
@@ -179,3 +189,11 @@ module _ (r : List ℕ) (b : Bytes r) (code : ℕ) (out : List ℕ) (w : Writabl
 
       bytes : reelRecord s ++ drop (recordLengthOf s) out₂ ≡ r ++ drop (length r) out₂
       bytes = ap₂ (λ (x : List ℕ) (k : ℕ). x ++ drop k out₂) written-record written-length
+
+  -- The headers of its traces are those of the record's, one behind the other.
+  pub written-headers-all : walk (λ at. bytesAt (reelOf code (heldBy r)) at headerSize) (stride (heldSamples r) (sampleBytes code)) (heldCount r (heldSamples r)) firstTrace
+      ≡ walk (λ at. headerBytes (heldTrace r (heldSamples r) at .header)) (heldStride (heldSamples r)) (heldCount r (heldSamples r)) tracesPlace
+  written-headers-all =
+      let n = heldSamples r in
+      ap (λ (k : ℕ). walk (λ at. bytesAt (reelOf code (heldBy r)) at headerSize) (stride n (sampleBytes code)) k firstTrace) (sym (held-count r))
+      ∙ reel-headers code n (heldInterval r) (heldBy r) proper (w .code-is) fitting ∙ held-headers r

@@ -15,7 +15,7 @@ use Rattle.value.specs.Value.{isCode, exactValue}
 use Rattle.scalars.specs.Scalar.{powerOf}
 use Rattle.reel.specs.Layout.{Field, cardBytes, binaryFields, elevationScalar, coordinateScalar, fieldNumber, samplesOf, codeOf, sampleBytes, tracesOf}
 use Rattle.reel.specs.Causes.{causesOf}
-use Rattle.reel.specs.Meaning.{blank, otherThan, elevationFields, coordinateFields, bareFields, meaningOf, MeanTheSame}
+use Rattle.reel.specs.Meaning.{blank, otherThan, elevationFields, coordinateFields, unscaledFields, meaningOf, MeanTheSame}
 use Rattle.record.specs.Record.{recordOf, reelRecord}
 use Rattle.record.specs.Form.{heldSamples, heldCount, formCauses}
 use Rattle.record.specs.Held.{heldBy}
@@ -61,13 +61,13 @@ abbrev pub scaledValue : List ℕ → ℕ → Field → Field → ℤ
 scaledValue s k scalar f = headerNumber s (suc k) f *ℤ pos (10 ^ powerOf (headerNumber s (suc k) scalar))
 
 -- Two reels agree number by number: each card byte, with 40 for a 00; each binary field but the format code; T; of each trace header the 58
--- bare fields, with 115 and 117 filled in, the scaled value of each elevation and of each coordinate; and each sample's exact value. N is
+-- unscaled fields, with 115 and 117 filled in, the scaled value of each elevation and of each coordinate; and each sample's exact value. N is
 -- one of the binary fields, so the traces of both have as many samples.
 pub record Agree (s₁ s₂ : List ℕ) : Type 0 where
   pub cards : (j : ℕ) → j < cardBytes → blank (getD s₁ j 0) ≡ blank (getD s₂ j 0)
   pub binary : All (λ f. fieldNumber s₁ 0 f ≡ fieldNumber s₂ 0 f) (otherThan 3225 binaryFields)
   pub count : tracesOf s₁ ≡ tracesOf s₂
-  pub numbers : (k : ℕ) → k < tracesOf s₁ → All (λ f. headerNumber s₁ (suc k) f ≡ headerNumber s₂ (suc k) f) bareFields
+  pub numbers : (k : ℕ) → k < tracesOf s₁ → All (λ f. headerNumber s₁ (suc k) f ≡ headerNumber s₂ (suc k) f) unscaledFields
   pub elevations : (k : ℕ) → k < tracesOf s₁ → All (λ f. scaledValue s₁ k elevationScalar f ≡ scaledValue s₂ k elevationScalar f) elevationFields
   pub coordinates : (k : ℕ) → k < tracesOf s₁ → All (λ f. scaledValue s₁ k coordinateScalar f ≡ scaledValue s₂ k coordinateScalar f) coordinateFields
   pub values : (k j : ℕ) → k < tracesOf s₁ → j < samplesOf s₁ → sampleValue s₁ k j ≡ sampleValue s₂ k j

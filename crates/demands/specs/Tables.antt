@@ -38,8 +38,8 @@ pub data ReadRow (s : List ℕ) (room : ℕ) : ℕ → ℕ → Type 0 where
 -- cut short or missing, trace 100,001 (place where that field's tag stands or should stand); a wrong count in tag 05 (place of its tag);
 -- bytes after it (place of the first). Number 13: a card byte 00, a format code other than 0, N or an interval outside its limits, trace
 -- fields 115 or 117 unlike the reel's, a pair that isn't canonical; the place is its first byte, and in tag 02 the order is interval, N,
--- code." And document 02 (CR 2): "A record with any scalar but that of this smallest power [...] is refused by 13 at that scalar; in tag 03
--- the order is 69, 71, 115, 117." Traces k and pairs j are counted from 0.
+-- code." And document 02 (CR 2): "A record with any scalar but that of this smallest power, an earlier record too, is refused by 13 at that
+-- scalar; in tag 03 the order is 69, 71, 115, 117." Traces k and pairs j are counted from 0.
 pub data FormRow (s : List ℕ) : ℕ → ℕ → Type 0 where
   -- 12: tag 01 doesn't stand at the front, whole and with its 3,200 bytes
   no-cards : ¬ (Stands s 1 3200 0) → FormRow s 12 0

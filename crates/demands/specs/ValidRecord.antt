@@ -32,9 +32,13 @@ CanonicalAt s at = isCanonical (pairIn (bytesAt s at pairLength)) ≡ true
 abbrev pub tracePlace : List ℕ → ℕ → ℕ
 tracePlace s k = tracesPlace + k * heldStride (heldSamples s)
 
--- The place of byte number b of trace k's header, whose byte number 1 stands behind tag 03 and its length.
+-- The place where trace k's header begins, behind tag 03 and its length: byte number 1 stands there.
+abbrev pub headerStart : List ℕ → ℕ → ℕ
+headerStart s k = tracePlace s k + 3
+
+-- The place of byte number b of trace k's header.
 abbrev pub headerPlace : List ℕ → ℕ → ℕ → ℕ
-headerPlace s k b = bytePlace (tracePlace s k + 3) b
+headerPlace s k b = bytePlace (headerStart s k) b
 
 -- The place of pair j of trace k, behind tag 03 with its 180 bytes and tag 04 with its length: 186 is 3 + 180 + 3, each field's tag and
 -- length being 3 bytes.
@@ -57,10 +61,10 @@ pub record HeadRight (s : List ℕ) : Type 0 where
   pub samples : Between 1 8000 (heldSamples s)
   pub code : heldCode s ≡ 0
 
--- The scalar in a field of trace k's header is that of the smallest power of the group of fields that it acts on; `smallest-means`, in
+-- The scalar in a field of trace k's header is that of the smallest power of the group of fields that it acts on; `scalar-means`, in
 -- `proofs/Scalars`, spells that out.
 abbrev pub SmallestAt : List ℕ → ℕ → List Field → Field → Type 0
-SmallestAt s k fields scalar = isSmallest (map (fieldNumber s (tracePlace s k + 3)) fields) (fieldNumber s (tracePlace s k + 3) scalar) ≡ true
+SmallestAt s k fields scalar = isSmallest (map (fieldNumber s (headerStart s k)) fields) (fieldNumber s (headerStart s k) scalar) ≡ true
 
 -- Tag 03 of trace k stands with its 180 bytes, and its fields 69 and 71 are the scalars of the smallest powers.
 pub record ScalarsRight (s : List ℕ) (k : ℕ) : Type 0 where

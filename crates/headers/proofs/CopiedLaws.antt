@@ -24,8 +24,8 @@ use Rattle.reel.specs.Layout.{fieldsFrom, traceWidths, traceFields, fieldNumber
 use Rattle.reel.specs.Meaning.{filled, traceNumber}
 use Rattle.headers.proofs.NumberLaws.{fields-again, numbers-append}
 use Rattle.headers.proofs.TraceLaws.{trace-back, countField, intervalField}
-use Rattle.reel.specs.Meaning.{elevationFields, coordinateFields, bareFields, headerOf}
-use Rattle.headers.specs.Header.{numberBytes, headerNumbers, headerBytes, headerSize, headerRead}
+use Rattle.reel.specs.Meaning.{elevationFields, coordinateFields, unscaledFields, headerOf}
+use Rattle.headers.specs.Header.{numberBytes, recordNumbers, headerBytes, headerSize, headerRead}
 use Rattle.headers.specs.Parts.{number2, numbersIn, groupBytes, elevationsAt, coordinatesAt, elevationsCopied, coordinatesCopied, ownOr, groupsCopied, headerCopied}
 use Rattle.headers.proofs.GroupLaws.{elevations-in, coordinates-in, size-in, size-elevations, size-coordinates}
 use Rattle.headers.proofs.HeaderBytes.{widths-front, widths-behind, widths-are}
@@ -106,11 +106,11 @@ module _ (s : List ℕ) (b : Bytes s) (n i at : ℕ) where
   behind = map (fieldNumber s at) (fieldsFrom 89 widths-13) ++ (filled n (fieldNumber s at countField) ∷ filled i (fieldNumber s at intervalField) ∷ map (fieldNumber s at) (fieldsFrom 119 trace-back))
 
   front-numbers : take 12 ((headerOf (traceNumber s n i at)) .numbers) ≡ front
-  unfolding headerOf bareFields traceFields traceWidths widths-front
+  unfolding headerOf unscaledFields traceFields traceWidths widths-front
   front-numbers = refl
 
   behind-numbers : drop 12 ((headerOf (traceNumber s n i at)) .numbers) ≡ behind
-  unfolding headerOf bareFields traceFields traceWidths widths-13 trace-back
+  unfolding headerOf unscaledFields traceFields traceWidths widths-13 trace-back
   behind-numbers = refl
 
   abbrev es : List ℤ
@@ -119,8 +119,8 @@ module _ (s : List ℕ) (b : Bytes s) (n i at : ℕ) where
   abbrev cs : List ℤ
   cs = coordinatesAt s at
 
-  numbers-are : headerNumbers (headerOf (traceNumber s n i at)) ≡ front ++ (groupNumbers es ++ (groupScalar es ∷ groupScalar cs ∷ (groupNumbers cs ++ behind)))
-  unfolding headerNumbers
+  numbers-are : recordNumbers (headerOf (traceNumber s n i at)) ≡ front ++ (groupNumbers es ++ (groupScalar es ∷ groupScalar cs ∷ (groupNumbers cs ++ behind)))
+  unfolding recordNumbers
   numbers-are = rw (front-numbers, behind-numbers, elevations-are, coordinates-are)
 
   size-front : length widths-front ≡ length front

@@ -13,7 +13,7 @@ use Rattle.numbers.specs.Walk.{bytesAt}
 use Rattle.numbers.specs.declared.Check.the-variants.{Fine}
 use Rattle.numbers.proofs.CauseLaws.{passed, then-fine}
 use Rattle.numbers.specs.Terms.{Bytes}
-use Rattle.scalars.specs.Scalar.{powers, powerOf, smallest, groupNumbers, groupScalar, isScalar, isSmallest}
+use Rattle.scalars.specs.Scalar.{powers, powerOf, smallest, groupNumbers, groupScalar, isAllowed, isSmallest}
 use Rattle.scalars.specs.Parts.{Fit32}
 use Rattle.scalars.proofs.Powers.{power-lt, smallest-lt}
 use Rattle.scalars.proofs.Laws.{fit-held, scalar-fits16, length-held}
@@ -21,8 +21,8 @@ use Rattle.reel.specs.Layout.{Field, traceWidths, traceFields, elevationScalar,
 use Rattle.headers.proofs.NumberLaws.{fields-again}
 use Rattle.headers.proofs.TraceLaws.{trace-counts}
 use Rattle.headers.proofs.Ranges.{Fit, Some, allSome, some-of, fit-append, numbers-size, size-numbers, numbers-inj, fields-fit}
-use Rattle.reel.specs.Meaning.{elevationFields, coordinateFields, bareFields, Header, headerOf}
-use Rattle.headers.specs.Header.{numberBytes, headerNumbers, headerBytes, headerSize, smallestCause, smallestCauses}
+use Rattle.reel.specs.Meaning.{elevationFields, coordinateFields, unscaledFields, Header, headerOf}
+use Rattle.headers.specs.Header.{numberBytes, recordNumbers, headerBytes, headerSize, smallestCause, smallestCauses}
 use Rattle.headers.proofs.Listed.{front, elevationsIn, scalarsOn, elevationScalarIn, coordinateScalarIn, coordinatesIn, behind, listed, header-listed, Scaled, listed-numbers, numbers-only, numbers-listed, elevations-smallest, coordinates-smallest, elevation-scalar-allowed, coordinate-scalar-allowed}
 
 -- ## Fields that fit, in parts
@@ -114,8 +114,8 @@ listed-fits zs p =
     }
 
 -- LAW. The 71 numbers of such a header fit their fields.
-pub numbers-fit : (h : Header) → HeaderFits h → Fit traceWidths (headerNumbers h)
-unfolding headerNumbers
+pub numbers-fit : (h : Header) → HeaderFits h → Fit traceWidths (recordNumbers h)
+unfolding recordNumbers
 numbers-fit h p =
     let s = p .scaled in
     let e = words-fit 7 (groupNumbers (h .elevations)) (length-held (h .elevations) ∙ s .seven) (fit-held (h .elevations) (s .elevations-served)) in
@@ -130,8 +130,8 @@ numbers-fit h p =
 
 -- ## Its 71 numbers and 180 bytes, whatever its fields hold
 
-header-count : (f : Field → ℤ) → length (headerNumbers (headerOf f)) ≡ 71
-unfolding headerNumbers headerOf bareFields elevationFields coordinateFields traceFields traceWidths
+header-count : (f : Field → ℤ) → length (recordNumbers (headerOf f)) ≡ 71
+unfolding recordNumbers headerOf unscaledFields elevationFields coordinateFields traceFields traceWidths
 header-count f = simp (length-append, length-held)
 
 widths-count : length traceWidths ≡ 71
@@ -140,24 +140,24 @@ widths-count = refl
 
 pub size-header : (f : Field → ℤ) → length (headerBytes (headerOf f)) ≡ headerSize
 unfolding headerBytes
-size-header f = numbers-size traceWidths (headerNumbers (headerOf f)) (widths-count ∙ sym (header-count f)) ∙ trace-counts .1
+size-header f = numbers-size traceWidths (recordNumbers (headerOf f)) (widths-count ∙ sym (header-count f)) ∙ trace-counts .1
 
 -- ## Headers and bytes
 
 -- LAW. Headers are the same exactly when their 180 bytes in a record are.
 pub bytes-only : (h k : Header) → HeaderFits h → HeaderFits k → headerBytes h ≡ headerBytes k → h ≡ k
 unfolding headerBytes
-bytes-only h k p q e = numbers-only h k (p .scaled) (q .scaled) (numbers-inj traceWidths (headerNumbers h) (headerNumbers k) (numbers-fit h p) (numbers-fit k q) e)
+bytes-only h k p q e = numbers-only h k (p .scaled) (q .scaled) (numbers-inj traceWidths (recordNumbers h) (recordNumbers k) (numbers-fit h p) (numbers-fit k q) e)
 
 pub header-size : (h : Header) → HeaderFits h → length (headerBytes h) ≡ 180
 unfolding headerBytes
-header-size h p = size-numbers traceWidths (headerNumbers h) (numbers-fit h p) ∙ trace-counts .1
+header-size h p = size-numbers traceWidths (recordNumbers h) (numbers-fit h p) ∙ trace-counts .1
 
 -- LAW. Fields that hold the 71 numbers of a header mean the header.
-pub header-again : (f : Field → ℤ) (h : Header) → HeaderFits h → map f traceFields ≡ headerNumbers h → headerOf f ≡ h
+pub header-again : (f : Field → ℤ) (h : Header) → HeaderFits h → map f traceFields ≡ recordNumbers h → headerOf f ≡ h
 header-again f h p e = header-listed f ∙ ap listed e ∙ listed-numbers h (p .scaled)
 
--- LAW. A record's header whose scalars are those of the smallest powers, written again, is its bytes.
+-- the numbers of a header that stands in bytes fit their fields
 traces-some : Some traceWidths
 unfolding allSome traceWidths
 traces-some = some-of traceWidths refl
@@ -179,30 +179,31 @@ whole : (s : List ℕ) → Bytes s → (start : ℕ) → numberBytes traceWidths
 unfolding traceFields traceWidths
 whole s b start = fields-again s b start 1 traceWidths (omega arith) ∙ ap (λ (p : ℕ). bytesAt s p 180) (add-zero start)
 
+-- LAW. A record's header whose scalars are those of the smallest powers, written again, is its bytes.
 pub bytes-again : (s : List ℕ) → Bytes s → (start : ℕ) → smallestCauses s start ≡ Fine → headerBytes (headerOf (fieldNumber s start)) ≡ bytesAt s start 180
 unfolding headerBytes
 bytes-again s b start f =
     let zs = map (fieldNumber s start) traceFields in
     let fit = held-fit s b start in
     let c = smallest-fine s start f in
-    ap (λ (h : Header). numberBytes traceWidths (headerNumbers h)) (header-listed (fieldNumber s start))
+    ap (λ (h : Header). numberBytes traceWidths (recordNumbers h)) (header-listed (fieldNumber s start))
     ∙ ap (numberBytes traceWidths) (numbers-listed zs (length-map traceFields (fieldNumber s start) ∙ trace-counts .0) (listed-fits zs fit .scaled) (c .0) (c .1))
     ∙ whole s b start
 
 -- LAW. Where the 71 numbers of a header stand, its scalars are those of the smallest powers, and such that a reel may hold them.
-pub smallest-again : (s : List ℕ) (start : ℕ) (h : Header) → Scaled h → map (fieldNumber s start) traceFields ≡ headerNumbers h → smallestCauses s start ≡ Fine
+pub smallest-again : (s : List ℕ) (start : ℕ) (h : Header) → Scaled h → map (fieldNumber s start) traceFields ≡ recordNumbers h → smallestCauses s start ≡ Fine
 unfolding smallestCauses elevationFields coordinateFields traceFields traceWidths
 smallest-again s start h p e =
     let a = ap (λ (l : List ℤ). isSmallest (elevationsIn l) (elevationScalarIn l)) e ∙ elevations-smallest h p in
     let b = ap (λ (l : List ℤ). isSmallest (coordinatesIn l) (coordinateScalarIn l)) e ∙ coordinates-smallest h p in
     rw (a, b)
 
-pub allowed-again : (s : List ℕ) (start : ℕ) (h : Header) → Scaled h → map (fieldNumber s start) traceFields ≡ headerNumbers h
-    → (isScalar (fieldNumber s start elevationScalar) ≡ true) × (isScalar (fieldNumber s start coordinateScalar) ≡ true)
+pub allowed-again : (s : List ℕ) (start : ℕ) (h : Header) → Scaled h → map (fieldNumber s start) traceFields ≡ recordNumbers h
+    → (isAllowed (fieldNumber s start elevationScalar) ≡ true) × (isAllowed (fieldNumber s start coordinateScalar) ≡ true)
 unfolding traceFields traceWidths
 allowed-again s start h p e = (
-  ap (λ (l : List ℤ). isScalar (elevationScalarIn l)) e ∙ elevation-scalar-allowed h p,
-  ap (λ (l : List ℤ). isScalar (coordinateScalarIn l)) e ∙ coordinate-scalar-allowed h p,
+  ap (λ (l : List ℤ). isAllowed (elevationScalarIn l)) e ∙ elevation-scalar-allowed h p,
+  ap (λ (l : List ℤ). isAllowed (coordinateScalarIn l)) e ∙ coordinate-scalar-allowed h p,
 )
 
 -- so on a reel and in a record

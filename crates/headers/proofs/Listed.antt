@@ -7,11 +7,11 @@ use native.Mathlib.Omega.{arith}
 use lib.ListN.{length, getD, take, drop, length-drop, take-append-drop}
 use lib.Seq.{take-at, drop-at, getD-drop, length-take-le}
 use lib.IntN.{ℤ, pos}
-use Rattle.scalars.specs.Scalar.{powers, scaledValues, smallest, groupNumbers, groupScalar, isScalar, isSmallest}
+use Rattle.scalars.specs.Scalar.{powers, scaledValues, smallest, groupNumbers, groupScalar, isAllowed, isSmallest}
 use Rattle.scalars.proofs.Laws.{scale-back, held-again, length-held, smallest-held, scalar-held}
 use Rattle.reel.specs.Layout.{Field, traceWidths, traceFields}
-use Rattle.reel.specs.Meaning.{elevationFields, coordinateFields, bareFields, Header, headerOf}
-use Rattle.headers.specs.Header.{headerNumbers}
+use Rattle.reel.specs.Meaning.{elevationFields, coordinateFields, unscaledFields, Header, headerOf}
+use Rattle.headers.specs.Header.{recordNumbers}
 
 -- ## The six parts of 71 numbers
 
@@ -67,7 +67,7 @@ listed zs =
 
 -- by byte numbers or by the list: the fields are in this order
 pub header-listed : (f : Field → ℤ) → headerOf f ≡ listed (map f traceFields)
-unfolding headerOf listed elevationFields coordinateFields bareFields traceFields traceWidths
+unfolding headerOf listed elevationFields coordinateFields unscaledFields traceFields traceWidths
 header-listed f = refl
 
 -- the meaning of six parts
@@ -88,22 +88,22 @@ pub record Scaled (h : Header) : Type 0 where
   pub coordinates-served : smallest (h .coordinates) < powers
 
 -- LAW. The 71 numbers of a header mean the header.
-pub listed-numbers : (h : Header) → Scaled h → listed (headerNumbers h) ≡ h
-unfolding headerNumbers
+pub listed-numbers : (h : Header) → Scaled h → listed (recordNumbers h) ≡ h
+unfolding recordNumbers
 listed-numbers h p =
     listed-joined (take 12 (h .numbers)) (groupNumbers (h .elevations)) (groupScalar (h .elevations)) (groupScalar (h .coordinates)) (groupNumbers (h .coordinates)) (drop 12 (h .numbers))
     (length-take-le 12 (h .numbers) (omega (arith, p .others))) (length-held (h .elevations) ∙ p .seven) (length-held (h .coordinates) ∙ p .four)
     ∙ rw (take-append-drop 12 (h .numbers), scale-back (h .elevations) (p .elevations-served), scale-back (h .coordinates) (p .coordinates-served))
 
 -- LAW. So headers of the same 71 numbers are the same.
-pub numbers-only : (h k : Header) → Scaled h → Scaled k → headerNumbers h ≡ headerNumbers k → h ≡ k
+pub numbers-only : (h k : Header) → Scaled h → Scaled k → recordNumbers h ≡ recordNumbers k → h ≡ k
 numbers-only h k p q e = sym (listed-numbers h p) ∙ ap listed e ∙ listed-numbers k q
 
 -- LAW. 71 numbers, each group under the scalar of its smallest power, are those of what they mean.
 pub numbers-listed : (zs : List ℤ) → length zs ≡ 71 → Scaled (listed zs)
     → isSmallest (elevationsIn zs) (elevationScalarIn zs) ≡ true → isSmallest (coordinatesIn zs) (coordinateScalarIn zs) ≡ true
-    → headerNumbers (listed zs) ≡ zs
-unfolding headerNumbers listed
+    → recordNumbers (listed zs) ≡ zs
+unfolding recordNumbers listed
 numbers-listed zs n p e c =
     let a = held-again (elevationsIn zs) (elevationScalarIn zs) (p .elevations-served) e in
     let b = held-again (coordinatesIn zs) (coordinateScalarIn zs) (p .coordinates-served) c in
@@ -131,30 +131,30 @@ module _ (h : Header) (p : Scaled h) where
   size-coordinates : length cs ≡ 4
   size-coordinates = length-held (h .coordinates) ∙ p .four
 
-  drop-front : drop 12 (headerNumbers h) ≡ es ++ on
-  unfolding headerNumbers
+  drop-front : drop 12 (recordNumbers h) ≡ es ++ on
+  unfolding recordNumbers
   drop-front = drop-at (take 12 (h .numbers)) (es ++ on) 12 size-front
 
-  drop-elevations : drop 7 (drop 12 (headerNumbers h)) ≡ on
+  drop-elevations : drop 7 (drop 12 (recordNumbers h)) ≡ on
   drop-elevations = rw drop-front (drop-at es on 7 size-elevations)
 
-  pub elevations-are : elevationsIn (headerNumbers h) ≡ groupNumbers (h .elevations)
+  pub elevations-are : elevationsIn (recordNumbers h) ≡ groupNumbers (h .elevations)
   elevations-are = rw drop-front (take-at es on 7 size-elevations)
 
-  elevation-scalar-is : elevationScalarIn (headerNumbers h) ≡ groupScalar (h .elevations)
+  elevation-scalar-is : elevationScalarIn (recordNumbers h) ≡ groupScalar (h .elevations)
   elevation-scalar-is = rw drop-elevations
 
-  coordinate-scalar-is : coordinateScalarIn (headerNumbers h) ≡ groupScalar (h .coordinates)
+  coordinate-scalar-is : coordinateScalarIn (recordNumbers h) ≡ groupScalar (h .coordinates)
   coordinate-scalar-is = rw drop-elevations
 
-  pub coordinates-are : coordinatesIn (headerNumbers h) ≡ groupNumbers (h .coordinates)
+  pub coordinates-are : coordinatesIn (recordNumbers h) ≡ groupNumbers (h .coordinates)
   coordinates-are = rw drop-elevations (take-at cs (drop 12 (h .numbers)) 4 size-coordinates)
 
   -- LAW. What stands behind field 85 stands 13 places later than among the 58: 115 and 117 are the 39th and 40th of the 71, and the 26th
   -- and 27th of the 58.
-  pub behind-at : (k : ℕ) → getD (headerNumbers h) (25 + k) (pos 0) ≡ getD (h .numbers) (12 + k) (pos 0)
+  pub behind-at : (k : ℕ) → getD (recordNumbers h) (25 + k) (pos 0) ≡ getD (h .numbers) (12 + k) (pos 0)
   behind-at k =
-      let z = headerNumbers h in
+      let z = recordNumbers h in
       let n : 25 + k ≡ 12 + (7 + (2 + (4 + k))) = omega arith in
       let rest : behind z ≡ drop 12 (h .numbers) = rw drop-elevations (drop-at cs (drop 12 (h .numbers)) 4 size-coordinates) in
       ap (λ (x : ℕ). getD z x (pos 0)) n
@@ -163,14 +163,14 @@ module _ (h : Header) (p : Scaled h) where
       ∙ getD-drop 12 (h .numbers) k (pos 0)
 
   -- LAW. The scalars of the record's header are those of the smallest powers, and a reel may hold them.
-  pub elevations-smallest : isSmallest (elevationsIn (headerNumbers h)) (elevationScalarIn (headerNumbers h)) ≡ true
+  pub elevations-smallest : isSmallest (elevationsIn (recordNumbers h)) (elevationScalarIn (recordNumbers h)) ≡ true
   elevations-smallest = rw (elevations-are, elevation-scalar-is) (smallest-held (h .elevations) (p .elevations-served))
 
-  pub coordinates-smallest : isSmallest (coordinatesIn (headerNumbers h)) (coordinateScalarIn (headerNumbers h)) ≡ true
+  pub coordinates-smallest : isSmallest (coordinatesIn (recordNumbers h)) (coordinateScalarIn (recordNumbers h)) ≡ true
   coordinates-smallest = rw (coordinates-are, coordinate-scalar-is) (smallest-held (h .coordinates) (p .coordinates-served))
 
-  pub elevation-scalar-allowed : isScalar (elevationScalarIn (headerNumbers h)) ≡ true
+  pub elevation-scalar-allowed : isAllowed (elevationScalarIn (recordNumbers h)) ≡ true
   elevation-scalar-allowed = rw elevation-scalar-is (scalar-held (h .elevations) (p .elevations-served))
 
-  pub coordinate-scalar-allowed : isScalar (coordinateScalarIn (headerNumbers h)) ≡ true
+  pub coordinate-scalar-allowed : isAllowed (coordinateScalarIn (recordNumbers h)) ≡ true
   coordinate-scalar-allowed = rw coordinate-scalar-is (scalar-held (h .coordinates) (p .coordinates-served))

@@ -25,11 +25,11 @@ numberBytes [] zs = []
 numberBytes (w ∷ ws) [] = []
 numberBytes (w ∷ ws) (z ∷ zs) = bytesOf w (bitsOf (8 * w) z) ++ numberBytes ws zs
 
--- The 71 numbers of a trace header in a record, in the order of the fields: the 12 bare numbers before field 41; the elevations at their
--- smallest power; fields 69 and 71, the scalars of the two smallest powers; the coordinates at theirs; and the 46 bare numbers behind
--- field 85.
-unfoldable pub headerNumbers : Header → List ℤ
-headerNumbers h =
+-- The 71 numbers of a trace header in a record, in the order of the fields: the 12 unscaled numbers before field 41; the elevations at their
+-- smallest power; fields 69 and 71, each the scalar of its group's smallest power; the coordinates at theirs; and the 46 unscaled numbers
+-- behind field 85.
+unfoldable pub recordNumbers : Header → List ℤ
+recordNumbers h =
     take 12 (h .numbers)
     ++ (groupNumbers (h .elevations)
     ++ (groupScalar (h .elevations)
@@ -38,7 +38,7 @@ headerNumbers h =
 
 -- Their bytes.
 unfoldable pub headerBytes : Header → List ℕ
-headerBytes h = numberBytes traceWidths (headerNumbers h)
+headerBytes h = numberBytes traceWidths (recordNumbers h)
 
 -- The bytes of a trace's 71 fields, 1 to 180.
 abbrev pub headerSize : ℕ

@@ -12,7 +12,7 @@ use Rattle.sample.specs.declared.Sample.{Sample}
 use Rattle.sample.specs.declared.Sample.the-variants.{Taken, Refused}
 use Rattle.reel.specs.Layout.{sampleBytes}
 
--- What reading a word gives, as six bytes; zero for a word that is refused, which a reel has only where a cause of 1 to 9 and 18 applies.
+-- What reading a word gives, as six bytes; zero for a word that is refused, which a reel has only where 2 or 9 applies.
 abbrev pub sampleContent : Sample → List ℕ
 sampleContent (Taken e m) = pairBytes e m
 sampleContent (Refused number) = replicate pairLength 0

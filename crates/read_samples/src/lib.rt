@@ -16,7 +16,7 @@ ghost use Rattle.read_samples.specs.Parts.{exponentContent, mantissaCont
 use numbers::Place;
 use sample::Sample;
 
-// What reading a word gives: its exponent in two bytes, and its mantissa in four. The words of a reel that came through the causes 1 to 9 are
+// What reading a word gives: its exponent in two bytes, and its mantissa in four. The words of a reel that came through the causes are
 // all taken; a refused one, which only the types allow here, is given as zero, so that the loops need no condition on each word.
 fn put_exponent(word: Sample, out: &mut [u8])
     requires { ⌜ length (now out) ≡ 2 ⌝ }

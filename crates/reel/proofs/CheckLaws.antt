@@ -17,7 +17,7 @@ use Rattle.value.specs.Value.{isCode, exactValue}
 use Rattle.sample.specs.Reading.{badGain, readWord, pairTaken}
 use Rattle.sample.specs.declared.Sample.the-variants as sample
 use Rattle.reel.specs.Layout.{firstTrace, traceHeader, elevationScalar, coordinateScalar, number16, samplesOf, codeOf, intervalOf, sampleBytes, stride, strideOf, overIn, tracesOf}
-use Rattle.reel.specs.Parts.{wordRefused, headCauses}
+use Rattle.reel.specs.Parts.{wordRefused, traceHeaderCauses}
 use Rattle.reel.specs.Causes.{mostSamples, mostTraces, within, neither, limitCauses, sizeCauses, scalarCause, wordCause, traceCauses, behindCauses, causesOf}
 
 -- ## Rows
@@ -38,8 +38,8 @@ no-gain s code h w (suc k) at = rw (ne-eqb code 4 h) (no-gain s code h w k (at +
 -- ## A trace
 
 -- its causes are those of its header, and then those of its words
-pub trace-parts : (s : List ℕ) (code n i at : ℕ) → traceCauses s code n i at ≡ then (headCauses s n i at) (firstOf (walk (wordCause s code) (sampleBytes code) n (at + traceHeader)))
-unfolding traceCauses headCauses
+pub trace-parts : (s : List ℕ) (code n i at : ℕ) → traceCauses s code n i at ≡ then (traceHeaderCauses s n i at) (firstOf (walk (wordCause s code) (sampleBytes code) n (at + traceHeader)))
+unfolding traceCauses traceHeaderCauses
 trace-parts s code n i at =
     let a = refuseIf (neither (number16 s (bytePlace at 115)) n) 7 (bytePlace at 115) in
     let b = refuseIf (neither (number16 s (bytePlace at 117)) i) 8 (bytePlace at 117) in
@@ -50,7 +50,7 @@ trace-parts s code n i at =
 
 -- so where it has none, its words have none
 pub words-fine : (s : List ℕ) (code n i at : ℕ) → traceCauses s code n i at ≡ Fine → firstOf (walk (wordCause s code) (sampleBytes code) n (at + traceHeader)) ≡ Fine
-words-fine s code n i at e = then-fine (headCauses s n i at) _ (sym (trace-parts s code n i at) ∙ e) .1
+words-fine s code n i at e = then-fine (traceHeaderCauses s n i at) _ (sym (trace-parts s code n i at) ∙ e) .1
 
 -- ## Codes
 

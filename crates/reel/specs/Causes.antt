@@ -13,7 +13,7 @@ use Rattle.numbers.specs.declared.Check.the-variants.{Fine, Refused}
 use Rattle.reel.specs.declared.Judged.{Judged}
 use Rattle.reel.specs.declared.Judged.the-variants as variant
 use Rattle.value.specs.Value.{isCode}
-use Rattle.scalars.specs.Scalar.{isScalar}
+use Rattle.scalars.specs.Scalar.{isAllowed}
 use Rattle.sample.specs.Reading.{badGain}
 use Rattle.reel.specs.Layout.{Field, firstTrace, traceHeader, elevationScalar, coordinateScalar, fieldNumber, number16, intervalOf, samplesOf, codeOf, sampleBytes, strideOf, wholeIn, overIn, tracesOf}
 
@@ -56,7 +56,7 @@ sizeCauses size w t over =
 
 -- 18: a scalar, the field f of the trace at the place `at`, that isn't allowed.
 abbrev pub scalarCause : List ℕ → ℕ → Field → Check
-scalarCause s at f = refuseIf (not (isScalar (fieldNumber s at f))) 18 (bytePlace at (f .begins))
+scalarCause s at f = refuseIf (not (isAllowed (fieldNumber s at f))) 18 (bytePlace at (f .begins))
 
 -- 9: the first byte of a gain word not 00.
 abbrev pub wordCause : List ℕ → ℕ → ℕ → Check

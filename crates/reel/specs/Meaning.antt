@@ -48,17 +48,17 @@ abbrev pub fieldsOutside : ℕ → ℕ → List Field → List Field
 fieldsOutside a b [] = []
 fieldsOutside a b (f ∷ fs) = pick (within a b (f .begins)) [] (f ∷ []) ++ fieldsOutside a b fs
 
--- The seven elevations, the four coordinates, and the 58 fields that no scalar acts on and that are none.
+-- The seven elevations, depths among them; the four coordinates; and the 58 others, which are no scalars and on which none acts.
 unfoldable pub elevationFields : List Field
 elevationFields = fieldsWithin 41 65 traceFields
 
 unfoldable pub coordinateFields : List Field
 coordinateFields = fieldsWithin 73 85 traceFields
 
-unfoldable pub bareFields : List Field
-bareFields = fieldsOutside 41 85 traceFields
+unfoldable pub unscaledFields : List Field
+unscaledFields = fieldsOutside 41 85 traceFields
 
--- What a trace header means: the numbers of the 58 bare fields, and the scaled values of the elevations and of the coordinates, whole
+-- What a trace header means: the numbers of the 58 unscaled fields, and the scaled values of the elevations and of the coordinates, whole
 -- numbers over 10,000. "69 and 71 themselves no longer count."
 pub record Header : Type 0 where
   pub numbers : List ℤ
@@ -69,7 +69,7 @@ pub record Header : Type 0 where
 unfoldable pub headerOf : (Field → ℤ) → Header
 headerOf number =
     record {
-      numbers = map number bareFields;
+      numbers = map number unscaledFields;
       elevations = scaledValues (number elevationScalar) (map number elevationFields);
       coordinates = scaledValues (number coordinateScalar) (map number coordinateFields);
     }

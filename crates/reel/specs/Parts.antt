@@ -16,8 +16,8 @@ wordRefused (sample.Taken e m) at = Fine
 wordRefused (sample.Refused number) at = Refused number (record { 0 = at })
 
 -- A trace's causes but for those of its words: 7, 8, 18 for field 69, 18 for field 71.
-unfoldable pub headCauses : List ℕ → ℕ → ℕ → ℕ → Check
-headCauses s n i at =
+unfoldable pub traceHeaderCauses : List ℕ → ℕ → ℕ → ℕ → Check
+traceHeaderCauses s n i at =
     then (refuseIf (neither (number16 s (bytePlace at 115)) n) 7 (bytePlace at 115))
     (then (refuseIf (neither (number16 s (bytePlace at 117)) i) 8 (bytePlace at 117))
     (then (scalarCause s at elevationScalar)

@@ -10,7 +10,7 @@ ghost use Rattle.numbers.specs.Places.{placeNo, byteNo, bytePlace};
 ghost use Rattle.value.specs.Value.{isCode};
 ghost use Rattle.reel.specs.Layout.{traceHeader, number16, sampleBytes, stride};
 ghost use Rattle.reel.specs.Causes.{within, neither, limitCauses, sizeCauses, scalarCause, wordCause, traceCauses, behindCauses, causesOf, reelJudged};
-ghost use Rattle.reel.specs.Parts.{wordRefused, headCauses};
+ghost use Rattle.reel.specs.Parts.{wordRefused, traceHeaderCauses};
 use numbers::ByteNo;
 use numbers::Check;
 use numbers::Place;
@@ -77,7 +77,7 @@ fn check_scalar(reel: &[u8], at: usize, b: ByteNo) -> Check
 {
     let place = places::field_at(Place(at), b);
     let scalar = numbers::signed16(slices::number16_at(reel, place));
-    if scalars::is_scalar(scalar) {
+    if scalars::is_allowed(scalar) {
         return Check::Fine;
     }
     Check::Refused { number: 18, place }
@@ -152,7 +152,7 @@ fn check_gains(reel: &[u8], n: usize, start: usize) -> Check
 // 7, 8 and 18, of the trace at a place.
 fn check_head(reel: &[u8], n: usize, i: usize, at: usize) -> Check
     requires { ⌜ at + traceHeader ≤ length (now reel) ⌝ }
-    ensures { λ r. ⌜ r ≡ headCauses (now (reel .entry)) n i at ⌝ }
+    ensures { λ r. ⌜ r ≡ traceHeaderCauses (now (reel .entry)) n i at ⌝ }
 {
     let a = check_own(reel, at, ByteNo(115), n, 7);
     let Check::Fine = a else {

@@ -23,7 +23,7 @@ use Rattle.record.specs.Record.{reelRecord}
 use Rattle.read_reel.specs.Reading.{recordLengthOf, readNumbers, readCauses, readEnd, readOutcome}
 use Rattle.reel_theorems.proofs.Same.{record-size, same-records}
 
--- a reading that is taken has no cause of 1 to 10
+-- a reading that is taken has no cause of 1 to 10 or 18
 pub taken-fine : (s out numbers : List ℕ) → readOutcome s out .said ≡ taken numbers → readCauses s (length out) ≡ Fine
 taken-fine s out numbers e =
     says-fine (λ (c : Check). readEnd s out c .said) (readNumbers s) refl (λ n p. refl) (readCauses s (length out)) numbers e

@@ -2,15 +2,16 @@
 --
 -- The table of the causes 1 to 9 and 18 is `ReelTable`, in `specs/`. A reel is refused by a number with a place exactly when that row of the table
 -- applies to it, and it has no cause exactly when no row does. Assumes nothing.
-use mathlib.Core.Path.{_≡_, refl}
-use mathlib.Core.List.{List}
-use mathlib.Core.Logic.{inl, inr}
-use mathlib.Core.Bool.{Bool, true, false, not, _&&_}
+use mathlib.Core.Path.{_≡_, refl, sym, subst}
+use mathlib.Core.List.{List, [], _∷_}
+use mathlib.Core.Logic.{_⊎_, inl, inr}
+use mathlib.Core.Bool.{Bool, true, false, not, _&&_, _||_}
 use Prim.Native.Nat.{ℕ, _+_, _-_, _*_, _≤_, _<_}
 use native.Mathlib.Nat.{div-add-mod'}
 use native.Mathlib.Omega.{arith}
-use borrow.Author.Tests.{ltb-true, ltb-false, eqb-true, eqb-false}
-use lib.Dec.{ltb, eqb}
+use borrow.Author.Tests.{ltb-true, ltb-false, eqb-true, eqb-false, eq-eqb}
+use lib.Dec.{T, ltb, eqb}
+use lib.IntN.{natAbs}
 use lib.ListN.{length, getD}
 use Rattle.numbers.specs.Walk.{walk, bytesAt}
 use Rattle.numbers.specs.Cause.{refuseIf, firstOf}
@@ -21,10 +22,11 @@ use Rattle.numbers.specs.Iff.{Iff}
 use Rattle.numbers.specs.Terms.{atPlace, Between, ZeroOr}
 use Rattle.numbers.proofs.RowLaws.{Tests, test-by, then-row, then-first, then-second, fine-then, refused-then, holds-then, row-then, no-row, test-between, test-either, test-room, not-enough, too-short, first-is, first-of, walk-fine, walk-holds, walk-refused, walk-row, fine-none}
 use Rattle.value.specs.Value.{isCode}
-use Rattle.scalars.specs.Scalar.{isScalar}
+use Rattle.numbers.proofs.BoolLaws.{or-true}
+use Rattle.scalars.specs.Scalar.{isAmong, isAllowed}
 use Rattle.reel.specs.Layout.{Field, elevationScalar, coordinateScalar, fieldNumber, firstTrace, traceHeader, number16, samplesOf, intervalOf, codeOf, sampleBytes, strideOf, overIn, tracesOf}
 use Rattle.reel.specs.Causes.{mostSamples, mostTraces, mostInterval, within, neither, limitCauses, sizeCauses, scalarCause, wordCause, traceCauses, behindCauses, causesOf}
-use Rattle.reel_theorems.specs.ReelTable.{traceAt, sampleAt, Headed, Whole, OwnNumbers, Allowed, Passed, Until, ReelRow, short-reel, bad-code, bad-samples, bad-interval, left-over, many, bad-115, bad-117, bad-69, bad-71, bad-gain}
+use Rattle.reel_theorems.specs.ReelTable.{traceAt, sampleAt, Headed, Whole, OwnNumbers, Among, Allowed, Passed, Until, ReelRow, short-reel, bad-code, bad-samples, bad-interval, left-over, many, bad-115, bad-117, bad-69, bad-71, bad-gain}
 
 -- ## Headers and size
 
@@ -109,6 +111,20 @@ test-gain s code at = go (eqb code 4) (eqb (getD s at 0) 0) refl refl
     go true true p q = inl (λ c. eqb-true (getD s at 0) 0 q, refl)
     go true false p q = inr (λ h. eqb-false (getD s at 0) 0 q (h (eqb-true code 4 p)), refl)
 
+-- A number that is found in a list is one of its numbers, and the other way round.
+among-is : (n : ℕ) (ms : List ℕ) → isAmong n ms ≡ true → Among n ms
+among-is n [] e = absurd (subst T (sym e) tt)
+among-is n (m ∷ ms) e = go (λ x. among-is n ms x) (eqb n m) refl e
+  where
+    go : (isAmong n ms ≡ true → Among n ms) → (b : Bool) → eqb n m ≡ b → (b || isAmong n ms) ≡ true → (n ≡ m) ⊎ Among n ms
+    go rest true q e = inl (eqb-true n m q)
+    go rest false q e = inr (rest e)
+
+is-among : (n : ℕ) (ms : List ℕ) → Among n ms → isAmong n ms ≡ true
+is-among n [] h = absurd h
+is-among n (m ∷ ms) (inl e) = rw (eq-eqb n m e)
+is-among n (m ∷ ms) (inr h) = rw (is-among n ms h) (or-true (eqb n m))
+
 -- Where it doesn't, the code is 4.
 gain-code : (code b : ℕ) → ¬ (code ≡ 4 → b ≡ 0) → code ≡ 4
 gain-code code b h = go (eqb code 4) refl
@@ -126,7 +142,10 @@ module _ (s : List ℕ) (k : ℕ) where
   own-test = test-either (intervalOf s) (number16 s (traceAt s k + 116)) 8 (traceAt s k + 116)
 
   scalar-test : (f : Field) → Tests (Allowed s k f) 18 (bytePlace (traceAt s k) (f .begins)) (scalarCause s (traceAt s k) f)
-  scalar-test f = test-by (Allowed s k f) (isScalar (fieldNumber s (traceAt s k) f)) 18 (bytePlace (traceAt s k) (f .begins)) (λ e. e) (λ e. e)
+  scalar-test f =
+      let n = natAbs (fieldNumber s (traceAt s k) f) in
+      let ms : List ℕ = 0 ∷ 1 ∷ 10 ∷ 100 ∷ 1000 ∷ 10000 ∷ [] in
+      test-by (Allowed s k f) (isAllowed (fieldNumber s (traceAt s k) f)) 18 (bytePlace (traceAt s k) (f .begins)) (among-is n ms) (is-among n ms)
 
   -- Behind a trace header that is right, the answer is that of its words.
   behind-head : OwnNumbers s k → Allowed s k elevationScalar → Allowed s k coordinateScalar → {x : Check}

@@ -2,13 +2,13 @@
 -- trace 7, 8, 18 for field 69, 18 for field 71, 9 (first such word). Each row says in which case it applies, and what stands beside it: as
 -- the order sets, it applies only where no row before it does.
 use mathlib.Core.Path.{_≡_}
-use mathlib.Core.Bool.{true}
-use mathlib.Core.List.{List}
+use mathlib.Core.List.{List, [], _∷_}
+use mathlib.Core.Logic.{_⊎_}
 use Prim.Native.Nat.{ℕ, _+_, _*_, _≤_, _<_}
 use lib.ListN.{length, getD}
 use Rattle.numbers.specs.Places.{bytePlace}
 use Rattle.numbers.specs.Terms.{Between, ZeroOr}
-use Rattle.scalars.specs.Scalar.{isScalar}
+use lib.IntN.{natAbs}
 use Rattle.reel.specs.Layout.{Field, elevationScalar, coordinateScalar, fieldNumber, number16, samplesOf, intervalOf, codeOf, sampleBytes, strideOf, tracesOf}
 
 -- ## The terms of the table
@@ -39,9 +39,14 @@ pub record OwnNumbers (s : List ℕ) (k : ℕ) : Type 0 where
   pub count : ZeroOr (samplesOf s) (number16 s (bytePlace (traceAt s k) 115))
   pub interval : ZeroOr (intervalOf s) (number16 s (bytePlace (traceAt s k) 117))
 
+-- n is one of these numbers.
+abbrev pub Among : ℕ → List ℕ → Type 0
+Among n [] = ⊥
+Among n (m ∷ ms) = (n ≡ m) ⊎ Among n ms
+
 -- The scalar in a field of trace k, 69 or 71, is allowed: 0, 1, -1, or plus or minus 10, 100, 1,000 or 10,000.
 abbrev pub Allowed : List ℕ → ℕ → Field → Type 0
-Allowed s k f = isScalar (fieldNumber s (traceAt s k) f) ≡ true
+Allowed s k f = Among (natAbs (fieldNumber s (traceAt s k) f)) (0 ∷ 1 ∷ 10 ∷ 100 ∷ 1000 ∷ 10000 ∷ [])
 
 -- None of 7, 8, 18 and 9 applies to trace k: its own numbers and its scalars are right, and under code 4 each sample begins with 00.
 pub record Passed (s : List ℕ) (k : ℕ) : Type 0 where
@@ -79,7 +84,7 @@ pub data ReelRow (s : List ℕ) : ℕ → ℕ → Type 0 where
       → ReelRow s 8 (bytePlace (traceAt s k) 117)
   -- 18: its field 69 is no scalar that is allowed
   bad-69 : (k : ℕ) → Until s k → OwnNumbers s k → ¬ (Allowed s k elevationScalar) → ReelRow s 18 (bytePlace (traceAt s k) 69)
-  -- 18: its field 71 is none
+  -- 18: its field 71 is no scalar that is allowed
   bad-71 : (k : ℕ) → Until s k → OwnNumbers s k → Allowed s k elevationScalar → ¬ (Allowed s k coordinateScalar) → ReelRow s 18 (bytePlace (traceAt s k) 71)
   -- 9: the first byte of one of its gain words is not 00, the first such word
   bad-gain : (k j : ℕ) → Until s k → OwnNumbers s k → Allowed s k elevationScalar → Allowed s k coordinateScalar

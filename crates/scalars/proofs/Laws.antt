@@ -16,7 +16,7 @@ use Rattle.numbers.specs.First.{first}
 use Rattle.value.specs.Writing.{isNegative, isMultiple, holds, numberOf, inBits}
 use Rattle.numbers.proofs.FirstLaws.{found}
 use Rattle.value.proofs.Magnitudes.{in-bits}
-use Rattle.scalars.specs.Scalar.{powers, isScalar, powerOf, scalarOf, scaledBy, scaledValues, serves, smallest, numbersAt, groupNumbers, groupScalar, sameNumber, isSmallest}
+use Rattle.scalars.specs.Scalar.{powers, isAllowed, powerOf, scalarOf, scaledBy, scaledValues, serves, smallest, numbersAt, groupNumbers, groupScalar, sameNumber, isSmallest}
 use Rattle.scalars.specs.Parts.{largest}
 use Rattle.scalars.proofs.Fit32.{largest-fits}
 use Rattle.scalars.specs.Parts.{Fit32}
@@ -28,7 +28,7 @@ use Rattle.scalars.proofs.Powers.{ten-pos, edge, both-within, power-lt,
 -- ## Scalars and powers determine each other
 
 -- a scalar of a power has that power, and is allowed
-pub power-scalar : (q : ℕ) → q < powers → (powerOf (scalarOf q) ≡ q) × (isScalar (scalarOf q) ≡ true)
+pub power-scalar : (q : ℕ) → q < powers → (powerOf (scalarOf q) ≡ q) × (isAllowed (scalarOf q) ≡ true)
 unfolding powerOf scalarOf
 power-scalar zero h = (refl, refl)
 power-scalar (suc zero) h = (refl, refl)
@@ -81,7 +81,7 @@ pub smallest-held : (vs : List ℤ) → smallest vs < powers → isSmallest (gro
 unfolding isSmallest
 smallest-held vs h = rw (scale-back vs h) (same-refl (groupScalar vs))
 
-pub scalar-held : (vs : List ℤ) → smallest vs < powers → isScalar (groupScalar vs) ≡ true
+pub scalar-held : (vs : List ℤ) → smallest vs < powers → isAllowed (groupScalar vs) ≡ true
 unfolding groupScalar
 scalar-held vs h = power-scalar (smallest vs) h .1
 

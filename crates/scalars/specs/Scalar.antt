@@ -1,5 +1,5 @@
 -- Elevations and coordinates with their scalars, as document 02 sets them (CR 2): "positive multiplies, negative divides, 0 is taken as 1".
--- The fields of a trace header that one scalar acts on are called a group here.
+-- A group is document 02's term for the fields of a trace header that one scalar acts on: of one trace, each trace by itself.
 use Prim.Native.Nat.{ℕ, _+_, _-_, _^_}
 use mathlib.Core.Bool.{Bool, true, false, _&&_, _||_}
 use mathlib.Core.List.{List, [], _∷_, map}
@@ -17,30 +17,30 @@ abbrev pub isAmong : ℕ → List ℕ → Bool
 isAmong n [] = false
 isAmong n (m ∷ ms) = eqb n m || isAmong n ms
 
-abbrev pub isScalar : ℤ → Bool
-isScalar z = isAmong (natAbs z) (0 ∷ 1 ∷ 10 ∷ 100 ∷ 1000 ∷ 10000 ∷ [])
+abbrev pub isAllowed : ℤ → Bool
+isAllowed z = isAmong (natAbs z) (0 ∷ 1 ∷ 10 ∷ 100 ∷ 1000 ∷ 10000 ∷ [])
 
 -- The powers of ten from -4 to 4 are counted from 0 to 8 here: the power q stands for 10 to the power q - 4.
 abbrev pub powers : ℕ
 powers = 9
 
 -- So 4 stands for the power 0, at which a number counts as it is.
-abbrev pub bare : ℕ
-bare = 4
+abbrev pub powerZero : ℕ
+powerZero = 4
 
 -- The zeros of 10, 100, 1,000 and 10,000; 1 and 0 have none, and every other number is taken like them.
 abbrev pub zerosIn : ℕ → ℕ
 zerosIn n = pick (eqb n 10) 1 (pick (eqb n 100) 2 (pick (eqb n 1000) 3 (pick (eqb n 10000) 4 0)))
 
--- The power of a scalar: a positive one multiplies, a negative one divides, 0 is taken as 1. So is a number that is no scalar; a reel or a
+-- The power of a scalar: a positive one multiplies, a negative one divides, 0 is taken as 1. So is a scalar that isn't allowed; a reel or a
 -- record that has one is refused.
 unfoldable pub powerOf : ℤ → ℕ
-powerOf (pos n) = bare + zerosIn n
-powerOf (negsuc n) = bare - zerosIn (1 + n)
+powerOf (pos n) = powerZero + zerosIn n
+powerOf (negsuc n) = powerZero - zerosIn (1 + n)
 
--- The scalar of a power: "-10000 to 10000, power 0 as 1".
+-- The scalar of a power from 0 to 8: "-10000 to 10000, power 0 as 1".
 unfoldable pub scalarOf : ℕ → ℤ
-scalarOf q = pick (ltb q bare) (negℤ (pos (10 ^ (bare - q)))) (pos (10 ^ (q - bare)))
+scalarOf q = pick (ltb q powerZero) (negℤ (pos (10 ^ (powerZero - q)))) (pos (10 ^ (q - powerZero)))
 
 -- ## Scaled values
 
@@ -55,7 +55,7 @@ scaledValues scalar ns = scaledBy (powerOf scalar) ns
 
 -- ## The smallest power
 
--- At a power all numbers of a group of scaled values "are whole and fit 32 signed bits".
+-- A power serves a group of scaled values, as it is called here, when at it "all its numbers are whole and fit 32 signed bits".
 abbrev pub serves : List ℤ → ℕ → Bool
 serves [] q = true
 serves (v ∷ vs) q = holds 32 (10 ^ q) v && serves vs q
@@ -64,7 +64,7 @@ serves (v ∷ vs) q = holds 32 (10 ^ q) v && serves vs q
 unfoldable pub smallest : List ℤ → ℕ
 smallest vs = first (serves vs) powers 0
 
--- The numbers of a group of scaled values at a power.
+-- The numbers of a group of scaled values at a power, exact where the power serves.
 abbrev pub numbersAt : ℕ → List ℤ → List ℤ
 numbersAt q vs = map (numberOf (10 ^ q)) vs
 
@@ -92,6 +92,7 @@ sameNumber (negsuc m) (negsuc n) = eqb m n
 sameNumber (pos m) (negsuc n) = false
 sameNumber (negsuc m) (pos n) = false
 
--- A record's scalar is that of the smallest power of the group that stands under it. 0, -1 and a number that is no scalar never are.
+-- A record's scalar is that of the smallest power of the group that stands under it. In the two bytes of a field, 0,
+-- -1 and a scalar that isn't allowed never are.
 unfoldable pub isSmallest : List ℤ → ℤ → Bool
 isSmallest ns scalar = sameNumber scalar (groupScalar (scaledValues scalar ns))

@@ -3,7 +3,7 @@
 ghost use mathlib.Core.Path.{_≡_};
 ghost use Prim.Native.Nat.{_+_, _*_, _^_, _<_, _≤_, max};
 ghost use lib.IntN.{pos, natAbs};
-ghost use Rattle.scalars.specs.Scalar.{powers, isScalar, zerosIn, powerOf, scalarOf, scaledValues, smallest, scaleOf, isSmallest};
+ghost use Rattle.scalars.specs.Scalar.{powers, isAllowed, zerosIn, powerOf, scalarOf, scaledValues, smallest, scaleOf, isSmallest};
 ghost use Rattle.scalars.specs.Parts.{largest, Raised};
 
 // What takes a group to its smallest power: the factor of its numbers, and the scalar of that power.
@@ -50,8 +50,8 @@ fn largest_of(g: [i32; 7]) -> u32
 }
 
 // Whether a reel may hold this scalar.
-pub fn is_scalar(scalar: i16) -> bool
-    ensures { λ r. ⌜ r ≡ isScalar scalar ⌝ }
+pub fn is_allowed(scalar: i16) -> bool
+    ensures { λ r. ⌜ r ≡ isAllowed scalar ⌝ }
 {
     match magnitude(scalar as i32) {
         0 | 1 | 10 | 100 | 1000 | 10000 => true,

@@ -1,7 +1,7 @@
 -- `headers::put_coordinates` meets its contract. Assumes nothing.
 use mathlib.Core.Path.{_≡_, refl, ap, _∙_}
-use mathlib.Core.List.{List, _++_}
-use Prim.Native.Nat.{ℕ, _+_}
+use mathlib.Core.List.{_++_}
+use Prim.Native.Nat.{_+_}
 use native.Mathlib.Omega.{arith}
 use borrow.Author.Needs.{sfits-of, needs}
 use lib.IntN.{ℤ, pos}
@@ -14,11 +14,11 @@ use Rattle.numbers.specs.TwosComplement.{bitsOf}
 use Rattle.numbers.proofs.ByteLaws.{all-bytes}
 use Rattle.numbers.proofs.WalkLaws.{copied}
 use Rattle.numbers.proofs.Filling.{in-turn}
-use Rattle.scalars.specs.Scalar.{groupNumbers, groupScalar, scaleOf}
+use Rattle.scalars.specs.Scalar.{groupScalar, scaleOf}
 use Rattle.scalars.specs.Parts.{Fit32}
 use Rattle.scalars.specs.declared.Scale.{Scale}
-use Rattle.headers.specs.Parts.{number2, numbersIn, timesFactor, groupBytes, elevationsAt, coordinatesAt, elevationsCopied, coordinatesCopied}
-use Rattle.headers.proofs.GroupLaws.{size-in, size-held, numbers-fit, factor-is, factor-fits, scale-padded}
+use Rattle.headers.specs.Parts.{number2, numbersIn, timesFactor, groupBytes, coordinatesAt, coordinatesCopied}
+use Rattle.headers.proofs.GroupLaws.{numbers-fit, factor-is, factor-fits, scale-padded}
 use Rattle.headers.proofs.put_coordinates.Statement.{statement}
 use Rattle.headers.proofs.put_coordinates.Tie as tie
 

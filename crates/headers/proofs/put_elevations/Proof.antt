@@ -1,11 +1,9 @@
 -- `headers::put_elevations` meets its contract. Assumes nothing.
-use mathlib.Core.Path.{_≡_, refl, ap, _∙_}
-use mathlib.Core.List.{List, _++_}
-use Prim.Native.Nat.{ℕ, _+_}
+use mathlib.Core.Path.{_≡_, ap, _∙_}
+use Prim.Native.Nat.{_+_}
 use native.Mathlib.Omega.{arith}
 use borrow.Author.Needs.{sfits-of, needs}
-use lib.IntN.{ℤ, pos}
-use lib.ListN.{replicate}
+use lib.IntN.{ℤ}
 use mir.Syntax.{w16, w32}
 use mir.Val.{SFits, toZ, ofZ}
 use mir.Facts.{toZ-ofZ}
@@ -14,11 +12,11 @@ use Rattle.numbers.specs.TwosComplement.{bitsOf}
 use Rattle.numbers.proofs.ByteLaws.{all-bytes}
 use Rattle.numbers.proofs.WalkLaws.{copied}
 use Rattle.numbers.proofs.Filling.{in-turn}
-use Rattle.scalars.specs.Scalar.{groupNumbers, groupScalar, scaleOf}
+use Rattle.scalars.specs.Scalar.{groupScalar, scaleOf}
 use Rattle.scalars.specs.Parts.{Fit32}
 use Rattle.scalars.specs.declared.Scale.{Scale}
-use Rattle.headers.specs.Parts.{number2, numbersIn, timesFactor, groupBytes, elevationsAt, coordinatesAt, elevationsCopied, coordinatesCopied}
-use Rattle.headers.proofs.GroupLaws.{size-in, size-held, numbers-fit, factor-is, factor-fits, scale-padded}
+use Rattle.headers.specs.Parts.{number2, numbersIn, timesFactor, groupBytes, elevationsAt, elevationsCopied}
+use Rattle.headers.proofs.GroupLaws.{size-in, size-held, numbers-fit, factor-is, factor-fits}
 use Rattle.headers.proofs.put_elevations.Statement.{statement}
 use Rattle.headers.proofs.put_elevations.Tie as tie
 

@@ -1,12 +1,12 @@
 -- `headers::put_numbers` meets its contract. The loop's invariant: the first o bytes are those of the numbers before p. Assumes nothing.
-use Rattle.headers.specs.Parts.{number4, numbersIn, timesFactor, groupBytes}
+use Rattle.headers.specs.Parts.{number4, numbersIn, timesFactor}
 use Rattle.headers.proofs.GroupLaws.{size-in, size-group, times-walk, fit-more}
 use Rattle.scalars.specs.Parts.{Fit32}
 use Rattle.numbers.specs.Walk.{walk, flat}
 use Rattle.numbers.specs.BigEndian.{bytesOf}
 use Rattle.numbers.specs.TwosComplement.{bitsOf}
-use Rattle.numbers.proofs.Filling.{Filling, start as begin, again, finish, part-put}
-use Rattle.numbers.proofs.WalkLaws.{copied, times-more, flat-none}
+use Rattle.numbers.proofs.Filling.{Filling, start as begin, finish, part-put}
+use Rattle.numbers.proofs.WalkLaws.{copied, flat-none}
 use lib.IntN.{ℤ, _*ℤ_}
 use lib.ListN.{length, length-map}
 use mir.Syntax.{w32}
@@ -16,7 +16,7 @@ use Prim.Native.Nat.{ℕ, _+_, _*_, _≤_}
 use mathlib.Core.List.{List, map}
 use mathlib.Core.Path.{_≡_, refl, sym, ap, _∙_}
 use native.Mathlib.Omega.{arith}
-use borrow.Author.Needs.{sfits-of, needs}
+use borrow.Author.Needs.{sfits-of}
 use Rattle.headers.proofs.put_numbers.Statement.{statement}
 use Rattle.headers.proofs.put_numbers.Tie as tie
 

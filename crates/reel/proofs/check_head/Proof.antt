@@ -1,7 +1,7 @@
 -- `reel::check_head` meets its contract. Assumes nothing.
 use Rattle.reel.specs.Causes.{neither, scalarCause}
 use Rattle.reel.specs.Layout.{elevationScalar, number16}
-use Rattle.reel.specs.Parts.{headCauses}
+use Rattle.reel.specs.Parts.{traceHeaderCauses}
 use Rattle.numbers.proofs.CauseLaws.{then-stop, then-next}
 use Rattle.numbers.specs.declared.Check.the-variants.{Fine}
 use Rattle.numbers.specs.Cause.{refuseIf}
@@ -22,25 +22,25 @@ fine69 : (c : tie.After-enum-told5) → let a = c .before .before .before .befor
 fine69 c = sym (c .before .before .check-scalar .ensures) ∙ c .enum-told5 .given .1
 
 returns : tie.Need-returns
-unfolding headCauses
+unfolding traceHeaderCauses
 returns c = let e = c .before .before .check-own .ensures in e ∙ then-stop _ _ (sym e ∙ c .enum-told2 .given .1)
 
 returns-2 : tie.Need-returns-2
-unfolding headCauses
+unfolding traceHeaderCauses
 returns-2 c =
     let b = c .before .before in
     let e = b .check-own2 .ensures in
     e ∙ then-stop _ _ (sym e ∙ c .enum-told4 .given .1) ∙ then-next _ _ (fine7 (b .before))
 
 returns-3 : tie.Need-returns-3
-unfolding headCauses
+unfolding traceHeaderCauses
 returns-3 c =
     let b = c .before .before in
     let e = b .check-scalar .ensures in
     e ∙ then-stop _ _ (sym e ∙ c .enum-told6 .given .1) ∙ then-next _ _ (fine8 (b .before)) ∙ then-next _ _ (fine7 (b .before .before .before .before))
 
 returns-4 : tie.Need-returns-4
-unfolding headCauses
+unfolding traceHeaderCauses
 returns-4 c =
     let b = c .before in
     c .check-scalar2 .ensures ∙ then-next _ _ (fine69 b) ∙ then-next _ _ (fine8 (b .before .before .before)) ∙ then-next _ _ (fine7 (b .before .before .before .before .before .before))

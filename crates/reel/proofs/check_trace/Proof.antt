@@ -2,7 +2,7 @@
 use Rattle.reel.proofs.CheckLaws.{trace-parts, no-gain}
 use Rattle.reel.specs.Causes.{wordCause}
 use Rattle.reel.specs.Layout.{traceHeader, sampleBytes}
-use Rattle.reel.specs.Parts.{headCauses}
+use Rattle.reel.specs.Parts.{traceHeaderCauses}
 use Rattle.numbers.proofs.CauseLaws.{then-stop, then-next}
 use Rattle.numbers.specs.declared.Check.the-variants.{Fine}
 use Rattle.numbers.specs.Cause.{firstOf}
@@ -14,7 +14,7 @@ use borrow.Author.Needs.{needs}
 use Rattle.reel.proofs.check_trace.Statement.{statement}
 use Rattle.reel.proofs.check_trace.Tie as tie
 
-fine : (c : tie.After-enum-told) → let a = c .before .before .before .before .args in headCauses (a .reel .now) (a .n) (a .i) (a .at) ≡ Fine
+fine : (c : tie.After-enum-told) → let a = c .before .before .before .before .args in traceHeaderCauses (a .reel .now) (a .n) (a .i) (a .at) ≡ Fine
 fine c = sym (c .before .before .check-head .ensures) ∙ c .enum-told .given .1
 
 returns : tie.Need-returns

@@ -1,4 +1,4 @@
--- `scalars::is_scalar` meets its contract. Assumes nothing.
+-- `scalars::is_allowed` meets its contract. Assumes nothing.
 use mathlib.Core.Path.{_≡_, refl}
 use mathlib.Core.Logic.{inl, inr}
 use mathlib.Core.Bool.{true, false}
@@ -12,8 +12,8 @@ use borrow.Author.Tests.{ne-eqb}
 use lib.IntN.{natAbs}
 use mir.Facts.{toZ-ofZ}
 use Rattle.scalars.proofs.Fit32.{wide}
-use Rattle.scalars.proofs.is_scalar.Statement.{statement}
-use Rattle.scalars.proofs.is_scalar.Tie as tie
+use Rattle.scalars.proofs.is_allowed.Statement.{statement}
+use Rattle.scalars.proofs.is_allowed.Tie as tie
 
 magnitude-is : (c : tie.After-magnitude) → c .magnitude .result ≡ natAbs (c .before .args .scalar)
 magnitude-is c = rw (toZ-ofZ (c .before .fits .scalar), toZ-ofZ (wide _ (c .before .fits .scalar))) at (c .magnitude .ensures .0)
@@ -46,5 +46,5 @@ returns-2 c = rw (← (magnitude-is (c .before))) (one-of _ (c .match .keys1))
 returns-3 : tie.Need-returns-3
 returns-3 c = rw (← (magnitude-is (c .before .before))) (below-two _ (c .if1 .taken))
 
-pub is-scalar-spec : {M : Type 1} → statement M
-is-scalar-spec = tie.close (tie.spec cast-magnitude (λ c κs. search needs) returns returns-2 returns-3)
+pub is-allowed-spec : {M : Type 1} → statement M
+is-allowed-spec = tie.close (tie.spec cast-magnitude (λ c κs. search needs) returns returns-2 returns-3)
