@@ -12,11 +12,12 @@ use Rattle.scalars.specs.declared.Scale.{Scale}
 
 -- ## Scalars and powers
 
--- "Allowed are 0, 1, -1, and plus or minus 10, 100, 1,000 and 10,000."
+-- n is one of these numbers.
 abbrev pub isAmong : ℕ → List ℕ → Bool
 isAmong n [] = false
 isAmong n (m ∷ ms) = eqb n m || isAmong n ms
 
+-- "Allowed are 0, 1, -1, and plus or minus 10, 100, 1,000 and 10,000."
 abbrev pub isAllowed : ℤ → Bool
 isAllowed z = isAmong (natAbs z) (0 ∷ 1 ∷ 10 ∷ 100 ∷ 1000 ∷ 10000 ∷ [])
 
@@ -92,7 +93,7 @@ sameNumber (negsuc m) (negsuc n) = eqb m n
 sameNumber (pos m) (negsuc n) = false
 sameNumber (negsuc m) (pos n) = false
 
--- A record's scalar is that of the smallest power of the group that stands under it. In the two bytes of a field, 0,
--- -1 and a scalar that isn't allowed never are.
+-- A record's scalar is that of the smallest power of the group that stands under it. In the two bytes of a field, 0, -1 and a scalar that
+-- isn't allowed never are.
 unfoldable pub isSmallest : List ℤ → ℤ → Bool
 isSmallest ns scalar = sameNumber scalar (groupScalar (scaledValues scalar ns))

@@ -1,5 +1,5 @@
-// Elevations and coordinates with their scalars: the power of a scalar, and a group at the smallest
-// power at which all its numbers are whole and fit 32 signed bits.
+// Elevations and coordinates with their scalars: the power of a scalar, and what takes a group to the smallest power at which all its
+// numbers are whole and fit 32 signed bits.
 ghost use mathlib.Core.Path.{_≡_};
 ghost use Prim.Native.Nat.{_+_, _*_, _^_, _<_, _≤_, max};
 ghost use lib.IntN.{pos, natAbs};
@@ -12,12 +12,14 @@ pub struct Scale {
     pub scalar: i16,
 }
 
+// The magnitude of a number.
 fn magnitude(z: i32) -> u32
     ensures { λ r. ⌜ (r ≡ natAbs z) × (r ≤ 2 ^ 31) ⌝ }
 {
     value::magnitude32(numbers::bits32(z))
 }
 
+// The greater of two.
 fn greater(a: u32, b: u32) -> u32
     ensures { λ r. ⌜ r ≡ max a b ⌝ }
 {
