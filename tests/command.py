@@ -48,7 +48,8 @@ GROUPS = {69: (41, 45, 49, 53, 57, 61, 65), 71: (73, 77, 81, 85)}
 ALLOWED = (0, 1, -1, 10, 100, 1000, 10_000, -10, -100, -1000, -10_000)
 
 # Where a user with an earlier record reads on.
-EARLIER = "records made before the rule of the smallest power are refused so: see EARLIER RECORDS in aukpocket(1), or README.md"
+EARLIER = ("a damaged record is refused so, and one made before the rule of the smallest power: compare its SHA-256 with the one that was "
+           "kept, then see EARLIER RECORDS in aukpocket(1), or README.md")
 
 
 def with_bytes(data, place, other):
@@ -419,7 +420,7 @@ class Refusals(Case):
             (good + b"xyz", end + 7, "3 bytes follow the record's end", f"place {end + 7}"),
         ):
             self.record_refused(record, 1, 12, place, f"place {place}", *parts)
-        smallest = "and that of the smallest power for their numbers is -10000"
+        smallest = "where a record has these values under -10000"
         for place, other, *parts in (
             (place_of_card(0), b"\0", "a card byte is 00", "card 1, column 1"),
             (place_of_card(3199), b"\0", "a card byte is 00", "card 40, column 80"),
@@ -430,7 +431,7 @@ class Refusals(Case):
              "trace 3, field 69, elevation-scalar", EARLIER),
             (place_of_field(1, 2, 71), b"\0\0", f"the scalar of coordinates is 0, {smallest}",
              "trace 1, field 71, coordinate-scalar", EARLIER),
-            (place_of_field(2, 2, 71), b"\x80\0", "the scalar of coordinates is -32768, which no record has",
+            (place_of_field(2, 2, 71), b"\x80\0", "the scalar of coordinates is -32768, which isn't allowed",
              "trace 2, field 71, coordinate-scalar", EARLIER),
             (place_of_field(3, 2, 115), b"\0\x03", "is 3, not the reel's 2", "trace 3, field 115, samples"),
             (place_of_field(3, 2, 117), b"\0\x03", "is 3, not the reel's 2000", "trace 3, field 117, interval"),
@@ -618,7 +619,7 @@ class Scalars(Case):
             record = self.record_of(reel)
             earlier = self.file("earlier.record", earlier_record(reel, record))
             place = place_of_field(1, 2, byte_number)
-            said = (f"refused by 13: the scalar of {what} is {scalar}, and that of the smallest power for their numbers is {right} "
+            said = (f"refused by 13: the scalar of {what} is {scalar}, where a record has these values under {right} "
                     f"(place {place}: trace 1, field {byte_number}, {field}); {EARLIER}")
             for words in (("write", earlier, 1, new), ("cards", earlier), ("cards", earlier, listing, new, "--utf8")):
                 self.assertEqual(self.trouble(2, *words), f"{earlier}: {said}")
@@ -634,11 +635,17 @@ class Scalars(Case):
         said = self.trouble(3, "verify", SAMPLE, earlier, stdout=None)
         self.assertTrue(said.startswith(
             f"{earlier}: isn't the record of {SAMPLE}: trace 1, field 41, group-elevation is 1246000 under scalar -10000 by the reel's "
-            "record and 1246 under scalar -10 in the file (place 3310; "), said)
+            "record and 1246 under scalar -10 in the file, the same value (place 3310; "), said)
+        # The value that differs is named, not the first byte: 41 is 100 in both, and 45 isn't.
+        path = self.file("b.record", self.record_of(one_trace({41: 10_000, 45: 1, 69: -100})))
+        reel_path = self.file("b.sgy", one_trace({41: 1000, 45: 214_748_365, 69: -10}))
+        self.assertIn(
+            "trace 1, field 45, source-elevation is 214748365 under scalar -10 by the reel's record and 100 under scalar -10000 in the file (place "
+            f"{place_of_field(1, 2, 45)}; ", self.trouble(3, "verify", reel_path, path, stdout=None))
         # A scalar that is allowed on no reel, which an earlier version took; and a record without traces, which stays valid.
         odd = self.file("odd.record", with_bytes(earlier.read_bytes(), place_of_field(1, 240, 69), b"\0\x07"))
         self.assertEqual(self.trouble(2, "cards", odd), (
-            f"{odd}: refused by 13: the scalar of elevations and depths is 7, which no record has (place 3337: trace 1, field 69, "
+            f"{odd}: refused by 13: the scalar of elevations and depths is 7, which isn't allowed (place 3337: trace 1, field 69, "
             f"elevation-scalar); {EARLIER}"))
         self.fine("write", self.file("empty.record", make_record(2000, 2)), 1, self.folder / "empty.sgy")
 
@@ -648,7 +655,8 @@ class Scalars(Case):
         self.assertIn("\n.SH EARLIER RECORDS\n", page)
         self.assertIn("\n## Earlier records\n", readme)
         for text in (page.replace("\\-", "-"), readme):
-            self.assertIn("the version before CR 2 (docs/landings/CR-02.md says which commit)", text)
+            self.assertIn("the version before CR 2", text)
+            self.assertIn("commit fd3b38c", text)
 
 
 class Codes(Case):
@@ -760,7 +768,8 @@ class Verify(Case):
         self.different(cut, "trace 2, sample 5 is 0 * 2^0 by the reel's record and cut short in the file")
         cut = with_bytes(self.record, place_of_field(2, n, 41), b"\x01")[: place_of_field(2, n, 69) + 1]
         self.different(cut, (
-            "trace 2, field 41, group-elevation is 1242000 under scalar -10000 by the reel's record and cut short in the file"))
+            "trace 2, field 41, group-elevation is 1242000 under scalar -10000 by the reel's record and 18019216, its scalar cut short, in "
+            "the file (place "), f"the file has {len(cut)} bytes)")
         other = reels.record_of(make_reel(2000, 240, 1, [make_trace([bytes(4)] * 240)]))
         self.different(other, "card 1, column 1 is C3, `C`, by the reel's record and 40 in the file")
         # The reel is judged first, and a record in its stead is told.

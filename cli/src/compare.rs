@@ -13,9 +13,9 @@ use std::ops::Range;
 /// What is read at a time.
 const PIECE: usize = 1 << 20;
 
-/// What is kept of a file from its first difference on: as many bytes as a trace header has from field 41 to the end of its scalars. No
-/// other part of a record is as long.
-const KEPT: usize = 32;
+/// What is kept of a file from its first difference on: as many bytes as the groups of a trace header have, with their scalars. No other
+/// part of a record is as long.
+const KEPT: usize = scalars::GROUPS.end - scalars::GROUPS.start;
 
 /// The bytes of a sample.
 const PAIR: usize = 6;
@@ -97,21 +97,67 @@ pub fn difference(record: &[u8], compared: &Compared) -> Option<String> {
             part.name
         ));
     }
-    let in_record = part.shown(|at| record.get(at).copied());
+    let record_byte = |at: usize| record.get(at).copied();
     // What stands before the first difference is as in the record.
-    let in_file = part.shown(|at| match at.checked_sub(place) {
-        None => record.get(at).copied(),
+    let file_byte = |at: usize| match at.checked_sub(place) {
+        None => record_byte(at),
         Some(behind) => found.get(behind).copied(),
-    });
+    };
+    let unlike = unlike_value(record, place, file_byte);
+    let (part, remark) = match unlike {
+        Some(Some(other)) => (other, ""),
+        Some(None) => (part, ", the same value"),
+        None => (part, ""),
+    };
+    let place = part
+        .places()
+        .find(|&at| record_byte(at) != file_byte(at))
+        .unwrap_or(place);
     let shown = |text: Option<String>| text.unwrap_or_else(|| "cut short".to_string());
+    let short = if compared.length < record.len() as u64 {
+        format!("; the file has {} bytes", compared.length)
+    } else {
+        String::new()
+    };
     Some(format!(
-        "{} is {} by the reel's record and {} in the file (place {place}; {} of {} bytes differ)",
+        "{} is {} by the reel's record and {} in the file{remark} (place {place}; {} of {} bytes differ{short})",
         part.name,
-        shown(in_record),
-        shown(in_file),
+        shown(part.shown(record_byte)),
+        shown(part.shown(file_byte)),
         compared.differing,
         record.len()
     ))
+}
+
+/// Where a place falls in the groups of a trace header: the first elevation or coordinate of that trace whose value differs, or none where
+/// all have the same values. None at all elsewhere, where the file ends before, and where a scalar isn't allowed.
+fn unlike_value(
+    record: &[u8],
+    place: usize,
+    file_byte: impl Fn(usize) -> Option<u8>,
+) -> Option<Option<Part>> {
+    let length = Shape::of_record(record).trace_length;
+    let behind = place.checked_sub(FIRST_TRACE)?;
+    let header = FIRST_TRACE + behind / length * length + TAG;
+    let groups = header + scalars::GROUPS.start..header + scalars::GROUPS.end;
+    if !groups.contains(&place) {
+        return None;
+    }
+    let file = |range: Range<usize>| range.map(&file_byte).collect::<Option<Vec<u8>>>();
+    for number in (groups.start..groups.end).step_by(4) {
+        let part = part_at(record, number);
+        let Some(scalar) = part.scalar.clone() else {
+            continue;
+        };
+        let alike = scalars::same_value(
+            (record.get(part.bytes.clone())?, record.get(scalar.clone())?),
+            (&file(part.bytes.clone())?, &file(scalar)?),
+        )?;
+        if !alike {
+            return Some(Some(part));
+        }
+    }
+    Some(None)
 }
 
 /// A part of a record that has one meaning: its name, its bytes, how these are shown, and the bytes of the scalar that acts on it.
@@ -128,9 +174,18 @@ impl Part {
         let bytes = |range: &Range<usize>| range.clone().map(&byte_at).collect::<Option<Vec<u8>>>();
         let text = (self.in_words)(&bytes(&self.bytes)?);
         Some(match &self.scalar {
-            Some(scalar) => format!("{text} under scalar {}", whole(&bytes(scalar)?)),
+            Some(scalar) => match bytes(scalar) {
+                Some(scalar) => format!("{text} under scalar {}", whole(&scalar)),
+                None => format!("{text}, its scalar cut short,"),
+            },
             None => text,
         })
+    }
+
+    /// The places of its bytes, and of its scalar's.
+    fn places(&self) -> impl Iterator<Item = usize> + '_ {
+        let scalar = self.scalar.clone().unwrap_or(0..0);
+        self.bytes.clone().chain(scalar)
     }
 }
 

@@ -51,8 +51,8 @@ the exit status stays as it is.
 const SCALARS: &str = "
 Elevations and depths (trace fields 41 to 65, by the scalar in field 69) and coordinates (73 to 85, by
 field 71) count by their scaled values: the record has for each trace the smallest power of ten from -4 to
-4 at which all of a group's numbers are whole and fit 32 bits. Scalars other than 0, 1, -1, and plus or
-minus 10, 100, 1000 and 10000 are refused by 18.
+4 at which all of a group's numbers are whole and fit 32 signed bits. Scalars other than 0, 1, -1, and plus
+or minus 10, 100, 1000 and 10000 are refused by 18.
 ";
 
 const STATUS: &str = "
@@ -84,8 +84,8 @@ Writes the record as a reel in a format code:
 
 A code that can't hold some sample exactly is refused by 14. Reading the written reel gives the record
 again, byte for byte. Elevations and coordinates, and their scalars, are written as they stand in the
-record: the same values as on the reel that it was made of, perhaps by other numbers. A record made before
-scalars counted is refused by 13; see EARLIER RECORDS in aukpocket(1), or README.md.
+record: the same values as on the reel that it was made of, perhaps by other numbers. Nearly every record
+made before scalars counted is refused by 13; see EARLIER RECORDS in aukpocket(1), or README.md.
 {OUTPUT}{STATUS}"
     )
 }

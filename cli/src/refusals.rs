@@ -17,8 +17,8 @@ const MOST_TRACES: usize = 100_000;
 const ALLOWED: &str = "0, 1, -1, or plus or minus 10, 100, 1000 or 10000";
 
 /// Where a user with an earlier record reads on.
-const EARLIER: &str = "records made before the rule of the smallest power are refused so: see EARLIER RECORDS in aukpocket(1), \
-                       or README.md";
+const EARLIER: &str = "a damaged record is refused so, and one made before the rule of the smallest power: compare its SHA-256 with the \
+                       one that was kept, then see EARLIER RECORDS in aukpocket(1), or README.md";
 
 /// A reel's refusal, by 1 to 10 or by 18. That it is a record is said first.
 pub fn of_reel(reel: &[u8], refusal: Refusal) -> String {
@@ -294,9 +294,9 @@ fn wrong_number(record: &[u8], place: usize) -> String {
         let header = record.get(place + 1 - scalar..).unwrap_or(&[]);
         let what = match scalars::of_record(header, scalar) {
             Some(smallest) => {
-                format!("and that of the smallest power for their numbers is {smallest}")
+                format!("where a record has these values under {smallest}")
             }
-            None => "which no record has".to_string(),
+            None => "which isn't allowed".to_string(),
         };
         return format!(
             "the {} is {signed}, {what} ({at}); {EARLIER}",

@@ -16,20 +16,41 @@ pub fn acting_on(byte_number: usize) -> Option<usize> {
     }
 }
 
-/// The scalar that a record has for a group with these header bytes, or none where no reel may have theirs. The library is lent a reel of
-/// one trace that has both groups, and for the other scalar a 0, which is allowed.
-pub fn of_record(header: &[u8], scalar: usize) -> Option<i16> {
+/// The bytes of both groups and their scalars in a trace header, from field 41 to field 85.
+pub const GROUPS: std::ops::Range<usize> = 40..88;
+
+/// Both groups as a record has them, or none where no reel may have these scalars. The library is lent a reel of one trace that has them.
+fn held(groups: &[u8]) -> Option<Vec<u8>> {
     let mut reel = [0; HEADERS + 240 + 4];
     for place in [INTERVAL_PLACE, COUNT_PLACE, CODE_PLACE] {
         reel[place + 1] = 1;
     }
-    let other = ELEVATIONS + COORDINATES - scalar;
-    let trace = &mut reel[HEADERS..];
-    trace[40..88].copy_from_slice(header.get(40..88)?);
-    trace[other - 1..=other].fill(0);
+    reel[HEADERS..][GROUPS].copy_from_slice(groups);
     let mut record = [0; FIRST_TRACE + TAG + 180 + TAG + 6 + TAG + 4];
     read_reel(&reel, &mut record).ok()?;
-    Some(number(&record, FIRST_TRACE + TAG + scalar - 1) as i16)
+    Some(record[FIRST_TRACE + TAG..][GROUPS].to_vec())
+}
+
+/// The scalar that a record has for a group with these header bytes, or none where no reel may have theirs. The other scalar counts as 0,
+/// which is allowed.
+pub fn of_record(header: &[u8], scalar: usize) -> Option<i16> {
+    let place = |scalar: usize| scalar - 1 - GROUPS.start;
+    let mut groups = header.get(GROUPS)?.to_vec();
+    let other = place(ELEVATIONS + COORDINATES - scalar);
+    groups[other..other + 2].fill(0);
+    Some(number(&held(&groups)?, place(scalar)) as i16)
+}
+
+/// Whether two numbers of four bytes, each under the two bytes of its scalar, have one value: whether a record has them alike, each alone in
+/// its group. None where a scalar isn't allowed.
+pub fn same_value(one: (&[u8], &[u8]), other: (&[u8], &[u8])) -> Option<bool> {
+    let alone = |(number, scalar): (&[u8], &[u8])| {
+        let mut groups = vec![0; GROUPS.len()];
+        groups[..4].copy_from_slice(number);
+        groups[28..30].copy_from_slice(scalar);
+        held(&groups)
+    };
+    Some(alone(one)? == alone(other)?)
 }
 
 #[cfg(test)]
@@ -66,6 +87,22 @@ mod tests {
             [Some(-10000), None]
         );
         assert_eq!(of_record(&[0; 87], 69), None);
+    }
+
+    #[test]
+    fn values() {
+        let same = |a: i32, s: i16, b: i32, t: i16| {
+            same_value(
+                (&a.to_be_bytes(), &s.to_be_bytes()),
+                (&b.to_be_bytes(), &t.to_be_bytes()),
+            )
+        };
+        assert_eq!(same(1000, -10, 10_000, -100), Some(true));
+        assert_eq!(same(1000, -10, 10_000, -10), Some(false));
+        assert_eq!(same(5, 0, 5, -1), Some(true));
+        assert_eq!(same(0, 10_000, 0, -10_000), Some(true));
+        assert_eq!(same(i32::MIN, 1, i32::MIN, 10), Some(false));
+        assert_eq!(same(1, 7, 1, 7), None);
     }
 
     #[test]
