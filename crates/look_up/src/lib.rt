@@ -2,10 +2,6 @@
 ghost use mathlib.Core.Path.{_≡_};
 ghost use Prim.Native.Nat.{_+_, _^_, _<_, _≤_};
 ghost use lib.Dec.{eqb};
-ghost use lib.ListN.{length};
-ghost use Rattle.numbers.specs.Walk.{bytesAt};
-ghost use Rattle.numbers.specs.BigEndian.{number};
-ghost use Rattle.numbers.specs.TwosComplement.{signedOf};
 ghost use Rattle.numbers.specs.Places.{placeNo, byteNo};
 ghost use Rattle.reel.specs.Layout.{binaryFields, traceFields, fieldNumber, tracesOf};
 ghost use Rattle.reel.specs.Meaning.{filled, traceNumber};
@@ -94,22 +90,6 @@ fn width_at(trace: usize, b: ByteNo) -> u32
 
 // ## Its number
 
-// The signed number in two bytes.
-fn signed_two(reel: &[u8], at: usize) -> i32
-    requires { ⌜ at + 2 ≤ length (now reel) ⌝ }
-    ensures { λ r. ⌜ r ≡ signedOf 16 (number (bytesAt (now (reel .entry)) at 2)) ⌝ }
-{
-    numbers::signed16(numbers::be16(reel[at], reel[at + 1])) as i32
-}
-
-// The signed number in four bytes.
-fn signed_four(reel: &[u8], at: usize) -> i32
-    requires { ⌜ at + 4 ≤ length (now reel) ⌝ }
-    ensures { λ r. ⌜ r ≡ signedOf 32 (number (bytesAt (now (reel .entry)) at 4)) ⌝ }
-{
-    numbers::signed32(numbers::be32(reel[at], reel[at + 1], reel[at + 2], reel[at + 3]))
-}
-
 // The signed number in a field, where byte number 1 stands at the place start.
 fn field_number(reel: &[u8], start: Place, b: ByteNo, width: u32) -> i32
     requires { ⌜ OnReel (now reel) (placeNo start) (byteNo b) width ⌝ }
@@ -119,11 +99,10 @@ fn field_number(reel: &[u8], start: Place, b: ByteNo, width: u32) -> i32
     let Located::At(p) = place else {
         return 0;
     };
-    let at = p.0;
     if width == 2 {
-        return signed_two(reel, at);
+        return numbers::signed16(slices::number16_at(reel, p)) as i32;
     }
-    signed_four(reel, at)
+    numbers::signed32(slices::number32_at(reel, p))
 }
 
 // A trace's number, with the reel's own in place of 0.

@@ -117,17 +117,10 @@ fn scalar_of(q: u32) -> i16
     requires { ⌜ q < powers ⌝ }
     ensures { λ r. ⌜ r ≡ scalarOf q ⌝ }
 {
-    match q {
-        0 => -10000,
-        1 => -1000,
-        2 => -100,
-        3 => -10,
-        4 => 1,
-        5 => 10,
-        6 => 100,
-        7 => 1000,
-        _ => 10000,
+    if q < 4 {
+        return -(ten_to(4 - q) as i16);
     }
+    ten_to(q - 4) as i16
 }
 
 // What takes a group under a scalar to the smallest power that serves it. A group of fewer than seven numbers is filled up with zeros,

@@ -2,12 +2,14 @@
 use Prim.Native.Nat.{ℕ, _+_, _-_}
 use mathlib.Core.Path.{_≡_, sym, ap, _∙_}
 use mir.Facts.{toZ-ofZ}
-use mir.Syntax.{w32}
+use mir.Syntax.{w16, w32}
+use mir.Val.{SFits}
 use borrow.Author.Needs.{sfits-of, needs}
 use Rattle.numbers.specs.Places.{placeNo, byteNo}
 use Rattle.numbers.specs.declared.Located.the-variants.{At}
 use Rattle.numbers.proofs.PlaceLaws.{located-at}
 use native.Mathlib.Omega.{arith}
+use Rattle.look_up.proofs.CallLaws.{wider}
 use Rattle.look_up.proofs.field_number.Statement.{statement}
 use Rattle.look_up.proofs.field_number.Tie as tie
 
@@ -30,20 +32,21 @@ returns c =
     let z : _≡_ {A = ℕ} 0 1 = cc (sym (is-at (c .before .before)) ∙ c .enum-told .given .1) in
     absurd (omega arith)
 
-signed-two-requires : tie.Need-signed-two-requires
-signed-two-requires c κs = omega (arith, at-is (c .before .before), c .before .before .before .before .before .before .pre)
+cast-result : tie.Need-cast-result
+cast-result c =
+    let f : SFits w16 (c .signed16 .result) = sfits-of (c .signed16 .ok) in
+    rw (toZ-ofZ f) (wider f)
 
 returns-2 : tie.Need-returns-2
-returns-2 c = rw (toZ-ofZ {w = w32} (sfits-of (c .signed-two .ok)), c .signed-two .ensures, at-is (c .before .before .before), c .before .if1 .taken)
-
-signed-four-requires : tie.Need-signed-four-requires
-signed-four-requires c κs = omega (arith, at-is (c .before .before), c .before .before .before .before .before .before .pre)
+returns-2 c =
+    let f : SFits w16 (c .signed16 .result) = sfits-of (c .signed16 .ok) in
+    rw (toZ-ofZ f, toZ-ofZ (wider f), c .signed16 .ensures, c .before .number16-at .ensures, at-is (c .before .before .before .before), c .before .before .if1 .taken)
 
 returns-3 : tie.Need-returns-3
 returns-3 c =
-    let s = c .before .before .before .before .before .before .before in
-    let w : s .args .width ≡ 4 = omega (arith, s .pre, c .before .if1 .left) in
-    rw (toZ-ofZ {w = w32} (sfits-of (c .signed-four .ok)), c .signed-four .ensures, at-is (c .before .before .before), w)
+    let s = c .before .before .before .before .before .before .before .before in
+    let w : s .args .width ≡ 4 = omega (arith, s .pre, c .before .before .if1 .left) in
+    rw (toZ-ofZ {w = w32} (sfits-of (c .signed32 .ok)), c .signed32 .ensures, c .before .number32-at .ensures, at-is (c .before .before .before .before), w)
 
 pub field-number-spec : {M : Type 1} → statement M
 field-number-spec =
@@ -53,7 +56,10 @@ field-number-spec =
     (λ c. search needs)
     (λ c. search needs)
     returns
-    signed-two-requires
+    (λ c κs. search needs)
+    (λ c κs. search needs)
+    cast-result
     returns-2
-    signed-four-requires
+    (λ c κs. search needs)
+    (λ c κs. search needs)
     returns-3)

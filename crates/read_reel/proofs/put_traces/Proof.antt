@@ -84,17 +84,6 @@ put-trace-requires-2 c κs =
       omega (arith, s .pre .3),
     )
 
-same-length : tie.Need-same-length Inv-loop μ-loop
-same-length c =
-    let t = c .before .before .before .before in
-    let h = t .before .before in
-    let s = h .before .before .before in
-    let a = s .args in
-    let r = a .reel .now in
-    let l = h .loop in
-    let f = part-put (recordTraceCopied r (a .code) (a .n) (a .i)) (λ p. p) (a .w) (a .m) (λ p. size-trace r (a .code) (a .n) (a .i) p ∙ sym (s .pre .3)) (l .left) (l .at) (l .o) (l .o + a .m) (t .if1 .taken) refl (l .inv .3) (c .before .before .put-trace2 .ensures) in
-    f .size ∙ sym (l .inv .3 .size) ∙ l .inv .1 ∙ sym (s .pre .5)
-
 returns : tie.Need-returns Inv-loop μ-loop
 returns c =
     let t = c .before .before .before .before in
@@ -105,6 +94,11 @@ returns c =
     let l = h .loop in
     let f = part-put (recordTraceCopied r (a .code) (a .n) (a .i)) (λ p. p) (a .w) (a .m) (λ p. size-trace r (a .code) (a .n) (a .i) p ∙ sym (s .pre .3)) (l .left) (l .at) (l .o) (l .o + a .m) (t .if1 .taken) refl (l .inv .3) (c .before .before .put-trace2 .ensures) in
     finish f (flat-none (recordTraceCopied r (a .code) (a .n) (a .i)) (λ p. p) (a .w) (l .left - 1) (l .at + a .w) (omega (arith, t .before .loop-test .left)))
+
+same-length : tie.Need-same-length Inv-loop μ-loop
+same-length c =
+    let h = c .before .before .before .before .before .before in
+    ap length (returns c) ∙ sym (h .loop .inv .3 .size) ∙ h .loop .inv .1 ∙ sym (h .before .before .before .pre .5)
 
 same-length-2 : tie.Need-same-length-2 Inv-loop μ-loop
 same-length-2 c = c .before .before .loop .inv .1 ∙ sym (c .before .before .before .before .before .pre .5)
