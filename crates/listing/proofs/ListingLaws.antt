@@ -130,7 +130,7 @@ entry-is : (t : List ℕ) (c : ℕ) → c < 256 → entryOf (cardBytesOf t) c �
 unfolding inverse cardBytesOf
 entry-is t c h =
     let z : 0 + c * 1 ≡ c = omega arith in
-    ap (λ (l : List ℕ). getD l c 0) (map-walk blank (codeIn t) 1 256 0) ∙ walk-at (cardByte t) 1 256 0 c h ∙ ap (cardByte t) z
+    ap (λ (l : List ℕ). getD l c 0) (map-walk blank (codeIn t) 1 256 0) ∙ walk-at 0 (cardByte t) 1 256 0 c h ∙ ap (cardByte t) z
 
 -- The text of a listing by that table is its text by the table t.
 pub text-by : (t listing : List ℕ) → Bytes listing → textBy (cardBytesOf t) listing ≡ textOf t listing

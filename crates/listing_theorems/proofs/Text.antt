@@ -50,13 +50,13 @@ pub byte-of : (s : List ℕ) (p k i : ℕ) → i < k → getD (bytesAt s p k) i 
 unfolding bytesAt
 byte-of s p k i l =
     let e : p + i * 1 ≡ p + i = omega arith in
-    walk-at (λ a. getD s a 0) 1 k p i l ∙ ap (λ (x : ℕ). getD s x 0) e
+    walk-at 0 (λ a. getD s a 0) 1 k p i l ∙ ap (λ (x : ℕ). getD s x 0) e
 
 mapped-of : (f : ℕ → ℕ) (s : List ℕ) (p k i : ℕ) → i < k → getD (map f (bytesAt s p k)) i 0 ≡ f (getD s (p + i) 0)
 unfolding bytesAt
 mapped-of f s p k i l =
     let e : p + i * 1 ≡ p + i = omega arith in
-    ap (λ (x : List ℕ). getD x i 0) (map-walk f (λ a. getD s a 0) 1 k p) ∙ walk-at (λ a. f (getD s a 0)) 1 k p i l ∙ ap (λ (x : ℕ). f (getD s x 0)) e
+    ap (λ (x : List ℕ). getD x i 0) (map-walk f (λ a. getD s a 0) 1 k p) ∙ walk-at 0 (λ a. f (getD s a 0)) 1 k p i l ∙ ap (λ (x : ℕ). f (getD s x 0)) e
 
 -- ## A listing, line by line
 

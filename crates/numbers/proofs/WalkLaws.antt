@@ -61,11 +61,11 @@ walk-same f g w v (suc k) a b h =
     cons-eq (ap f (sym (at-zero a w)) ∙ h 0 (omega arith) ∙ ap g (at-zero b v))
     (walk-same f g w v k (a + w) (b + v) (λ j l. ap f (sym (at-suc a w j)) ∙ h (suc j) (omega arith) ∙ ap g (at-suc b v j)))
 
--- Element j of a walk of numbers is what step j gives.
-pub walk-at : (f : ℕ → ℕ) (w k a j : ℕ) → j < k → getD (walk f w k a) j 0 ≡ f (a + j * w)
-walk-at f w zero a j l = absurd (not-suc-le-zero l)
-walk-at f w (suc k) a zero l = ap f (sym (at-zero a w))
-walk-at f w (suc k) a (suc j) l = walk-at f w k (a + w) j (omega arith) ∙ ap f (sym (at-suc a w j))
+-- Element j of a walk is what step j gives, whatever stands for an element that it doesn't have.
+pub walk-at : {A : Type 0} (z : A) (f : ℕ → A) (w k a j : ℕ) → j < k → getD (walk f w k a) j z ≡ f (a + j * w)
+walk-at z f w zero a j l = absurd (not-suc-le-zero l)
+walk-at z f w (suc k) a zero l = ap f (sym (at-zero a w))
+walk-at z f w (suc k) a (suc j) l = walk-at z f w k (a + w) j (omega arith) ∙ ap f (sym (at-suc a w j))
 
 -- A function of each thing that a walk gives is a walk.
 pub map-walk : {A B : Type 0} (h : A → B) (f : ℕ → A) (w k a : ℕ) → map h (walk f w k a) ≡ walk (λ x. h (f x)) w k a

@@ -1,23 +1,26 @@
--- An array of seven numbers of 32 signed bits, as a function is handed it. Assumes nothing.
+-- An array of seven numbers of 32 signed bits, as a function is handed it; a table of a number for each power. Assumes nothing.
 use mathlib.Core.Path.{_≡_, refl, sym, ap, _∙_}
-use mathlib.Core.Logic.{⊎-elim}
+use mathlib.Core.Bool.{Bool, true, _&&_}
 use mathlib.Core.List.{List, [], _∷_}
-use Prim.Native.Nat.{ℕ, zero, suc, _-_, _≤_, _<_, _^_, max, zero-le}
-use native.Mathlib.Nat.{max-zero, max-le, eq-or-lt-of-le, le-antisymm, le-of-suc-le-suc}
+use Prim.Native.Nat.{ℕ, zero, suc, _+_, _-_, _*_, _≤_, _<_, _^_, max}
+use native.Mathlib.Nat.{max-zero, max-le, not-suc-le-zero}
 use native.Mathlib.Omega.{arith}
 use lib.ListN.{length, getD}
 use lib.IntN.{ℤ, pos, negsuc, natAbs}
-use lib.Dec.{eqb}
+use lib.Dec.{ltb, eqb}
 use lib.Signed.{mag}
 use native.Mathlib.Decide.{ℕ-discrete}
-use borrow.Author.Tests.{eq-eqb, ne-eqb}
-use mir.Syntax.{w16, w32}
-use mir.Val.{Val, SFits, toZ, ofZ}
+use borrow.Author.Tests.{ltb-true, eq-eqb, ne-eqb}
+use mir.Syntax.{Width, w16, w32}
+use mir.Val.{Val, SFits, hbits, toZ, ofZ}
 use mir.Facts.{toZ-ofZ, sfits-widen}
 use denote.Shadow.{shadow}
 use denote.Laws.{Is}
 use denote.Array.{Array, each}
 use denote.Signed.{SInt}
+use Rattle.numbers.specs.Walk.{walk}
+use Rattle.numbers.proofs.BoolLaws.{and-true}
+use Rattle.numbers.proofs.WalkLaws.{walk-at}
 use Rattle.scalars.specs.Parts.{largest, Fit32}
 use Rattle.scalars.specs.Scalar.{sameNumber}
 
@@ -69,13 +72,21 @@ largest-seven ns e = ap largest (seven ns e) ∙ rw (max-zero (natAbs (getD ns 6
 pub wide : (z : ℤ) → SFits w16 z → SFits w32 z
 wide z f = sfits-widen {w = w16} {w′ = w32} tt f
 
--- a power that is none from 0 to 7 is 8
-past : (q k : ℕ) → k ≤ q → (q ≡ k → ⊥) → suc k ≤ q
-past q k h f = ⊎-elim (λ (e : k ≡ q). absurd (f (sym e))) (λ (l : k < q). l) (eq-or-lt-of-le h)
+-- each number of a table fits w signed bits
+abbrev fitting : Width → List ℤ → Bool
+fitting w [] = true
+fitting w (z ∷ zs) = ltb (mag z) (2 ^ hbits w) && fitting w zs
 
-pub eight : (q : ℕ) → q < 9 → (q ≡ 0 → ⊥) → (q ≡ 1 → ⊥) → (q ≡ 2 → ⊥) → (q ≡ 3 → ⊥) → (q ≡ 4 → ⊥) → (q ≡ 5 → ⊥) → (q ≡ 6 → ⊥) → (q ≡ 7 → ⊥) → q ≡ 8
-eight q h a b c d e f g i =
-    le-antisymm (le-of-suc-le-suc h) (past q 7 (past q 6 (past q 5 (past q 4 (past q 3 (past q 2 (past q 1 (past q 0 (zero-le) a) b) c) d) e) f) g) i)
+entry-fits : (w : Width) (zs : List ℤ) → fitting w zs ≡ true → (j : ℕ) → j < length zs → SFits w (getD zs j (pos 0))
+entry-fits w [] t j h = absurd (not-suc-le-zero h)
+entry-fits w (z ∷ zs) t zero h = record { sfits = ltb-true (mag z) (2 ^ hbits w) (and-true (ltb (mag z) (2 ^ hbits w)) (fitting w zs) t .0) }
+entry-fits w (z ∷ zs) t (suc j) h = entry-fits w zs (and-true (ltb (mag z) (2 ^ hbits w)) (fitting w zs) t .1) j (omega arith)
+
+-- a table of a number of w signed bits for each of the nine powers, as an entry of it is read
+pub at-power : (w : Width) (f : ℕ → ℤ) → fitting w (walk f 1 9 0) ≡ true → (q : ℕ) → q < 9 → toZ w (ofZ w (getD (walk f 1 9 0) q (pos 0))) ≡ f q
+at-power w f t q h =
+    let e : 0 + q * 1 ≡ q = omega arith in
+    toZ-ofZ (entry-fits w (walk f 1 9 0) t q h) ∙ walk-at (pos 0) f 1 9 0 q h ∙ ap f e
 
 -- two numbers of 16 signed bits are the same where their bits are
 pub same-bits : (x y : ℤ) → SFits w16 x → SFits w16 y → eqb (ofZ w16 x) (ofZ w16 y) ≡ sameNumber x y

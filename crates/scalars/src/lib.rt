@@ -12,6 +12,21 @@ pub struct Scale {
     pub scalar: i16,
 }
 
+// Ten to each power from 0 to 8, and the scalar of each power from 10^-4 to 10^4.
+const TENS: [i32; 9] = [
+    1,
+    10,
+    100,
+    1000,
+    10000,
+    100000,
+    1000000,
+    10000000,
+    100000000,
+];
+
+const SCALARS: [i16; 9] = [-10000, -1000, -100, -10, 1, 10, 100, 1000, 10000];
+
 // The magnitude of a number.
 fn magnitude(z: i32) -> u32
     ensures { λ r. ⌜ (r ≡ natAbs z) × (r ≤ 2 ^ 31) ⌝ }
@@ -99,17 +114,7 @@ fn ten_to(d: u32) -> i32
     requires { ⌜ d < powers ⌝ }
     ensures { λ r. ⌜ r ≡ pos (10 ^ d) ⌝ }
 {
-    match d {
-        0 => 1,
-        1 => 10,
-        2 => 100,
-        3 => 1000,
-        4 => 10000,
-        5 => 100000,
-        6 => 1000000,
-        7 => 10000000,
-        _ => 100000000,
-    }
+    TENS[d as usize]
 }
 
 // The scalar of a power.
@@ -117,10 +122,7 @@ fn scalar_of(q: u32) -> i16
     requires { ⌜ q < powers ⌝ }
     ensures { λ r. ⌜ r ≡ scalarOf q ⌝ }
 {
-    if q < 4 {
-        return -(ten_to(4 - q) as i16);
-    }
-    ten_to(q - 4) as i16
+    SCALARS[q as usize]
 }
 
 // What takes a group under a scalar to the smallest power that serves it. A group of fewer than seven numbers is filled up with zeros,

@@ -1,41 +1,15 @@
 -- `scalars::ten_to` meets its contract. Assumes nothing.
-use mathlib.Core.Path.{_≡_}
-use Rattle.scalars.proofs.Fit32.{eight}
+use mathlib.Core.Path.{refl}
+use Prim.Native.Nat.{_^_}
+use lib.IntN.{pos}
+use mir.Syntax.{w32}
+use borrow.Author.Needs.{needs}
+use Rattle.scalars.proofs.Fit32.{at-power}
 use Rattle.scalars.proofs.ten_to.Statement.{statement}
 use Rattle.scalars.proofs.ten_to.Tie as tie
 
 returns : tie.Need-returns
-returns c = rw (c .match .keys1)
-
-returns-2 : tie.Need-returns-2
-returns-2 c = rw (c .match .keys2)
-
-returns-3 : tie.Need-returns-3
-returns-3 c = rw (c .match .keys3)
-
-returns-4 : tie.Need-returns-4
-returns-4 c = rw (c .match .keys4)
-
-returns-5 : tie.Need-returns-5
-returns-5 c = rw (c .match .keys5)
-
-returns-6 : tie.Need-returns-6
-returns-6 c = rw (c .match .keys6)
-
-returns-7 : tie.Need-returns-7
-returns-7 c = rw (c .match .keys7)
-
-returns-8 : tie.Need-returns-8
-returns-8 c = rw (c .match .keys8)
-
-returns-9 : tie.Need-returns-9
-returns-9 c =
-    let q = c .before .args .d in
-    let r = c .match .rest in
-    let last : q ≡ 8 = eight q (c .before .pre) (r .0 .0 .0 .0 .0 .0 .0 .1) (r .0 .0 .0 .0 .0 .0 .1) (r .0 .0 .0 .0 .0 .1) (r .0 .0 .0 .0 .1) (r .0 .0 .0 .1) (r .0 .0 .1) (r .0 .1) (r .1) in
-    rw last
+returns c = at-power w32 (λ k. pos (10 ^ k)) refl (c .before .args .d) (c .before .pre)
 
 pub ten-to-spec : {M : Type 1} → statement M
-ten-to-spec =
-    tie.close
-    (tie.spec returns returns-2 returns-3 returns-4 returns-5 returns-6 returns-7 returns-8 returns-9)
+ten-to-spec = tie.close (tie.spec (λ c. search needs) (λ c. search needs) returns)
