@@ -9,7 +9,7 @@ use native.Mathlib.Omega.{arith}
 use lib.ListN.{length, getD, take, drop, length-append, drop-of-length-le}
 use lib.Seq.{sets, sets-eq, take-at, drop-at, drop-cons}
 use borrow.Author.Tests.{eq-eqb}
-use Rattle.numbers.specs.Walk.{walk, flat, bytesAt, copyOf}
+use Rattle.numbers.specs.Walk.{walk, flat, sum, bytesAt, copyOf}
 use Rattle.numbers.specs.Terms.{All}
 
 less-one : (k : ℕ) → suc k - 1 ≡ k
@@ -71,6 +71,39 @@ walk-at z f w (suc k) a (suc j) l = walk-at z f w k (a + w) j (omega arith) ∙ 
 pub map-walk : {A B : Type 0} (h : A → B) (f : ℕ → A) (w k a : ℕ) → map h (walk f w k a) ≡ walk (λ x. h (f x)) w k a
 map-walk h f w zero a = refl
 map-walk h f w (suc k) a = ap (λ l. h (f a) ∷ l) (map-walk h f w k (a + w))
+
+-- ## Sums along a walk
+
+-- The sum over no step is 0, and that over at least one is the first number and the sum over the rest.
+pub sum-none : (f : ℕ → ℕ) (w k at : ℕ) → k ≤ 0 → sum (walk f w k at) ≡ 0
+sum-none f w zero at h = refl
+sum-none f w (suc k) at h = absurd (not-suc-le-zero h)
+
+pub sum-more : (f : ℕ → ℕ) (w k at : ℕ) → 0 < k → sum (walk f w k at) ≡ f at + sum (walk f w (k - 1) (at + w))
+sum-more f w k at h = ap sum (walk-more f w k at h)
+
+-- Where no number is above m, the sum over k steps isn't above k × m.
+pub sum-most : (f : ℕ → ℕ) (w m : ℕ) → ((p : ℕ) → f p ≤ m) → (k at : ℕ) → sum (walk f w k at) ≤ k * m
+sum-most f w m h zero at = omega arith
+sum-most f w m h (suc k) at = rw (suc-mul k m) (omega (arith, h at, sum-most f w m h k (at + w)))
+
+-- Where no step gives more than that of another walk, the sum isn't above that walk's.
+pub sum-under : (f g : ℕ → ℕ) (w : ℕ) → ((p : ℕ) → f p ≤ g p) → (k at : ℕ) → sum (walk f w k at) ≤ sum (walk g w k at)
+sum-under f g w h zero at = omega arith
+sum-under f g w h (suc k) at = omega (arith, h at, sum-under f g w h k (at + w))
+
+-- A sum is 0 where each of its numbers is, and only there.
+pub sum-zero : (f : ℕ → ℕ) (w k a : ℕ) → ((j : ℕ) → j < k → f (a + j * w) ≡ 0) → sum (walk f w k a) ≡ 0
+sum-zero f w zero a h = refl
+sum-zero f w (suc k) a h =
+    let x : f a ≡ 0 = ap f (sym (at-zero a w)) ∙ h 0 (omega arith) in
+    let y = sum-zero f w k (a + w) (λ j l. ap f (sym (at-suc a w j)) ∙ h (suc j) (omega arith)) in
+    omega (arith, x, y)
+
+pub zero-each : (f : ℕ → ℕ) (w k a : ℕ) → sum (walk f w k a) ≡ 0 → (j : ℕ) → j < k → f (a + j * w) ≡ 0
+zero-each f w zero a e j l = absurd (not-suc-le-zero l)
+zero-each f w (suc k) a e zero l = ap f (at-zero a w) ∙ omega (arith, e)
+zero-each f w (suc k) a e (suc j) l = ap f (at-suc a w j) ∙ zero-each f w k (a + w) (omega (arith, e)) j (omega arith)
 
 -- ## Every element
 

@@ -15,6 +15,11 @@ abbrev pub flat : {A : Type 0} → List (List A) → List A
 flat [] = []
 flat (l ∷ ls) = l ++ flat ls
 
+-- the sum of the numbers of a list
+abbrev pub sum : List ℕ → ℕ
+sum [] = 0
+sum (n ∷ l) = n + sum l
+
 -- the first of two where the test is true, the second where it is false
 abbrev pub pick : {A : Type 0} → Bool → A → A → A
 pick true a b = a

@@ -3,3 +3,4 @@ pub mod Layout
 pub mod Causes
 pub mod Meaning
 pub mod Parts
+pub mod NotNormal

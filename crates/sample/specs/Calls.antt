@@ -1,6 +1,6 @@
 -- The single-sample calls: the complete outcome of each.
 use Prim.Native.Nat.{ℕ}
-use mathlib.Core.List.{List, []}
+use mathlib.Core.List.{List, [], _∷_}
 use lib.ListN.{replicate}
 use Rattle.numbers.specs.BigEndian.{bytesOf}
 use Rattle.numbers.specs.Places.{placeNo}
@@ -9,34 +9,42 @@ use Rattle.value.specs.Pair.{pairLength, pairBytes, pairIn}
 use Rattle.value.specs.Writing.{writePair}
 use Rattle.value.specs.declared.Written.{Written}
 use Rattle.value.specs.declared.Written.the-variants as written
-use Rattle.sample.specs.Reading.{readWord}
+use Rattle.sample.specs.Reading.{notNormal, readWord}
 use Rattle.sample.specs.declared.Sample.{Sample}
 use Rattle.sample.specs.declared.Sample.the-variants as sample
 use Rattle.sample.specs.declared.Answer.{Answer}
 use Rattle.sample.specs.declared.Answer.the-variants as answer
+use Rattle.sample.specs.declared.WordAnswer.{WordAnswer}
+use Rattle.sample.specs.declared.WordAnswer.the-variants as word
 use Rattle.sample.specs.declared.WordRead.{WordRead}
 use Rattle.sample.specs.declared.PairWritten.{PairWritten}
 
--- Document 01's number and place for each case of the answer.
+-- Document 01's number and place for each case of an answer; what reading a word says has one value, which is 1 for an IBM word that isn't
+-- normal, else 0.
 abbrev pub saidBy : Answer → Said
 saidBy answer.Taken = taken []
 saidBy (answer.Refused number place) = refused number (placeNo place)
 
+abbrev pub wordSaid : WordAnswer → Said
+wordSaid (word.Taken c) = taken (c ∷ [])
+wordSaid (word.Refused number place) = refused number (placeNo place)
+
 -- What reading a word hands out, in document 01's terms; and what writing a pair does.
 abbrev pub wordRead : WordRead → Outcome
-wordRead r = record { said = saidBy (r .answer); bytes = r .pair }
+wordRead r = record { said = wordSaid (r .answer); bytes = r .pair }
 
 abbrev pub pairWritten : PairWritten → Outcome
 pairWritten r = record { said = saidBy (r .answer); bytes = r .word }
 
--- The outcome of reading a word, by what was found: beside a refusal the place is 0 and the bytes handed out are all 00.
-abbrev pub readSaid : Sample → Outcome
-readSaid (sample.Taken e m) = record { said = taken []; bytes = pairBytes e m }
-readSaid (sample.Refused number) = record { said = refused number 0; bytes = replicate pairLength 0 }
+-- The outcome of reading a word, by what was found, and by its count where it is taken: beside a refusal the place is 0 and the bytes handed
+-- out are all 00.
+abbrev pub readSaid : ℕ → Sample → Outcome
+readSaid count (sample.Taken e m) = record { said = taken (count ∷ []); bytes = pairBytes e m }
+readSaid count (sample.Refused number) = record { said = refused number 0; bytes = replicate pairLength 0 }
 
 -- The outcome of reading a single word under a code.
 abbrev pub wordOutcome : ℕ → List ℕ → Outcome
-wordOutcome code w = readSaid (readWord code w)
+wordOutcome code w = readSaid (notNormal code w) (readWord code w)
 
 -- The outcome of writing a pair, by what was found.
 abbrev pub writeSaid : Written → Outcome

@@ -5,9 +5,11 @@ use mathlib.Core.List.{List}
 use lib.ListN.{getD}
 use lib.Dec.{eqb}
 use lib.IntN.{ℤ}
-use Rattle.numbers.specs.Walk.{pick}
+use Rattle.numbers.specs.Walk.{pick, bytesAt}
+use Rattle.numbers.specs.BigEndian.{number}
 use Rattle.value.specs.Value.{isCode, exactValue}
 use Rattle.value.specs.Pair.{pairOf}
+use Rattle.value.specs.Writing.{isNormal}
 use Rattle.sample.specs.declared.Sample.{Sample}
 use Rattle.sample.specs.declared.Sample.the-variants.{Taken, Refused}
 
@@ -18,6 +20,10 @@ pairTaken v = Taken (pairOf v .e) (pairOf v .m)
 -- The first byte of a gain word must be 00.
 abbrev pub badGain : ℕ → List ℕ → Bool
 badGain code w = eqb code 4 && not (eqb (getD w 0 0) 0)
+
+-- "Reading one word also gives 1 for an IBM word other than the normal word of its value, else 0" (document 02, CR 3).
+abbrev pub notNormal : ℕ → List ℕ → ℕ
+notNormal code w = pick (eqb code 1 && not (isNormal (number (bytesAt w 0 4)))) 1 0
 
 -- A single word is refused by 2, then 9; otherwise it gives the canonical pair of its exact value.
 abbrev pub readWord : ℕ → List ℕ → Sample

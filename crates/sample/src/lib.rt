@@ -5,12 +5,12 @@ ghost use Prim.Native.Nat.{_*_, _/_, _^_, _<_, _≤_};
 ghost use lib.Dec.{eqb};
 ghost use lib.IntN.{pos, natAbs, subℕ};
 ghost use Rattle.numbers.specs.Walk.{pick};
-ghost use Rattle.numbers.specs.Outcome.{refused};
 ghost use Rattle.numbers.specs.TwosComplement.{signedOf};
 ghost use Rattle.value.specs.Value.{denominatorPower, signMagnitude, fraction, ibmValue, wholeValue, gainValue};
 ghost use Rattle.value.specs.Pair.{pairBytes};
-ghost use Rattle.sample.specs.Reading.{pairTaken, readWord};
-ghost use Rattle.sample.specs.Calls.{saidBy, wordRead, pairWritten, wordOutcome, pairOutcome};
+ghost use Rattle.value.specs.Writing.{isNormal};
+ghost use Rattle.sample.specs.Reading.{pairTaken, notNormal, readWord};
+ghost use Rattle.sample.specs.Calls.{wordRead, pairWritten, wordOutcome, pairOutcome};
 use numbers::Place;
 use value::DENOMINATOR_POWER;
 use value::Written;
@@ -21,15 +21,21 @@ pub enum Sample {
     Refused { number: u8 },
 }
 
-// The answer of a single-sample call.
+// The answer of writing a single pair.
 pub enum Answer {
     Taken,
     Refused { number: u8, place: Place },
 }
 
+// The answer of reading a single word: taken, with 1 for an IBM word other than the normal word of its value, else 0; or refused.
+pub enum WordAnswer {
+    Taken { not_normal: u8 },
+    Refused { number: u8, place: Place },
+}
+
 // What reading a single word hands out: beside a refusal the bytes are all 00.
 pub struct WordRead {
-    pub answer: Answer,
+    pub answer: WordAnswer,
     pub pair: [u8; 6],
 }
 
@@ -172,13 +178,31 @@ fn pair_bytes(e: i16, m: i32) -> [u8; 6]
     [a[0], a[1], b[0], b[1], b[2], b[3]]
 }
 
-// The answer of a single-sample call that is refused: the place is 0.
-fn refusal(number: u8) -> Answer
-    ensures { λ r. ⌜ saidBy r ≡ refused number 0 ⌝ }
+// Whether an IBM word is normal: for zero it is 00000000; otherwise the first hexadecimal digit of F isn't 0, unless C is 0.
+fn is_normal(n: u32) -> bool
+    ensures { λ r. ⌜ r ≡ isNormal n ⌝ }
 {
-    Answer::Refused {
-        number,
-        place: Place(0),
+    let f = fraction_of(n);
+    if f == 0 {
+        return n == 0;
+    }
+    if 0x10_0000 <= f {
+        return true;
+    }
+    n / 0x100_0000 % 128 == 0
+}
+
+// 1 for an IBM word other than the normal word of its value, else 0.
+fn not_normal(code: u32, word: [u8; 4]) -> u8
+    ensures { λ r. ⌜ r ≡ notNormal code word ⌝ }
+{
+    if code != 1 {
+        return 0;
+    }
+    if is_normal(numbers::be32(word[0], word[1], word[2], word[3])) {
+        0
+    } else {
+        1
     }
 }
 
@@ -188,11 +212,16 @@ pub fn read_word(code: u32, word: [u8; 4]) -> WordRead
 {
     match read(code, word) {
         Sample::Taken { e, m } => WordRead {
-            answer: Answer::Taken,
+            answer: WordAnswer::Taken {
+                not_normal: not_normal(code, word),
+            },
             pair: pair_bytes(e, m),
         },
         Sample::Refused { number } => WordRead {
-            answer: refusal(number),
+            answer: WordAnswer::Refused {
+                number,
+                place: Place(0),
+            },
             pair: [0; 6],
         },
     }
@@ -210,7 +239,10 @@ pub fn write_pair(code: u32, pair: [u8; 6]) -> PairWritten
             word: numbers::bytes32(bits),
         },
         Written::Refused { number } => PairWritten {
-            answer: refusal(number),
+            answer: Answer::Refused {
+                number,
+                place: Place(0),
+            },
             word: [0; 4],
         },
     }

@@ -51,12 +51,29 @@ value-parts s c f h l = let p = parts s c f h l in rw (p .sign, p .middle, p .lo
 abs-value : (n : ℕ) → natAbs (ibmValue n) ≡ fraction n * 16 ^ characteristic n
 abs-value n = abs-signed (signBit n) (fraction n * 16 ^ characteristic n)
 
--- the first hexadecimal digit of F isn't 0
+-- the first hexadecimal digit of F isn't 0 where F is 2 ^ 20 or more, and only there
 digit : (n : ℕ) → (firstDigit n ≡ 0 → ⊥) → 2 ^ 20 ≤ fraction n
 digit n d = ⊎-elim (λ (l : fraction n < 2 ^ 20). absurd (d (omega arith))) (λ (l : 2 ^ 20 ≤ fraction n). l) (below-or (fraction n) (2 ^ 20))
 
-large : (n : ℕ) → 2 ^ 20 ≤ fraction n → firstDigit n ≡ 0 → ⊥
+pub large : (n : ℕ) → 2 ^ 20 ≤ fraction n → firstDigit n ≡ 0 → ⊥
 large n l d = omega arith
+
+-- a word's value is zero where its fraction is, and only there
+pub zero-fraction : (n : ℕ) → eqb (natAbs (ibmValue n)) 0 ≡ eqb (fraction n) 0
+zero-fraction n =
+    ap (λ (x : ℕ). eqb x 0) (abs-value n)
+    ∙ ⊎-elim (λ (l : fraction n < 1). none (omega (arith, l))) (λ (l : 1 ≤ fraction n). some-fraction (λ e. omega (arith, l, e))) (below-or (fraction n) 1)
+  where
+    none : fraction n ≡ 0 → eqb (fraction n * 16 ^ characteristic n) 0 ≡ eqb (fraction n) 0
+    none e = eq-eqb (fraction n * 16 ^ characteristic n) 0 (ap (λ (x : ℕ). x * 16 ^ characteristic n) e ∙ zero-mul (16 ^ characteristic n)) ∙ sym (eq-eqb (fraction n) 0 e)
+
+    some-fraction : (fraction n ≡ 0 → ⊥) → eqb (fraction n * 16 ^ characteristic n) 0 ≡ eqb (fraction n) 0
+    some-fraction h = ne-eqb (fraction n * 16 ^ characteristic n) 0 (λ e. h (no-fraction (characteristic n) (fraction n) e)) ∙ sym (ne-eqb (fraction n) 0 h)
+
+-- so to be normal is a matter of the fraction and the characteristic
+pub normal-tests : (n : ℕ) → isNormal n ≡ pick (eqb (fraction n) 0) (eqb n 0) (not (eqb (firstDigit n) 0) || eqb (characteristic n) 0)
+unfolding isNormal
+normal-tests n = ap (λ (b : Bool). pick b (eqb n 0) (not (eqb (firstDigit n) 0) || eqb (characteristic n) 0)) (zero-fraction n)
 
 -- of the words of zero only 00000000 is normal
 pub normal-zero : (n : ℕ) → isNormal n ≡ true → ibmValue n ≡ pos 0 → n ≡ 0

@@ -1,4 +1,5 @@
 -- `sample::read_word` meets its contract. Assumes nothing.
+use Rattle.sample.specs.Reading.{notNormal}
 use Rattle.sample.specs.Calls.{readSaid}
 use mathlib.Core.Path.{sym, ap, _∙_}
 use mir.Facts.{toZ-ofZ}
@@ -10,15 +11,20 @@ use Rattle.sample.proofs.read_word.Tie as tie
 
 returns : tie.Need-returns
 returns c =
-    let x : SFits w16 (c .before .before .e .given .0 .0) = search needs in
-    let y : SFits w32 (c .before .before .e .given .0 .1 .0) = search needs in
-    rw (c .pair-bytes .ensures, toZ-ofZ x, toZ-ofZ y) (ap readSaid (sym (c .before .before .e .given .1) ∙ c .before .before .before .before .read .ensures))
+    let k = c .before .before .before in
+    let r = k .before .before in
+    let a = r .before .args in
+    let x : SFits w16 (k .e .given .0 .0) = search needs in
+    let y : SFits w32 (k .e .given .0 .1 .0) = search needs in
+    rw (c .pair-bytes .ensures, c .before .not-normal .ensures, toZ-ofZ x, toZ-ofZ y) (ap (readSaid (notNormal (a .code) (a .word))) (sym (k .e .given .1) ∙ r .read .ensures))
 
 returns-2 : tie.Need-returns-2
 returns-2 c =
-    rw (c .refusal .ensures) (ap readSaid (sym (c .before .before .number .given .1) ∙ c .before .before .before .before .read .ensures))
+    let r = c .before .before .before in
+    let a = r .before .args in
+    ap (readSaid (notNormal (a .code) (a .word))) (sym (c .before .number .given .1) ∙ r .read .ensures)
 
 pub read-word-spec : {M : Type 1} → statement M
 read-word-spec =
     tie.close
-    (tie.spec (λ c κs. search needs) (λ c. search needs) (λ c κs. search needs) (λ c. search needs) (λ c κs. search needs) returns returns-2)
+    (tie.spec (λ c κs. search needs) (λ c. search needs) (λ c κs. search needs) (λ c κs. search needs) (λ c. search needs) returns returns-2)

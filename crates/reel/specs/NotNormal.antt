@@ -1,0 +1,18 @@
+-- How many words of a reel are not normal (document 02, CR 3), over the reel's own bytes.
+use Prim.Native.Nat.{ℕ, _+_}
+use mathlib.Core.List.{List}
+use Rattle.numbers.specs.Walk.{walk, sum, bytesAt}
+use Rattle.sample.specs.Reading.{notNormal}
+use Rattle.reel.specs.Layout.{firstTrace, traceHeader, samplesOf, codeOf, sampleBytes, strideOf, tracesOf}
+
+-- Of n words from a place on.
+unfoldable pub notNormalIn : List ℕ → ℕ → ℕ → ℕ → ℕ
+notNormalIn s code n at = sum (walk (λ p. notNormal code (bytesAt s p 4)) (sampleBytes code) n at)
+
+-- Of t traces of w bytes, n words each, from a place on.
+unfoldable pub notNormalAmong : List ℕ → ℕ → ℕ → ℕ → ℕ → ℕ → ℕ
+notNormalAmong s code n w t at = sum (walk (λ p. notNormalIn s code n (p + traceHeader)) w t at)
+
+-- Of the reel, by its own numbers.
+abbrev pub notNormalOf : List ℕ → ℕ
+notNormalOf s = notNormalAmong s (codeOf s) (samplesOf s) (strideOf s) (tracesOf s) firstTrace
