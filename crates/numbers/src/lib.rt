@@ -38,6 +38,13 @@ pub fn be32(a: u8, b: u8, c: u8, d: u8) -> u32
     be16(a, b) as u32 * 65536 + be16(c, d) as u32
 }
 
+// The number of four bytes, the first lowest. As one sum the compiler makes one fetch of it, of bytes that stand together.
+pub fn le32(a: u8, b: u8, c: u8, d: u8) -> u32
+    ensures { λ r. ⌜ r ≡ number (d ∷ c ∷ b ∷ a ∷ []) ⌝ }
+{
+    a as u32 + b as u32 * 0x100 + c as u32 * 0x1_0000 + d as u32 * 0x100_0000
+}
+
 // The two bytes of a number.
 pub fn bytes16(n: u16) -> [u8; 2]
     ensures { λ r. ⌜ r ≡ bytesOf 2 n ⌝ }

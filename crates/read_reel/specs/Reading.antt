@@ -10,15 +10,16 @@ use Rattle.numbers.specs.declared.Check.{Check}
 use Rattle.numbers.specs.declared.Check.the-variants as check
 use Rattle.reel.specs.Layout.{samplesOf, tracesOf}
 use Rattle.reel.specs.Causes.{causesOf}
+use Rattle.reel.specs.NotNormal.{notNormalOf}
 use Rattle.record.specs.Record.{reelRecord, recordLength}
 
 -- The length of a reel's record.
 abbrev pub recordLengthOf : List ℕ → ℕ
 recordLengthOf s = recordLength (tracesOf s) (samplesOf s)
 
--- The numbers that reading returns: T, N and the record's length.
+-- The numbers that reading returns: T, N, the record's length, and how many words of the reel are not normal.
 abbrev pub readNumbers : List ℕ → List ℕ
-readNumbers s = tracesOf s ∷ samplesOf s ∷ recordLengthOf s ∷ []
+readNumbers s = tracesOf s ∷ samplesOf s ∷ recordLengthOf s ∷ notNormalOf s ∷ []
 
 -- 1 to 9 and 18, then 10: the output is too short.
 abbrev pub readCauses : List ℕ → ℕ → Check

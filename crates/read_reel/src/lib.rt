@@ -9,18 +9,19 @@ ghost use Rattle.numbers.specs.Walk.{flat, overwritten};
 ghost use Rattle.numbers.specs.Places.{placeNo};
 ghost use Rattle.numbers.specs.BigEndian.{bytesOf};
 ghost use Rattle.value.specs.Value.{isCode};
-ghost use Rattle.reel.specs.Layout.{firstTrace, sampleBytes, stride};
+ghost use Rattle.reel.specs.Layout.{firstTrace, traceHeader, sampleBytes, stride};
 ghost use Rattle.reel.specs.Causes.{mostSamples, mostTraces, reelJudged};
 ghost use Rattle.reel.specs.Meaning.{blank};
+ghost use Rattle.reel.specs.NotNormal.{notNormalIn, notNormalAmong};
 ghost use Rattle.read_samples.specs.Samples.{places};
 ghost use Rattle.record.specs.Form.{tracesPlace, heldStride};
 ghost use Rattle.record.specs.Record.{recordLength};
-ghost use Rattle.record.specs.Answer.{outcome};
+ghost use Rattle.record.specs.Answer.{countedOutcome};
 ghost use Rattle.read_reel.specs.Reading.{readOutcome};
 ghost use Rattle.read_reel.specs.Copied.{tagBytes, fieldsCopied, headCopied, recordTraceCopied, recordCopied};
 use numbers::ByteNo;
 use numbers::Place;
-use record::Answer;
+use record::Counted;
 use reel::Judged;
 
 // A field's tag, and the length of its content.
@@ -62,20 +63,22 @@ fn put_over(n: u16, at: Place, out: &mut [u8])
     slices::put16(n, &mut out[p..p + 2]);
 }
 
-// A trace: its header and its samples, each behind its tag.
-fn put_trace(reel: &[u8], code: usize, n: u16, i: u16, at: usize, out: &mut [u8])
+// A trace: its header and its samples, each behind its tag. Says how many of its words are not normal.
+fn put_trace(reel: &[u8], code: usize, n: u16, i: u16, at: usize, out: &mut [u8]) -> usize
     requires { ⌜ (isCode code ≡ true) × (n ≤ mostSamples) × (at + stride n (sampleBytes code) ≤ length (now reel)) × (length (now out) ≡ heldStride n) ⌝ }
-    ensures { λ _. ⌜ now (out .exit) ≡ recordTraceCopied (now (reel .entry)) code n i at ⌝ }
+    ensures { λ r. ⌜ (r ≡ notNormalIn (now (reel .entry)) code n (at + traceHeader)) × (now (out .exit) ≡ recordTraceCopied (now (reel .entry)) code n i at) ⌝ }
 {
     let size = 6 * n;
     let e = 186 + size as usize;
     put_tag(3, 180, &mut out[0..3]);
     headers::read_header(reel, n, i, Place(at), &mut out[3..183]);
     put_tag(4, size, &mut out[183..186]);
+    let count = count_words::count_words(reel, code, n as usize, Place(at + 240));
     read_samples::read_samples(reel, code, n as usize, Place(at + 240), &mut out[186..e]);
+    count
 }
 
-// The traces, one behind the other. The last has a call of its own: with one call in all, the compiler makes one function of this loop and
+// The traces, one behind the other, and how many of their words are not normal. The last has a call of its own: with one call in all, the compiler makes one function of this loop and
 // of what it does with a trace, and reads code 3 by a tenth slower.
 fn put_traces(
     reel: &[u8],
@@ -86,24 +89,26 @@ fn put_traces(
     m: usize,
     t: usize,
     out: &mut [u8],
-)
+) -> usize
     requires { ⌜ (isCode code ≡ true) × (n ≤ mostSamples) × (w ≡ stride n (sampleBytes code)) × (m ≡ heldStride n) × (firstTrace + t * w ≤ length (now reel)) × (length (now out) ≡ t * m) ⌝ }
-    ensures { λ _. ⌜ now (out .exit) ≡ flat (map (recordTraceCopied (now (reel .entry)) code n i) (places w t firstTrace)) ⌝ }
+    ensures { λ r. ⌜ (r ≡ notNormalAmong (now (reel .entry)) code n w t firstTrace) × (now (out .exit) ≡ flat (map (recordTraceCopied (now (reel .entry)) code n i) (places w t firstTrace))) ⌝ }
 {
     let mut at = 3600;
     let mut o = 0;
     let mut left = t;
+    let mut count = 0;
     while 1 < left {
         let e = o + m;
-        put_trace(reel, code, n, i, at, &mut out[o..e]);
+        count += put_trace(reel, code, n, i, at, &mut out[o..e]);
         at += w;
         o = e;
         left -= 1;
     }
     if 0 < left {
         let f = o + m;
-        put_trace(reel, code, n, i, at, &mut out[o..f]);
+        count += put_trace(reel, code, n, i, at, &mut out[o..f]);
     }
+    count
 }
 
 // The count of traces behind its tag.
@@ -135,16 +140,17 @@ fn put_head(reel: &[u8], out: &mut [u8])
     put_over(0, places::field_at(Place(6), ByteNo(3225)), out);
 }
 
-// The record of t traces of n samples, which fills out.
-fn put_record(reel: &[u8], code: usize, n: u16, i: u16, w: usize, t: usize, out: &mut [u8])
+// The record of t traces of n samples, which fills out; and how many of their words are not normal.
+fn put_record(reel: &[u8], code: usize, n: u16, i: u16, w: usize, t: usize, out: &mut [u8]) -> usize
     requires { ⌜ (isCode code ≡ true) × (n ≤ mostSamples) × (w ≡ stride n (sampleBytes code)) × (t ≤ mostTraces) × (firstTrace + t * w ≤ length (now reel)) × (length (now out) ≡ recordLength t n) ⌝ }
-    ensures { λ _. ⌜ now (out .exit) ≡ recordCopied (now (reel .entry)) code n i w t ⌝ }
+    ensures { λ r. ⌜ (r ≡ notNormalAmong (now (reel .entry)) code n w t firstTrace) × (now (out .exit) ≡ recordCopied (now (reel .entry)) code n i w t) ⌝ }
 {
     let m = 186 + 6 * n as usize;
     let e = 3266 + t * m;
     put_head(reel, &mut out[0..3266]);
-    put_traces(reel, code, n, i, w, m, t, &mut out[3266..e]);
+    let count = put_traces(reel, code, n, i, w, m, t, &mut out[3266..e]);
     put_count(t as u32, &mut out[e..e + 7]);
+    count
 }
 
 // A reel to which no cause of 1 to 9 and 18 applies, by its own numbers.
@@ -157,32 +163,33 @@ fn read_checked(
     w: usize,
     t: usize,
     out: &mut [u8],
-) -> Answer
+) -> Counted
     requires { ⌜ reelJudged (now reel) ≡ Judged.Fine code n i v w t ⌝ }
-    ensures { λ r. ⌜ outcome r (now (out .exit)) ≡ readOutcome (now (reel .entry)) (now (out .entry)) ⌝ }
+    ensures { λ r. ⌜ countedOutcome r (now (out .exit)) ≡ readOutcome (now (reel .entry)) (now (out .entry)) ⌝ }
 {
     let length = 3273 + t * (186 + 6 * n);
     if out.len() < length {
-        return Answer::Refused {
+        return Counted::Refused {
             number: 10,
             place: Place(length),
         };
     }
-    put_record(reel, code, n as u16, i as u16, w, t, &mut out[..length]);
-    Answer::Taken {
+    let count = put_record(reel, code, n as u16, i as u16, w, t, &mut out[..length]);
+    Counted::Taken {
         traces: t,
         samples: n,
         length,
+        count,
     }
 }
 
 // Reads a reel into the front of a record buffer.
-pub fn read_reel(reel: &[u8], out: &mut [u8]) -> Answer
-    ensures { λ r. ⌜ outcome r (now (out .exit)) ≡ readOutcome (now (reel .entry)) (now (out .entry)) ⌝ }
+pub fn read_reel(reel: &[u8], out: &mut [u8]) -> Counted
+    ensures { λ r. ⌜ countedOutcome r (now (out .exit)) ≡ readOutcome (now (reel .entry)) (now (out .entry)) ⌝ }
 {
     let c = reel::judge_reel(reel);
     match c {
-        Judged::Refused { number, place } => Answer::Refused { number, place },
+        Judged::Refused { number, place } => Counted::Refused { number, place },
         Judged::Fine {
             code,
             samples,

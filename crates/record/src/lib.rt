@@ -30,6 +30,20 @@ pub enum Answer {
     },
 }
 
+// The same with a count: reading a reel counts its words that are not normal.
+pub enum Counted {
+    Taken {
+        traces: usize,
+        samples: usize,
+        length: usize,
+        count: usize,
+    },
+    Refused {
+        number: u8,
+        place: Place,
+    },
+}
+
 // N, and the count of traces that a record says.
 pub struct Numbers {
     pub samples: usize,

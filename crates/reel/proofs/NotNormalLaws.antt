@@ -1,0 +1,40 @@
+-- How many words are not normal: trace by trace, and never more than there are words. Assumes nothing.
+use mathlib.Core.Path.{_≡_}
+use mathlib.Core.Bool.{Bool, true, false, not, _&&_}
+use mathlib.Core.List.{List}
+use Prim.Native.Nat.{ℕ, _+_, _-_, _*_, _≤_, _<_}
+use native.Mathlib.Nat.{mul-one}
+use native.Mathlib.Omega.{arith}
+use lib.Dec.{eqb}
+use Rattle.numbers.specs.Walk.{pick, bytesAt}
+use Rattle.numbers.specs.BigEndian.{number}
+use Rattle.numbers.proofs.WalkLaws.{sum-none, sum-more, sum-most}
+use Rattle.value.specs.Writing.{isNormal}
+use Rattle.sample.specs.Reading.{notNormal}
+use Rattle.reel.specs.Layout.{traceHeader, sampleBytes}
+use Rattle.reel.specs.NotNormal.{notNormalIn, notNormalAmong}
+
+one-most : (code : ℕ) (w : List ℕ) → notNormal code w ≤ 1
+one-most code w = go (eqb code 1 && not (isNormal (number (bytesAt w 0 4))))
+  where
+    go : (b : Bool) → pick b 1 0 ≤ 1
+    go true = omega arith
+    go false = omega arith
+
+module _ (s : List ℕ) (code n : ℕ) where
+  pub in-most : (at : ℕ) → notNormalIn s code n at ≤ n
+  unfolding notNormalIn
+  in-most at = rw (mul-one n) at (sum-most (λ p. notNormal code (bytesAt s p 4)) (sampleBytes code) 1 (λ p. one-most code (bytesAt s p 4)) n at)
+
+  module _ (w : ℕ) where
+    pub among-none : (t at : ℕ) → t ≤ 0 → notNormalAmong s code n w t at ≡ 0
+    unfolding notNormalAmong
+    among-none t at h = sum-none (λ p. notNormalIn s code n (p + traceHeader)) w t at h
+
+    pub among-more : (t at : ℕ) → 0 < t → notNormalAmong s code n w t at ≡ notNormalIn s code n (at + traceHeader) + notNormalAmong s code n w (t - 1) (at + w)
+    unfolding notNormalAmong
+    among-more t at h = sum-more (λ p. notNormalIn s code n (p + traceHeader)) w t at h
+
+    pub among-most : (t at : ℕ) → notNormalAmong s code n w t at ≤ t * n
+    unfolding notNormalAmong
+    among-most t at = sum-most (λ p. notNormalIn s code n (p + traceHeader)) w n (λ p. in-most (p + traceHeader)) t at
