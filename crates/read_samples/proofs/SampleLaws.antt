@@ -2,10 +2,10 @@
 use mathlib.Core.Path.{_≡_, refl, sym, ap, _∙_}
 use mathlib.Core.Bool.{Bool, true, false, not}
 use mathlib.Core.List.{List, [], _∷_, _++_}
-use Prim.Native.Nat.{ℕ, _+_, _-_, _*_, _^_, _≤_, _<_}
+use Prim.Native.Nat.{ℕ, _+_, _-_, _*_, _/_, _%_, _^_, _≤_, _<_}
 use native.Mathlib.Nat.{zero-mul}
 use native.Mathlib.Omega.{arith}
-use borrow.Author.Tests.{leb-true, eqb-true, le-leb, eq-eqb}
+use borrow.Author.Tests.{leb-true, eqb-true, le-leb, eq-eqb, lt-ltb, le-ltb}
 use borrow.Rule.Slice.PartMut.{putMid}
 use lib.Dec.{leb, eqb}
 use lib.IntN.{ℤ, pos}
@@ -22,7 +22,7 @@ use Rattle.sample.specs.declared.Sample.{Sample}
 use Rattle.sample.specs.declared.Sample.the-variants.{Taken, Refused}
 use Rattle.reel.specs.Layout.{sampleBytes}
 use Rattle.read_samples.specs.Samples.{sampleContent, sampleCopied, samplePairs, samplesFit, samplesRead}
-use Rattle.read_samples.specs.Parts.{exponentContent, mantissaContent, gainOrZero, WordAt}
+use Rattle.read_samples.specs.Parts.{exponentContent, mantissaContent, gainOrZero, reversed, wordHeld, WordAt}
 
 pub size-content : (q : Sample) → length (sampleContent q) ≡ 6
 size-content (Taken e m) = refl
@@ -104,6 +104,21 @@ module _ (s : List ℕ) (at w : ℕ) (h : WordAt s at w) where
 
   pub whole32-content : sampleContent (pairTaken (wholeValue (signedOf 32 w))) ≡ sampleCopied s 2 at
   whole32-content = ap (λ (w : ℕ). sampleContent (pairTaken (wholeValue (signedOf 32 w)))) (h .whole) ∙ ap sampleContent (whole32-copied s at)
+
+-- a word by its first byte and its last 24 bits, from the number with the first byte lowest
+pub reversed-parts : (w r : ℕ) → w < 2 ^ 32 → r ≡ reversed w → w % 256 * 2 ^ 24 + r % 2 ^ 24 ≡ reversed w
+reversed-parts w r h e = rw e (joined (w % 256) (w / 256 % 256) (w / 2 ^ 16 % 256) (w / 2 ^ 24) (omega arith) (omega arith) (omega arith))
+  where
+    joined : (a b c d : ℕ) → b < 256 → c < 256 → d < 256
+        → a * 2 ^ 24 + (a * 2 ^ 24 + b * 2 ^ 16 + c * 256 + d) % 2 ^ 24 ≡ a * 2 ^ 24 + b * 2 ^ 16 + c * 256 + d
+    joined a b c d hb hc hd = omega arith
+
+-- what the loop of code 1 holds of a word, and those of the other codes
+pub held-reversed : (code w : ℕ) → code < 2 → wordHeld code w ≡ reversed w
+held-reversed code w h = ap (λ (b : Bool). pick b (reversed w) w) (lt-ltb code 2 h)
+
+pub held-whole : (code w : ℕ) → 2 ≤ code → wordHeld code w ≡ w
+held-whole code w h = ap (λ (b : Bool). pick b (reversed w) w) (le-ltb code 2 h)
 
 -- no sample
 pub samples-none : (s : List ℕ) (code k at : ℕ) → k ≤ 0 → samplePairs s code k at ≡ []

@@ -1,9 +1,9 @@
--- What the functions inside this crate hand to each other: a sample in two parts, and a gain word by its parts.
-use Prim.Native.Nat.{ℕ, _+_, _/_, _%_, _^_}
+-- What the functions inside this crate hand to each other: a sample in two parts, a gain word by its parts, and the next word.
+use Prim.Native.Nat.{ℕ, _+_, _*_, _/_, _%_, _^_}
 use mathlib.Core.Path.{_≡_}
 use mathlib.Core.List.{List}
 use lib.ListN.{replicate}
-use lib.Dec.{eqb}
+use lib.Dec.{ltb, eqb}
 use lib.IntN.{pos}
 use Rattle.numbers.specs.Walk.{pick, bytesAt}
 use Rattle.numbers.specs.BigEndian.{number, bytesOf}
@@ -32,3 +32,11 @@ gainOrZero first g d = pick (eqb first 0) (pairTaken (gainValue g (signedOf 16 d
 pub record WordAt (s : List ℕ) (at w : ℕ) : Type 0 where
   pub whole : w ≡ number (bytesAt s at 4)
   pub low : w % 2 ^ 16 ≡ number (bytesAt s (at + 2) 2)
+
+-- The number of the same four bytes in reverse order.
+abbrev pub reversed : ℕ → ℕ
+reversed x = x % 256 * 2 ^ 24 + x / 256 % 256 * 2 ^ 16 + x / 2 ^ 16 % 256 * 256 + x / 2 ^ 24
+
+-- The number of a word, by what the loop of a code holds of it: under code 1 the same bytes with the first lowest.
+abbrev pub wordHeld : ℕ → ℕ → ℕ
+wordHeld code w = pick (ltb code 2) (reversed w) w

@@ -1,6 +1,7 @@
 // The samples of a trace, from words to pairs: a loop for words of four bytes and one for words of two. Each function that writes is lent exactly the bytes that it writes.
 ghost use mathlib.Core.Path.{_≡_};
 ghost use mathlib.Core.Bool.{true, _&&_};
+ghost use mathlib.Core.List.{[], _∷_};
 ghost use Prim.Native.Nat.{_+_, _*_, _%_, _^_, _≤_};
 ghost use lib.Dec.{leb, eqb};
 ghost use lib.ListN.{length};
@@ -12,7 +13,7 @@ ghost use Rattle.value.specs.Value.{ibmValue, wholeValue, isCode};
 ghost use Rattle.sample.specs.Reading.{pairTaken, readWord};
 ghost use Rattle.reel.specs.Layout.{sampleBytes};
 ghost use Rattle.read_samples.specs.Samples.{sampleContent, sampleCopied, samplePairs, samplesRead};
-ghost use Rattle.read_samples.specs.Parts.{exponentContent, mantissaContent, gainOrZero, WordAt};
+ghost use Rattle.read_samples.specs.Parts.{exponentContent, mantissaContent, gainOrZero, reversed, wordHeld, WordAt};
 use numbers::Place;
 use sample::Sample;
 
@@ -63,15 +64,49 @@ fn word16_at(reel: &[u8], at: usize) -> u16
     numbers::be16(reel[at], reel[at + 1])
 }
 
+// The number of four bytes, the first of which stands lowest.
+fn le32(a: u8, b: u8, c: u8, d: u8) -> u32
+    ensures { λ r. ⌜ reversed r ≡ number (a ∷ b ∷ c ∷ d ∷ []) ⌝ }
+{
+    a as u32 + b as u32 * 0x100 + c as u32 * 0x1_0000 + d as u32 * 0x100_0000
+}
+
+// The number in the four bytes at a place with the first lowest, as the loop of code 1 fetches them: it then takes the sign and the
+// characteristic from the lowest byte, and tells whether the fraction is 0, without waiting for the bytes to be swapped.
+fn little_at(reel: &[u8], at: usize) -> u32
+    requires { ⌜ at + 4 ≤ length (now reel) ⌝ }
+    ensures { λ r. ⌜ WordAt (now (reel .entry)) at (reversed r) ⌝ }
+{
+    le32(reel[at], reel[at + 1], reel[at + 2], reel[at + 3])
+}
+
+// The same four bytes with the first highest. The compiler makes one instruction of it.
+fn swapped(x: u32) -> u32
+    ensures { λ r. ⌜ r ≡ reversed x ⌝ }
+{
+    x % 256 * 0x100_0000 + x / 256 % 256 * 0x1_0000 + x / 0x1_0000 % 256 * 256 + x / 0x100_0000
+}
+
+// The word at a place as the loop of a code fetches it: with the first byte lowest under code 1, and highest under the others.
+fn fetched(reel: &[u8], code: u32, at: usize) -> u32
+    requires { ⌜ at + 4 ≤ length (now reel) ⌝ }
+    ensures { λ r. ⌜ WordAt (now (reel .entry)) at (wordHeld code r) ⌝ }
+{
+    if code < 2 {
+        return little_at(reel, at);
+    }
+    word32_at(reel, at)
+}
+
 // Each writes what a word gives, and fetches the next word between the two stores: the compiler then makes one store of each, and one
-// fetch of the word.
+// fetch of the word. Words of code 1 have their first byte lowest.
 fn put_ibm_word(reel: &[u8], word: u32, next: usize, out: &mut [u8]) -> u32
     requires { ⌜ (next + 4 ≤ length (now reel)) × (length (now out) ≡ 6) ⌝ }
-    ensures { λ r. ⌜ (WordAt (now (reel .entry)) next r) × (now (out .exit) ≡ sampleContent (pairTaken (ibmValue word))) ⌝ }
+    ensures { λ r. ⌜ (WordAt (now (reel .entry)) next (reversed r)) × (now (out .exit) ≡ sampleContent (pairTaken (ibmValue (reversed word)))) ⌝ }
 {
-    let pair = sample::ibm(word);
+    let pair = sample::ibm_parts((word % 256) as u8, swapped(word));
     put_exponent(pair, &mut out[0..2]);
-    let w = word32_at(reel, next);
+    let w = little_at(reel, next);
     put_mantissa(pair, &mut out[2..6]);
     w
 }
@@ -134,8 +169,8 @@ fn put_gain_word(reel: &[u8], at: usize, word: u32, out: &mut [u8]) -> u32
 // A word of four bytes under a code that has them, and the fetch of the next. The tests are not of equality, which the compiler would make
 // a switch of: so it takes each out of the loop, which becomes a loop for each code.
 fn put_word(reel: &[u8], code: u32, at: usize, word: u32, out: &mut [u8]) -> u32
-    requires { ⌜ (isCode code ≡ true) × (sampleBytes code ≡ 4) × (at + 8 ≤ length (now reel)) × (length (now out) ≡ 6) × WordAt (now reel) at word ⌝ }
-    ensures { λ r. ⌜ (WordAt (now (reel .entry)) (at + 4) r) × (now (out .exit) ≡ sampleCopied (now (reel .entry)) code at) ⌝ }
+    requires { ⌜ (isCode code ≡ true) × (sampleBytes code ≡ 4) × (at + 8 ≤ length (now reel)) × (length (now out) ≡ 6) × WordAt (now reel) at (wordHeld code word) ⌝ }
+    ensures { λ r. ⌜ (WordAt (now (reel .entry)) (at + 4) (wordHeld code r)) × (now (out .exit) ≡ sampleCopied (now (reel .entry)) code at) ⌝ }
 {
     if code < 2 {
         return put_ibm_word(reel, word, at + 4, out);
@@ -169,7 +204,7 @@ fn put_words(reel: &[u8], code: u32, n: usize, start: usize, out: &mut [u8])
     let mut left = n - 1;
     let last = left * 6;
     let end = start + left * 4;
-    let mut w = word32_at(reel, start);
+    let mut w = fetched(reel, code, start);
     while 0 < left {
         let e = o + 6;
         w = put_word(reel, code, at, w, &mut out[o..e]);

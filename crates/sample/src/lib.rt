@@ -1,7 +1,7 @@
 // Single samples: the canonical pair of a word under codes 1 to 4, and the two calls.
 ghost use mathlib.Core.Path.{_≡_};
 ghost use mathlib.Core.List.{[], _∷_};
-ghost use Prim.Native.Nat.{_*_, _/_, _^_, _<_, _≤_};
+ghost use Prim.Native.Nat.{_+_, _*_, _/_, _%_, _^_, _<_, _≤_};
 ghost use lib.Dec.{eqb};
 ghost use lib.IntN.{pos, natAbs, subℕ};
 ghost use Rattle.numbers.specs.Walk.{pick};
@@ -102,11 +102,20 @@ fn fraction_of(n: u32) -> u32
     n % 0x100_0000
 }
 
-// Code 1: the pair of an IBM word.
+// Code 1: the pair of an IBM word, by its first byte, which has the sign and the characteristic, and a number whose last 24 bits are the
+// fraction. The sign bit is taken off behind the product by 4: in the loop over a trace the compiler then adds up the exponent in one
+// instruction, and in four where the product comes last.
+pub fn ibm_parts(first: u8, rest: u32) -> Sample
+    ensures { λ r. ⌜ r ≡ pairTaken (ibmValue (first * 2 ^ 24 + rest % 2 ^ 24)) ⌝ }
+{
+    canonical(0x80 <= first, fraction_of(rest), first as u32 * 4 % 512)
+}
+
+// The same by the whole word.
 pub fn ibm(n: u32) -> Sample
     ensures { λ r. ⌜ r ≡ pairTaken (ibmValue n) ⌝ }
 {
-    canonical(0x8000_0000 <= n, fraction_of(n), n / 0x100_0000 % 128 * 4)
+    ibm_parts((n / 0x100_0000) as u8, n)
 }
 
 // The magnitude of a two's complement number of 16 bits, by subtraction from zero.

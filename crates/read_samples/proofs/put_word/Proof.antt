@@ -1,7 +1,8 @@
 -- `read_samples::put_word` meets its contract. Assumes nothing.
 use Rattle.reel.proofs.CheckLaws.{code-limits, not-three}
-use Rattle.read_samples.proofs.SampleLaws.{ibm-content, whole32-content}
+use Rattle.read_samples.proofs.SampleLaws.{ibm-content, whole32-content, held-reversed, held-whole}
 use Rattle.read_samples.specs.Samples.{sampleCopied}
+use Rattle.read_samples.specs.Parts.{reversed, wordHeld}
 use Prim.Native.Nat.{ℕ}
 use mathlib.Core.Path.{_≡_, ap, _∙_}
 use native.Mathlib.Omega.{arith}
@@ -13,28 +14,44 @@ returns : tie.Need-returns
 returns c =
     let t = c .before .before .before .before in
     let b = t .before .before .before in
-    let s = b .args .reel .now in
-    let g = c .before .before .put-ibm-word .ensures in
-    let one : 1 ≡ b .args .code = omega (arith, code-limits (b .args .code) (b .pre .0), t .if1 .taken) in
-    (g .0, g .1 ∙ ibm-content s (b .args .at) (b .args .word) (b .pre .4) ∙ ap (λ (k : ℕ). sampleCopied s k (b .args .at)) one)
+    let a = b .args in
+    let s = a .reel .now in
+    let g = c .before .before .put-ibm-word in
+    let held : (w : ℕ) → wordHeld (a .code) w ≡ reversed w = λ w. held-reversed (a .code) w (omega (arith, t .if1 .taken)) in
+    let one : 1 ≡ a .code = omega (arith, code-limits (a .code) (b .pre .0), t .if1 .taken) in (
+      rw (held (g .result)) (g .ensures .0),
+      g .ensures .1 ∙ ibm-content s (a .at) (reversed (a .word)) (rw (held (a .word)) at (b .pre .4)) ∙ ap (λ (k : ℕ). sampleCopied s k (a .at)) one,
+    )
 
 returns-2 : tie.Need-returns-2
 returns-2 c =
     let t = c .before .before .before .before in
     let b = t .before .before .before .before in
-    let s = b .args .reel .now in
-    let g = c .before .before .put-whole32-word .ensures in
-    let two : 2 ≡ b .args .code = omega (arith, t .if2 .taken, t .before .if1 .left) in
-    (g .0, g .1 ∙ whole32-content s (b .args .at) (b .args .word) (b .pre .4) ∙ ap (λ (k : ℕ). sampleCopied s k (b .args .at)) two)
+    let a = b .args in
+    let s = a .reel .now in
+    let g = c .before .before .put-whole32-word in
+    let held : (w : ℕ) → wordHeld (a .code) w ≡ w = λ w. held-whole (a .code) w (omega (arith, t .before .if1 .left)) in
+    let two : 2 ≡ a .code = omega (arith, t .if2 .taken, t .before .if1 .left) in (
+      rw (held (g .result)) (g .ensures .0),
+      g .ensures .1 ∙ whole32-content s (a .at) (a .word) (rw (held (a .word)) at (b .pre .4)) ∙ ap (λ (k : ℕ). sampleCopied s k (a .at)) two,
+    )
+
+put-gain-word-requires : tie.Need-put-gain-word-requires
+put-gain-word-requires c κs =
+    let t = c .before in
+    let b = t .before .before .before .before in
+    let a = b .args in
+    (b .pre .2, search needs, rw (held-whole (a .code) (a .word) (omega (arith, t .if2 .left))) at (b .pre .4))
 
 returns-3 : tie.Need-returns-3
 returns-3 c =
     let t = c .before .before .before .before in
     let b = t .before .before .before .before in
-    let s = b .args .reel .now in
-    let g = c .before .before .put-gain-word .ensures in
-    let four : 4 ≡ b .args .code = omega (arith, code-limits (b .args .code) (b .pre .0), t .if2 .left, not-three (b .args .code) (b .pre .1)) in
-    (g .0, g .1 ∙ ap (λ (k : ℕ). sampleCopied s k (b .args .at)) four)
+    let a = b .args in
+    let s = a .reel .now in
+    let g = c .before .before .put-gain-word in
+    let four : 4 ≡ a .code = omega (arith, code-limits (a .code) (b .pre .0), t .if2 .left, not-three (a .code) (b .pre .1)) in
+    (rw (held-whole (a .code) (g .result) (omega (arith, t .if2 .left))) (g .ensures .0), g .ensures .1 ∙ ap (λ (k : ℕ). sampleCopied s k (a .at)) four)
 
 pub put-word-spec : {M : Type 1} → statement M
 put-word-spec =
@@ -48,6 +65,6 @@ put-word-spec =
     (λ c κs. search needs)
     (λ c. search needs)
     returns-2
-    (λ c κs. search needs)
+    put-gain-word-requires
     (λ c. search needs)
     returns-3)

@@ -1,7 +1,7 @@
 -- `read_samples::put_words` meets its contract. Assumes nothing.
 use Rattle.read_samples.proofs.SampleLaws.{size-copied, size-samples, samples-none}
 use Rattle.read_samples.specs.Samples.{sampleContent, sampleCopied, samplePairs}
-use Rattle.read_samples.specs.Parts.{WordAt}
+use Rattle.read_samples.specs.Parts.{wordHeld, WordAt}
 use Rattle.numbers.proofs.Filling.{Filling, start as begin, finish, again, from, next-put, last-put}
 use Rattle.numbers.proofs.WalkLaws.{times-more}
 use Rattle.reel.specs.Layout.{sampleBytes}
@@ -14,7 +14,7 @@ use Rattle.read_samples.proofs.put_words.Tie as tie
 
 abbrev Inv-loop : tie.InvT-loop
 Inv-loop reel code n start out₀ at₀ o₀ left₀ last end w₀ out at o left w =
-    (at + left * 4 + 4 ≤ length reel) × (length out ≡ n * 6) × (o + left * 6 + 6 ≡ n * 6) × (at + left * 4 ≡ start + (n - 1) * 4) × WordAt reel at w
+    (at + left * 4 + 4 ≤ length reel) × (length out ≡ n * 6) × (o + left * 6 + 6 ≡ n * 6) × (at + left * 4 ≡ start + (n - 1) * 4) × WordAt reel at (wordHeld code w)
     × Filling (samplePairs reel code n start) out o (samplePairs reel code (left + 1) at)
 
 abbrev μ-loop : tie.MeasureT-loop
@@ -35,8 +35,8 @@ mul-end c = omega (arith, c .before .before .before .pre .2)
 add-end : tie.Need-add-end Inv-loop μ-loop
 add-end c = omega (arith, c .before .before .before .pre .2)
 
-word32-at-requires : tie.Need-word32-at-requires Inv-loop μ-loop
-word32-at-requires c κs = omega (arith, times-more (c .before .before .before .args .n) 4 (omega (arith, c .if1 .left)), c .before .before .before .pre .2)
+fetched-requires : tie.Need-fetched-requires Inv-loop μ-loop
+fetched-requires c κs = omega (arith, times-more (c .before .before .before .args .n) 4 (omega (arith, c .if1 .left)), c .before .before .before .pre .2)
 
 loop-holds : tie.Need-loop-holds Inv-loop μ-loop
 loop-holds c =
@@ -49,7 +49,7 @@ loop-holds c =
       p .3,
       omega (arith, times-more (a .n) 6 (omega (arith, some))),
       refl,
-      c .word32-at .ensures,
+      c .fetched .ensures,
       again (begin _ _ (p .3 ∙ sym (size-samples s (a .code) (a .n) (a .start)))) (ap (λ (j : ℕ). samplePairs s (a .code) j (a .start)) e),
     )
 
@@ -131,7 +131,7 @@ put-words-spec =
     mul-last
     mul-end
     add-end
-    word32-at-requires
+    fetched-requires
     loop-holds
     add-e
     (λ c. omega arith)
