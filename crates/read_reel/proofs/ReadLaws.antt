@@ -13,15 +13,16 @@ use Rattle.numbers.specs.declared.Place.{Place}
 use Rattle.numbers.specs.declared.Check.the-variants as check
 use Rattle.reel.specs.Layout.{firstTrace, samplesOf, intervalOf, codeOf, sampleBytes, stride, strideOf, tracesOf}
 use Rattle.reel.specs.Causes.{mostSamples, mostTraces, causesOf}
+use Rattle.reel.specs.NotNormal.{notNormalAmong, notNormalOf}
 use Rattle.reel.proofs.CheckLaws.{Numbers, reel-fine, inside}
 use Rattle.reel.proofs.JudgedLaws.{Own}
 use Rattle.value.specs.Value.{isCode}
 use Rattle.record.specs.Form.{heldStride}
 use Rattle.record.specs.Record.{reelRecord, recordLength}
-use Rattle.record.specs.Answer.{outcome}
+use Rattle.record.specs.Answer.{countedOutcome}
 use Rattle.read_reel.specs.Reading.{recordLengthOf, readCauses, readEnd, readOutcome}
 use Rattle.read_reel.specs.Copied.{recordCopied}
-use Rattle.record.specs.declared.Answer.the-variants.{Taken, Refused}
+use Rattle.record.specs.declared.Counted.the-variants.{Taken, Refused}
 use Rattle.read_reel.proofs.RecordLaws.{record-is, code-sound}
 
 -- what the code asks of its numbers
@@ -56,31 +57,38 @@ fit s code n i v w t o =
 -- ## The ends
 
 module _ (s out : List ℕ) where
-  pub refused-end : (number : ℕ) (place : Place) → causesOf s ≡ check.Refused number place → outcome (Refused number place) out ≡ readOutcome s out
+  pub refused-end : (number : ℕ) (place : Place) → causesOf s ≡ check.Refused number place → countedOutcome (Refused number place) out ≡ readOutcome s out
   refused-end number place e = rw e
 
   module _ (code n i v w t : ℕ) (o : Own s code n i v w t) where
     length-is : recordLengthOf s ≡ recordLength t n
     length-is = ap₂ recordLength (o .t-is) (o .n-is)
 
-    pub short-end : length out < recordLength t n → outcome (Refused 10 (record { 0 = recordLength t n })) out ≡ readOutcome s out
+    pub short-end : length out < recordLength t n → countedOutcome (Refused 10 (record { 0 = recordLength t n })) out ≡ readOutcome s out
     short-end l = rw (o .fine, length-is, lt-ltb (length out) (recordLength t n) l)
 
-    pub taken-end : Bytes s → (ys : List ℕ) → ys ≡ recordCopied s code n i w t → recordLength t n ≤ length out
-        → outcome (Taken t n (recordLength t n)) (ys ++ drop (recordLength t n) out) ≡ readOutcome s out
-    taken-end b ys e l =
-        let k = recordLength t n in
+    pub taken-end : Bytes s → (ys : List ℕ) (k : ℕ) → ys ≡ recordCopied s code n i w t → k ≡ notNormalAmong s code n w t firstTrace → recordLength t n ≤ length out
+        → countedOutcome (Taken t n (recordLength t n) k) (ys ++ drop (recordLength t n) out) ≡ readOutcome s out
+    taken-end b ys k e count l =
+        let size = recordLength t n in
         let r : reelRecord s ≡ ys = record-is s b (o .fine) ∙ copied-is ∙ sym e in
-        let fine : readCauses s (length out) ≡ check.Fine = rw (o .fine, length-is, le-ltb (length out) k l) in
-        sym (ap (readEnd s out) fine ∙ ap (λ (x : ℕ). made x (samplesOf s) (recordLengthOf s) (reelRecord s)) (o .t-is) ∙ ap (λ (x : ℕ). made t x (recordLengthOf s) (reelRecord s)) (o .n-is)
-        ∙ ap₂ (λ (x : ℕ) (y : List ℕ). made t n x y) length-is r)
+        let fine : readCauses s (length out) ≡ check.Fine = rw (o .fine, length-is, le-ltb (length out) size l) in
+        sym (ap (readEnd s out) fine ∙ ap (λ (x : ℕ). made x (samplesOf s) (recordLengthOf s) (notNormalOf s) (reelRecord s)) (o .t-is) ∙ ap (λ (x : ℕ). made t x (recordLengthOf s) (notNormalOf s) (reelRecord s)) (o .n-is)
+        ∙ ap₂ (λ (x : ℕ) (y : List ℕ). made t n x (notNormalOf s) y) length-is r ∙ ap (λ (x : ℕ). made t n size x ys) (counted-is ∙ sym count))
       where
-        made : ℕ → ℕ → ℕ → List ℕ → Outcome
-        made a b k y = record { said = taken (a ∷ b ∷ k ∷ []); bytes = y ++ drop k out }
+        made : ℕ → ℕ → ℕ → ℕ → List ℕ → Outcome
+        made a b size x y = record { said = taken (a ∷ b ∷ size ∷ x ∷ []); bytes = y ++ drop size out }
+
+        -- by the reel's own numbers, which are those of the code
+        by-numbers : {A : Type 0} (f : ℕ → ℕ → ℕ → ℕ → ℕ → A) → f (codeOf s) (samplesOf s) (intervalOf s) (strideOf s) (tracesOf s) ≡ f code n i w t
+        by-numbers f =
+            ap (λ (x : ℕ). f x (samplesOf s) (intervalOf s) (strideOf s) (tracesOf s)) (o .code-is)
+            ∙ ap (λ (x : ℕ). f code x (intervalOf s) (strideOf s) (tracesOf s)) (o .n-is)
+            ∙ ap (λ (x : ℕ). f code n x (strideOf s) (tracesOf s)) (o .i-is)
+            ∙ ap₂ (λ (x y : ℕ). f code n i x y) (o .w-is) (o .t-is)
 
         copied-is : recordCopied s (codeOf s) (samplesOf s) (intervalOf s) (strideOf s) (tracesOf s) ≡ recordCopied s code n i w t
-        copied-is =
-            ap (λ (x : ℕ). recordCopied s x (samplesOf s) (intervalOf s) (strideOf s) (tracesOf s)) (o .code-is)
-            ∙ ap (λ (x : ℕ). recordCopied s code x (intervalOf s) (strideOf s) (tracesOf s)) (o .n-is)
-            ∙ ap (λ (x : ℕ). recordCopied s code n x (strideOf s) (tracesOf s)) (o .i-is)
-            ∙ ap₂ (λ (x y : ℕ). recordCopied s code n i x y) (o .w-is) (o .t-is)
+        copied-is = by-numbers (recordCopied s)
+
+        counted-is : notNormalOf s ≡ notNormalAmong s code n w t firstTrace
+        counted-is = by-numbers (λ c n i w t. notNormalAmong s c n w t firstTrace)

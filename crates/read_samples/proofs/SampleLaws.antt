@@ -105,6 +105,16 @@ module _ (s : List ℕ) (at w : ℕ) (h : WordAt s at w) where
   pub whole32-content : sampleContent (pairTaken (wholeValue (signedOf 32 w))) ≡ sampleCopied s 2 at
   whole32-content = ap (λ (w : ℕ). sampleContent (pairTaken (wholeValue (signedOf 32 w)))) (h .whole) ∙ ap sampleContent (whole32-copied s at)
 
+-- four bytes with the first lowest, in reverse order
+pub turned : (a b c d : ℕ) → a < 256 → b < 256 → c < 256 → d < 256 → reversed (number (d ∷ c ∷ b ∷ a ∷ [])) ≡ number (a ∷ b ∷ c ∷ d ∷ [])
+turned a b c d ha hb hc hd =
+    let n = number (d ∷ c ∷ b ∷ a ∷ []) in
+    let last : n / 2 ^ 24 ≡ d = omega arith in
+    let third : n / 2 ^ 16 % 256 ≡ c = omega arith in
+    let second : n / 256 % 256 ≡ b = omega arith in
+    let first : n % 256 ≡ a = omega arith in
+    rw (first, second, third, last) (omega arith)
+
 -- a word by its first byte and its last 24 bits, from the number with the first byte lowest
 pub reversed-parts : (w r : ℕ) → w < 2 ^ 32 → r ≡ reversed w → w % 256 * 2 ^ 24 + r % 2 ^ 24 ≡ reversed w
 reversed-parts w r h e = rw e (joined (w % 256) (w / 256 % 256) (w / 2 ^ 16 % 256) (w / 2 ^ 24) (omega arith) (omega arith) (omega arith))

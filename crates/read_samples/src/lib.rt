@@ -64,20 +64,13 @@ fn word16_at(reel: &[u8], at: usize) -> u16
     numbers::be16(reel[at], reel[at + 1])
 }
 
-// The number of four bytes, the first of which stands lowest.
-fn le32(a: u8, b: u8, c: u8, d: u8) -> u32
-    ensures { λ r. ⌜ reversed r ≡ number (a ∷ b ∷ c ∷ d ∷ []) ⌝ }
-{
-    a as u32 + b as u32 * 0x100 + c as u32 * 0x1_0000 + d as u32 * 0x100_0000
-}
-
 // The number in the four bytes at a place with the first lowest, as the loop of code 1 fetches them: it then takes the sign and the
 // characteristic from the lowest byte, and tells whether the fraction is 0, without waiting for the bytes to be swapped.
 fn little_at(reel: &[u8], at: usize) -> u32
     requires { ⌜ at + 4 ≤ length (now reel) ⌝ }
     ensures { λ r. ⌜ WordAt (now (reel .entry)) at (reversed r) ⌝ }
 {
-    le32(reel[at], reel[at + 1], reel[at + 2], reel[at + 3])
+    numbers::le32(reel[at], reel[at + 1], reel[at + 2], reel[at + 3])
 }
 
 // The same four bytes with the first highest. The compiler makes one instruction of it.

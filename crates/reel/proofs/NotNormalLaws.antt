@@ -3,15 +3,16 @@ use mathlib.Core.Path.{_≡_}
 use mathlib.Core.Bool.{Bool, true, false, not, _&&_}
 use mathlib.Core.List.{List}
 use Prim.Native.Nat.{ℕ, _+_, _-_, _*_, _≤_, _<_}
-use native.Mathlib.Nat.{mul-one}
+use native.Mathlib.Nat.{mul-one, le-trans, mul-le-mul-left}
 use native.Mathlib.Omega.{arith}
 use lib.Dec.{eqb}
+use lib.ListN.{length}
 use Rattle.numbers.specs.Walk.{pick, bytesAt}
 use Rattle.numbers.specs.BigEndian.{number}
 use Rattle.numbers.proofs.WalkLaws.{sum-none, sum-more, sum-most}
 use Rattle.value.specs.Writing.{isNormal}
 use Rattle.sample.specs.Reading.{notNormal}
-use Rattle.reel.specs.Layout.{traceHeader, sampleBytes}
+use Rattle.reel.specs.Layout.{firstTrace, traceHeader, sampleBytes, stride}
 use Rattle.reel.specs.NotNormal.{notNormalIn, notNormalAmong}
 
 one-most : (code : ℕ) (w : List ℕ) → notNormal code w ≤ 1
@@ -38,3 +39,15 @@ module _ (s : List ℕ) (code n : ℕ) where
     pub among-most : (t at : ℕ) → notNormalAmong s code n w t at ≤ t * n
     unfolding notNormalAmong
     among-most t at = sum-most (λ p. notNormalIn s code n (p + traceHeader)) w n (λ p. in-most (p + traceHeader)) t at
+
+-- and no more than the reel has bytes
+pub among-room : (s : List ℕ) (code n w t at : ℕ) → w ≡ stride n (sampleBytes code) → firstTrace + t * w ≤ length s → notNormalAmong s code n w t at ≤ length s
+among-room s code n w t at e room =
+    le-trans (among-most s code n w t at) (le-trans (mul-le-mul-left t few) (omega (arith, room)))
+  where
+    wide : (b : Bool) → n ≤ stride n (pick b 2 4)
+    wide true = omega arith
+    wide false = omega arith
+
+    few : n ≤ w
+    few = rw e (wide (eqb code 3))

@@ -55,7 +55,7 @@ returns-2 : tie.Need-returns-2
 returns-2 c =
     let s = c .before .before .before .before .before .before .before in
     let a = s .args in
-    taken-end (a .reel .now) (a .out .now) (a .code) (a .n) (a .i) (a .v) (a .w) (a .t) (owns s) (all-bytes (a .reel .now) (λ i. omega (arith, c .before .before .before .before .before .before .shared-slice-known .given i))) _ (c .before .before .put-record .ensures) (c .before .before .before .before .if1 .left)
+    taken-end (a .reel .now) (a .out .now) (a .code) (a .n) (a .i) (a .v) (a .w) (a .t) (owns s) (all-bytes (a .reel .now) (λ i. omega (arith, c .before .before .before .before .before .before .shared-slice-known .given i))) _ _ (c .before .before .put-record .ensures .1) (c .before .before .put-record .ensures .0) (c .before .before .before .before .if1 .left)
 
 pub read-checked-spec : {M : Type 1} → statement M
 read-checked-spec =

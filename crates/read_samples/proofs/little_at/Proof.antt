@@ -1,11 +1,11 @@
 -- `read_samples::little_at` meets its contract. Assumes nothing.
 use Rattle.numbers.proofs.WalkLaws.{four-bytes}
-use Rattle.read_samples.proofs.SampleLaws.{word-at}
+use Rattle.read_samples.proofs.SampleLaws.{turned, word-at}
 use Rattle.read_samples.specs.Parts.{reversed}
 use Rattle.numbers.specs.BigEndian.{number}
-use Prim.Native.Nat.{_+_}
+use lib.ListN.{getD}
+use Prim.Native.Nat.{ℕ, _+_, _<_}
 use mathlib.Core.Path.{sym, ap, _∙_}
-use native.Mathlib.Omega.{arith}
 use borrow.Author.Needs.{needs}
 use Rattle.read_samples.proofs.little_at.Statement.{statement}
 use Rattle.read_samples.proofs.little_at.Tie as tie
@@ -14,7 +14,10 @@ returns : tie.Need-returns
 returns c =
     let a = c .before .before .before .before .before .before .args in
     let known = c .before .before .before .before .before .shared-slice-known .given in
-    word-at (a .reel .now) (a .at) (reversed (c .le32 .result)) (c .le32 .ensures ∙ ap number (sym (four-bytes (a .reel .now) (a .at)))) (omega (arith, known (a .at + 2))) (omega (arith, known (a .at + 3)))
+    let r = a .reel .now in
+    let byte : (k : ℕ) → getD r (a .at + k) 0 < 256 = λ k. known (a .at + k) .fits in
+    let is = ap reversed (c .le32 .ensures) ∙ turned (getD r (a .at) 0) (getD r (a .at + 1) 0) (getD r (a .at + 2) 0) (getD r (a .at + 3) 0) (known (a .at) .fits) (byte 1) (byte 2) (byte 3) in
+    word-at r (a .at) (reversed (c .le32 .result)) (is ∙ ap number (sym (four-bytes r (a .at)))) (byte 2) (byte 3)
 
 pub little-at-spec : {M : Type 1} → statement M
 little-at-spec =
