@@ -1,6 +1,6 @@
 //! SEG-Y revision 0 reels and their canonical records: the five calls of document 01 and the two of
-//! document 02's CR 1, with the scalars of CR 2, in plain Rust, written from the papers alone. The
-//! differential test compares the library with them.
+//! document 02's CR 1, with the scalars of CR 2 and the count of CR 3, in plain Rust, written from the
+//! papers alone. The differential test compares the library with them.
 //!
 //! A refused call changes no byte of its output. So each call on a whole reel or record makes two
 //! passes: the first looks for causes to refuse, the second writes.
@@ -50,12 +50,30 @@ const LINE_BYTES: usize = COLUMNS + 1;
 const LISTING_BYTES: usize = CARD_BYTES / COLUMNS * LINE_BYTES;
 const LINE_FEED: u8 = 0x0A;
 
-/// What a taken call on a reel or a record answers. The length is that of what was written.
+/// What a taken call on a record answers. The length is that of what was written.
 #[derive(Clone, Copy, Debug, PartialEq, Eq)]
 pub struct Taken {
     pub traces: u64,
     pub samples: u64,
     pub length: u64,
+}
+
+/// What reading a reel answers where it is taken. The length is that of the record that was written,
+/// and the last is how many words of the reel are not normal.
+#[derive(Clone, Copy, Debug, PartialEq, Eq)]
+pub struct ReelRead {
+    pub traces: u64,
+    pub samples: u64,
+    pub length: u64,
+    pub not_normal: u64,
+}
+
+/// What reading a word answers where it is taken: its pair, and whether it is an IBM word that is not
+/// normal.
+#[derive(Clone, Copy, Debug, PartialEq, Eq)]
+pub struct WordRead {
+    pub pair: [u8; 6],
+    pub not_normal: bool,
 }
 
 /// The number of the cause, and what stands beside it in document 01's table, or beside numbers 17
@@ -74,7 +92,7 @@ fn refused<T>(number: u64, beside: usize) -> Result<T, Refused> {
 }
 
 /// Reads one word. Under code 3 it is the first two bytes.
-pub fn read_word(code: u32, word: [u8; 4]) -> Result<[u8; 6], Refused> {
+pub fn read_word(code: u32, word: [u8; 4]) -> Result<WordRead, Refused> {
     let Some(code) = Code::numbered(code) else {
         return refused(2, 0);
     };
@@ -85,7 +103,10 @@ pub fn read_word(code: u32, word: [u8; 4]) -> Result<[u8; 6], Refused> {
         Code::Gain if word[0] != 0 => return refused(9, 0),
         Code::Gain => Pair::of_gain(word),
     };
-    Ok(pair.bytes())
+    Ok(WordRead {
+        pair: pair.bytes(),
+        not_normal: matches!(code, Code::Ibm) && !is_normal(word),
+    })
 }
 
 /// Writes one pair. Under code 3 the word is the first two bytes, and the rest is 00.
@@ -107,7 +128,7 @@ pub fn write_pair(code: u32, pair: [u8; 6]) -> Result<[u8; 4], Refused> {
 }
 
 /// Reads a reel and writes its record to the front of the output.
-pub fn read_reel(reel: &[u8], out: &mut [u8]) -> Result<Taken, Refused> {
+pub fn read_reel(reel: &[u8], out: &mut [u8]) -> Result<ReelRead, Refused> {
     let (code, shape) = check_reel(reel)?;
     let length = shape.record_length();
     let Some(mut room) = out.get_mut(..length) else {
@@ -123,6 +144,7 @@ pub fn read_reel(reel: &[u8], out: &mut [u8]) -> Result<Taken, Refused> {
     binary.copy_from_slice(&reel[CARD_BYTES..][..BINARY_FIELDS]);
     put_number(binary, CODE, 0);
 
+    let mut not_normal = 0;
     for trace in reel[REEL_HEADERS..].chunks_exact(shape.trace_length(code)) {
         let (header, words) = trace.split_at(TRACE_HEADER);
         let fields = put_field(&mut room, TAG_TRACE, TRACE_FIELDS);
@@ -135,7 +157,13 @@ pub fn read_reel(reel: &[u8], out: &mut [u8]) -> Result<Taken, Refused> {
 
         let pairs = put_field(&mut room, TAG_SAMPLES, PAIR_BYTES * shape.samples as usize);
         match code {
-            Code::Ibm => put_pairs(words, pairs, Pair::of_ibm),
+            Code::Ibm => {
+                put_pairs(words, pairs, Pair::of_ibm);
+                not_normal += words
+                    .chunks_exact(4)
+                    .filter(|word| !is_normal(array(word)))
+                    .count();
+            }
             Code::Whole32 => put_pairs(words, pairs, Pair::of_whole32),
             Code::Whole16 => put_pairs(words, pairs, Pair::of_whole16),
             Code::Gain => put_pairs(words, pairs, Pair::of_gain),
@@ -144,7 +172,12 @@ pub fn read_reel(reel: &[u8], out: &mut [u8]) -> Result<Taken, Refused> {
 
     let count = put_field(&mut room, TAG_COUNT, COUNT_BYTES);
     count.copy_from_slice(&(shape.traces as u32).to_be_bytes());
-    Ok(shape.taken(length))
+    Ok(ReelRead {
+        traces: shape.traces as u64,
+        samples: u64::from(shape.samples),
+        length: length as u64,
+        not_normal: not_normal as u64,
+    })
 }
 
 /// Writes a record as a reel under a target code to the front of the output.
@@ -558,6 +591,18 @@ fn put_number(bytes: &mut [u8], offset: usize, number: u16) {
 
 fn array<const W: usize>(bytes: &[u8]) -> [u8; W] {
     bytes.try_into().expect("a slice of that length")
+}
+
+/// Whether an IBM word is the normal word of its value. For zero that is 00000000; otherwise the first
+/// hexadecimal digit of the fraction isn't 0, unless the characteristic is 0.
+fn is_normal(word: [u8; 4]) -> bool {
+    let bits = u32::from_be_bytes(word);
+    let (characteristic, fraction) = (bits >> 24 & 0x7F, bits & 0x00FF_FFFF);
+    if fraction == 0 {
+        bits == 0
+    } else {
+        fraction >> 20 != 0 || characteristic == 0
+    }
 }
 
 /// The canonical sample, of the value `mantissa` × 2^`exponent`.

@@ -1,4 +1,5 @@
-//! Document 01's samples at the edges and its example, and what document 02's CR 1 and CR 2 make of it.
+//! Document 01's samples at the edges and its example, and what document 02's CR 1, CR 2 and CR 3 make
+//! of it.
 
 use super::*;
 
@@ -11,11 +12,20 @@ fn word(bits: u32) -> [u8; 4] {
 }
 
 fn reads(code: u32, bits: u32, exponent: i16, mantissa: i32) {
-    assert_eq!(
-        read_word(code, word(bits)),
-        Ok(pair(exponent, mantissa)),
-        "{bits:08X}"
-    );
+    let read = WordRead {
+        pair: pair(exponent, mantissa),
+        not_normal: false,
+    };
+    assert_eq!(read_word(code, word(bits)), Ok(read), "{bits:08X}");
+}
+
+/// An IBM word that is not normal.
+fn reads_not_normal(bits: u32, exponent: i16, mantissa: i32) {
+    let read = WordRead {
+        pair: pair(exponent, mantissa),
+        not_normal: true,
+    };
+    assert_eq!(read_word(1, word(bits)), Ok(read), "{bits:08X}");
 }
 
 fn writes(code: u32, exponent: i16, mantissa: i32, bits: u32) {
@@ -33,7 +43,7 @@ fn misfits(code: u32, exponent: i16, mantissa: i32) {
 #[test]
 fn one() {
     reads(1, 0x4110_0000, 0, 1);
-    reads(1, 0x4201_0000, 0, 1);
+    reads_not_normal(0x4201_0000, 0, 1);
     writes(1, 0, 1, 0x4110_0000);
 }
 
@@ -41,7 +51,7 @@ fn one() {
 fn negative_with_a_fraction() {
     reads(1, 0xC276_A000, -3, -949);
     assert_eq!(
-        read_word(1, word(0xC276_A000)),
+        read_word(1, word(0xC276_A000)).map(|read| read.pair),
         Ok([0xFF, 0xFD, 0xFF, 0xFF, 0xFC, 0x4B])
     );
     writes(1, -3, -949, 0xC276_A000);
@@ -49,8 +59,8 @@ fn negative_with_a_fraction() {
 
 #[test]
 fn zero() {
-    reads(1, 0x8000_0000, 0, 0);
-    reads(1, 0x7F00_0000, 0, 0);
+    reads_not_normal(0x8000_0000, 0, 0);
+    reads_not_normal(0x7F00_0000, 0, 0);
     for code in 1..=4 {
         reads(code, 0, 0, 0);
         writes(code, 0, 0, 0);
@@ -146,12 +156,13 @@ fn example_record() -> Vec<u8> {
 #[test]
 fn example_is_read() {
     let mut out = [0xA5; 4000];
-    let taken = Taken {
+    let read = ReelRead {
         traces: 1,
         samples: 2,
         length: 3471,
+        not_normal: 0,
     };
-    assert_eq!(read_reel(&example(), &mut out), Ok(taken));
+    assert_eq!(read_reel(&example(), &mut out), Ok(read));
     assert_eq!(out[..3471], example_record());
     assert!(out[3471..].iter().all(|&byte| byte == 0xA5));
 }
@@ -221,6 +232,245 @@ fn counts_of_assigned_fields() {
         (0..4000).filter_map(trace_field).sum::<usize>(),
         TRACE_FIELDS
     );
+}
+
+/// Words that are not normal, of every kind: zeros other than 00000000, then a characteristic above 0
+/// with 1 to 5 digits 0 at the front of the fraction; with their pairs.
+const NOT_NORMAL: [(u32, i16, i32); 31] = [
+    (0x8000_0000, 0, 0),
+    (0x0100_0000, 0, 0),
+    (0x8100_0000, 0, 0),
+    (0x4000_0000, 0, 0),
+    (0x4100_0000, 0, 0),
+    (0xC100_0000, 0, 0),
+    (0x7F00_0000, 0, 0),
+    (0xFF00_0000, 0, 0),
+    (0x0100_0001, -276, 1),
+    (0x8100_0001, -276, -1),
+    (0x0100_0010, -272, 1),
+    (0x0108_0000, -257, 1),
+    (0x010F_FFFF, -276, 1_048_575),
+    (0x0200_0001, -272, 1),
+    (0x0500_0001, -260, 1),
+    (0x0600_0001, -256, 1),
+    (0x4000_0001, -24, 1),
+    (0x410F_FFFF, -20, 1_048_575),
+    (0x4101_0000, -4, 1),
+    (0x4100_FFFF, -20, 65_535),
+    (0x4100_0FFF, -20, 4_095),
+    (0x4100_00FF, -20, 255),
+    (0x4100_000F, -20, 15),
+    (0x4201_0000, 0, 1),
+    (0xC201_0000, 0, -1),
+    (0xC20F_FFFF, -16, -1_048_575),
+    (0x4600_0001, 0, 1),
+    (0x7F00_0001, 228, 1),
+    (0xFF00_0001, 228, -1),
+    (0x7F0F_FFFF, 228, 1_048_575),
+    (0xFF08_0000, 247, -1),
+];
+
+/// Normal words: 00000000, any other fraction where the characteristic is 0, and a first digit above 0.
+const NORMAL: [(u32, i16, i32); 24] = [
+    (0x0000_0000, 0, 0),
+    (0x0000_0001, -280, 1),
+    (0x8000_0001, -280, -1),
+    (0x0000_000F, -280, 15),
+    (0x0000_0010, -276, 1),
+    (0x0001_0000, -264, 1),
+    (0x8008_0000, -261, -1),
+    (0x000F_FFFF, -280, 1_048_575),
+    (0x800F_FFFF, -280, -1_048_575),
+    (0x0010_0000, -260, 1),
+    (0x80FF_FFFF, -280, -16_777_215),
+    (0x0110_0000, -256, 1),
+    (0x8110_0000, -256, -1),
+    (0x0110_0001, -276, 1_048_577),
+    (0x4110_0000, 0, 1),
+    (0xC110_0000, 0, -1),
+    (0x411F_FFFF, -20, 2_097_151),
+    (0x4180_0000, 3, 1),
+    (0xC1F0_0000, 0, -15),
+    (0xC276_A000, -3, -949),
+    (0x46FF_FFFF, 0, 16_777_215),
+    (0x471F_FFFF, 4, 2_097_151),
+    (0x7F10_0000, 248, 1),
+    (0xFFFF_FFFF, 228, -16_777_215),
+];
+
+#[test]
+fn words_normal_and_not() {
+    for (bits, exponent, mantissa) in NOT_NORMAL {
+        reads_not_normal(bits, exponent, mantissa);
+        assert_ne!(
+            write_pair(1, pair(exponent, mantissa)),
+            Ok(word(bits)),
+            "{bits:08X}"
+        );
+    }
+    for (bits, exponent, mantissa) in NORMAL {
+        reads(1, bits, exponent, mantissa);
+        writes(1, exponent, mantissa, bits);
+    }
+}
+
+/// No word of another code counts. A gain word begins with 00, and so is none of those.
+#[test]
+fn words_of_other_codes() {
+    for (bits, _, _) in NOT_NORMAL.into_iter().chain(NORMAL) {
+        for code in [2, 3] {
+            let read = read_word(code, word(bits)).expect("any word is taken");
+            assert!(!read.not_normal, "{bits:08X}");
+        }
+        let gain = read_word(4, word(bits & 0x00FF_FFFF)).expect("the first byte is 00");
+        assert!(!gain.not_normal, "{bits:08X}");
+    }
+    for (bits, _, _) in NOT_NORMAL {
+        assert_eq!(read_word(4, word(bits)), refused(9, 0), "{bits:08X}");
+    }
+}
+
+/// The exact value of an IBM word, times 16^70 and without its sign, in hexadecimal digits: those of
+/// the fraction, and behind them as many zeros as the characteristic says.
+fn digits_of_value(bits: u32) -> [u8; 133] {
+    let mut digits = [0; 133];
+    let first = 127 - (bits >> 24 & 0x7F) as usize;
+    for (place, digit) in digits[first..first + 6].iter_mut().enumerate() {
+        *digit = (bits >> (20 - 4 * place) & 0xF) as u8;
+    }
+    digits
+}
+
+/// The normal word of a word's value, by trying every characteristic.
+fn normal_by_search(bits: u32) -> u32 {
+    let value = digits_of_value(bits);
+    if value == [0; 133] {
+        return 0x0000_0000;
+    }
+    let sign = bits & 0x8000_0000;
+    let mut normal = Vec::new();
+    for characteristic in 0..=127 {
+        let (before, rest) = value.split_at(127 - characteristic);
+        let (fraction, after) = rest.split_at(6);
+        let has_the_value = before.iter().chain(after).all(|&digit| digit == 0);
+        if has_the_value && (fraction[0] != 0 || characteristic == 0) {
+            let fraction = fraction
+                .iter()
+                .fold(0, |number, &digit| number << 4 | u32::from(digit));
+            normal.push(sign | (characteristic as u32) << 24 | fraction);
+        }
+    }
+    assert_eq!(
+        normal.len(),
+        1,
+        "{bits:08X} has the normal words {normal:08X?}"
+    );
+    normal[0]
+}
+
+/// Fractions of every count of leading zero digits: 0; each digit at each place, with 0, F, or any
+/// digits behind it.
+fn fractions() -> Vec<u32> {
+    let mut fractions = vec![0];
+    let mut state = 1975u32;
+    for place in 0..6 {
+        let behind = (1 << (4 * place)) - 1;
+        for digit in 1..=15 {
+            state = state.wrapping_mul(1_664_525).wrapping_add(1_013_904_223);
+            let any = state >> 8 & behind;
+            for low in [0, 1 & behind, any, behind] {
+                fractions.push(digit << (4 * place) | low);
+            }
+        }
+    }
+    fractions
+}
+
+/// Whether a word is normal, by document 01's sentence in `is_normal`, is whether it is the normal word
+/// of its value, found by search; and writing gives that word.
+#[test]
+fn normal_words_by_search() {
+    let mut counts = [0; 2];
+    for first in 0..=255 {
+        for fraction in fractions() {
+            let bits = first << 24 | fraction;
+            let normal = normal_by_search(bits);
+            let read = read_word(1, word(bits)).expect("any word is taken");
+            assert_eq!(read.not_normal, bits != normal, "{bits:08X}");
+            assert_eq!(write_pair(1, read.pair), Ok(word(normal)), "{bits:08X}");
+            counts[usize::from(read.not_normal)] += 1;
+        }
+    }
+    // Of the 361 fractions 60 begin with another digit than 0, and 300 others aren't 0.
+    assert_eq!(counts, [1 + 256 * 60 + 2 * 300, 255 + 254 * 300]);
+}
+
+/// A reel of 32-bit words, trace by trace.
+fn reel_of(code: u16, traces: &[&[u32]]) -> Vec<u8> {
+    let samples = traces[0].len() as u16 * if code == 3 { 2 } else { 1 };
+    let mut reel = example();
+    reel.truncate(3600);
+    reel[3220..3222].copy_from_slice(&samples.to_be_bytes());
+    reel[3224..3226].copy_from_slice(&code.to_be_bytes());
+    for words in traces {
+        reel.resize(reel.len() + 240, 0);
+        for &bits in *words {
+            reel.extend(word(bits));
+        }
+    }
+    reel
+}
+
+/// What reading a reel answers where it is taken, and where the output is one byte too short.
+fn counted(reel: &[u8], traces: u64, samples: u64, not_normal: u64) {
+    let length = 3273 + traces * (186 + 6 * samples);
+    let mut out = vec![0xA5; length as usize];
+    let read = ReelRead {
+        traces,
+        samples,
+        length,
+        not_normal,
+    };
+    assert_eq!(read_reel(reel, &mut out[1..]), refused(10, length as usize));
+    assert_eq!(read_reel(reel, &mut out), Ok(read));
+}
+
+#[test]
+fn words_of_a_reel_are_counted() {
+    let odd = 0x4201_0000;
+    let one = 0x4110_0000;
+    for (traces, not_normal) in [
+        ([[one, one, one], [one, one, one], [one, one, one]], 0),
+        ([[odd, one, one], [one, one, one], [one, one, one]], 1),
+        ([[one, one, odd], [one, one, one], [one, one, one]], 1),
+        ([[one, one, one], [one, odd, one], [one, one, one]], 1),
+        ([[one, one, one], [one, one, one], [odd, one, one]], 1),
+        ([[one, one, one], [one, one, one], [one, one, odd]], 1),
+        ([[one, odd, one], [one, one, one], [odd, one, odd]], 3),
+        ([[odd, one, odd], [odd, one, odd], [odd, one, odd]], 6),
+        ([[odd, odd, odd], [odd, odd, odd], [odd, odd, odd]], 9),
+    ] {
+        let traces: Vec<&[u32]> = traces.iter().map(|words| &words[..]).collect();
+        counted(&reel_of(1, &traces), 3, 3, not_normal);
+        counted(&reel_of(2, &traces), 3, 3, 0);
+        counted(&reel_of(3, &traces), 3, 6, 0);
+    }
+}
+
+/// Every kind of word, all in one trace, and each alone in a trace.
+#[test]
+fn words_of_every_kind_are_counted() {
+    let not_normal = NOT_NORMAL.map(|(bits, _, _)| bits);
+    let normal = NORMAL.map(|(bits, _, _)| bits);
+    counted(&reel_of(1, &[&not_normal]), 1, 31, 31);
+    counted(&reel_of(1, &[&normal]), 1, 24, 0);
+    counted(&reel_of(2, &[&not_normal]), 1, 31, 0);
+    counted(&reel_of(3, &[&not_normal]), 1, 62, 0);
+    let alone: Vec<&[u32]> = not_normal.chunks(1).chain(normal.chunks(1)).collect();
+    counted(&reel_of(1, &alone), 55, 1, 31);
+    counted(&reel_of(2, &alone), 55, 1, 0);
+    counted(&reel_of(3, &alone), 55, 2, 0);
+    counted(&reel_of(1, &[&[0x4201_0000; 8_000]]), 1, 8_000, 8_000);
 }
 
 /// The listing of the example, whose cards are all blanks.
