@@ -1,8 +1,9 @@
 //! Each call is made of the library and of the independent implementation, and everything that it
 //! gives is compared. The first difference is printed and ends the run.
 
-use crate::library::{self, sample_answer, FieldAnswer, ReelAnswer, SampleAnswer};
+use crate::library::{self, pair_answer, word_answer, FieldAnswer, ReelAnswer, SampleAnswer};
 use crate::random::Random;
+use independent::WordRead;
 use std::fmt::Debug;
 use std::{array, process};
 
@@ -120,16 +121,17 @@ impl Comparison {
         complete
     }
 
-    /// Reads a word with both, and gives the pair if it was taken.
-    pub fn read_word(&mut self, code: u32, word: [u8; 4]) -> Option<[u8; 6]> {
-        let ours = sample_answer(independent::read_word(code, word));
+    /// Reads a word with both, and gives what it was read as if it was taken.
+    pub fn read_word(&mut self, code: u32, word: [u8; 4]) -> Option<WordRead> {
+        let read = independent::read_word(code, word);
         let theirs = self.guarded(&word, |word, pair| library::read_word(code, word, pair));
-        self.sample_compared(READ_WORD, code, &word, ours, theirs)
+        self.sample_compared(READ_WORD, code, &word, word_answer(read), theirs)?;
+        read.ok()
     }
 
     /// Writes a pair with both, and gives the word if it was taken.
     pub fn write_pair(&mut self, code: u32, pair: [u8; 6]) -> Option<[u8; 4]> {
-        let ours = sample_answer(independent::write_pair(code, pair));
+        let ours = pair_answer(independent::write_pair(code, pair));
         let theirs = self.guarded(&pair, |pair, word| library::write_pair(code, pair, word));
         self.sample_compared(WRITE_PAIR, code, &pair, ours, theirs)
     }

@@ -1,6 +1,6 @@
 //! The calls of include/aukpocket.h, and the independent implementation's answers in their form.
 
-use independent::{Refused, Taken};
+use independent::{ReelRead, Refused, Taken, WordRead};
 
 #[repr(C)]
 #[derive(Clone, Copy, Debug, PartialEq, Eq)]
@@ -10,6 +10,7 @@ pub struct ReelAnswer {
     pub samples: u64,
     pub length: u64,
     pub beside: u64,
+    pub not_normal: u64,
 }
 
 #[repr(C)]
@@ -25,6 +26,7 @@ pub struct FieldAnswer {
 pub struct SampleAnswer {
     pub number: u64,
     pub beside: u64,
+    pub not_normal: u64,
 }
 
 extern "C" {
@@ -110,6 +112,42 @@ pub fn write_pair(code: u32, pair: &[u8; 6], word: &mut [u8; 4]) -> SampleAnswer
     unsafe { aukpocket_write_pair(code, pair.as_ptr(), word.as_mut_ptr()) }
 }
 
+/// Beside a refusal all that it doesn't name is 0.
+impl From<Refused> for ReelAnswer {
+    fn from(Refused { number, beside }: Refused) -> ReelAnswer {
+        ReelAnswer {
+            number,
+            traces: 0,
+            samples: 0,
+            length: 0,
+            beside,
+            not_normal: 0,
+        }
+    }
+}
+
+impl From<Result<ReelRead, Refused>> for ReelAnswer {
+    fn from(result: Result<ReelRead, Refused>) -> ReelAnswer {
+        match result {
+            Ok(ReelRead {
+                traces,
+                samples,
+                length,
+                not_normal,
+            }) => ReelAnswer {
+                number: 0,
+                traces,
+                samples,
+                length,
+                beside: 0,
+                not_normal,
+            },
+            Err(cause) => cause.into(),
+        }
+    }
+}
+
+/// A call on a record counts no words.
 impl From<Result<Taken, Refused>> for ReelAnswer {
     fn from(result: Result<Taken, Refused>) -> ReelAnswer {
         match result {
@@ -123,14 +161,9 @@ impl From<Result<Taken, Refused>> for ReelAnswer {
                 samples,
                 length,
                 beside: 0,
+                not_normal: 0,
             },
-            Err(Refused { number, beside }) => ReelAnswer {
-                number,
-                traces: 0,
-                samples: 0,
-                length: 0,
-                beside,
-            },
+            Err(cause) => cause.into(),
         }
     }
 }
@@ -165,16 +198,42 @@ impl From<Result<i32, Refused>> for FieldAnswer {
     }
 }
 
-/// A single sample's answer, and the bytes handed out: all 00 beside a refusal.
-pub fn sample_answer<const W: usize>(result: Result<[u8; W], Refused>) -> (SampleAnswer, [u8; W]) {
+/// A single word's answer, and the pair handed out: all 00 beside a refusal.
+pub fn word_answer(result: Result<WordRead, Refused>) -> (SampleAnswer, [u8; 6]) {
     match result {
-        Ok(bytes) => (
+        Ok(WordRead { pair, not_normal }) => (
             SampleAnswer {
                 number: 0,
                 beside: 0,
+                not_normal: u64::from(not_normal),
             },
-            bytes,
+            pair,
         ),
-        Err(Refused { number, beside }) => (SampleAnswer { number, beside }, [0; W]),
+        Err(cause) => (cause.into(), [0; 6]),
+    }
+}
+
+/// A single pair's answer, and the word handed out: all 00 beside a refusal.
+pub fn pair_answer(result: Result<[u8; 4], Refused>) -> (SampleAnswer, [u8; 4]) {
+    match result {
+        Ok(word) => (
+            SampleAnswer {
+                number: 0,
+                beside: 0,
+                not_normal: 0,
+            },
+            word,
+        ),
+        Err(cause) => (cause.into(), [0; 4]),
+    }
+}
+
+impl From<Refused> for SampleAnswer {
+    fn from(Refused { number, beside }: Refused) -> SampleAnswer {
+        SampleAnswer {
+            number,
+            beside,
+            not_normal: 0,
+        }
     }
 }

@@ -4,6 +4,7 @@
 mod compare;
 mod library;
 mod listings;
+mod normal;
 mod random;
 mod records;
 mod reels;
@@ -18,9 +19,11 @@ fn main() {
     reels::look_ups(&mut compare);
     records::records(&mut compare);
     scalars::scalars(&mut compare);
+    normal::counts(&mut compare);
     listings::listings(&mut compare);
     listings::causes_of_listings(&mut compare);
     reels::long_reels(&mut compare);
+    normal::long_reels(&mut compare);
     records::long_records(&mut compare);
     listings::long_listings(&mut compare);
 

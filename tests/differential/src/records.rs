@@ -90,7 +90,9 @@ fn fitting_pair(random: &mut Random, code: u32) -> [u8; 6] {
     } else {
         structured_word(random, code)
     };
-    independent::read_word(code, word).expect("a valid word")
+    independent::read_word(code, word)
+        .expect("a valid word")
+        .pair
 }
 
 /// Damages that change bytes where they stand: numbers that no record has, and fields of a wrong

@@ -1,6 +1,8 @@
 //! Reels, read and looked up, valid and damaged.
 
 use crate::compare::{print_input, Comparison};
+use crate::library::ReelAnswer;
+use crate::normal::words_come_back;
 use crate::random::Random;
 use crate::samples::{bad_code, pair, random_word, structured_word, CODES};
 use crate::scalars::{damage_scalar, put_on_reel};
@@ -71,7 +73,7 @@ impl Shape {
     }
 
     /// The place of a trace on the reel, counted from 0.
-    fn trace(&self, index: usize) -> usize {
+    pub fn trace(&self, index: usize) -> usize {
         3600 + index * self.trace_length()
     }
 }
@@ -155,10 +157,10 @@ pub fn other_number(random: &mut Random, number: u16) -> u16 {
 
 /// The kinds of damage lead to the causes 1 to 9 (without 6, which takes a long reel) and to 18; two
 /// put other valid numbers in place of N and the code.
-const DAMAGES: usize = 14;
+pub const DAMAGES: usize = 14;
 
 /// Damages a reel in one way. What an earlier damage has cut off can't be damaged any more.
-fn damage(random: &mut Random, kind: usize, shape: Shape, reel: &mut Vec<u8>) {
+pub fn damage(random: &mut Random, kind: usize, shape: Shape, reel: &mut Vec<u8>) {
     if kind == 0 {
         let length = random.pick(&[0, 1, 3199, 3200, 3216, 3220, 3226, 3599, 3600]);
         reel.truncate(if random.once_in(2) {
@@ -221,13 +223,13 @@ fn damage(random: &mut Random, kind: usize, shape: Shape, reel: &mut Vec<u8>) {
     }
 }
 
-/// Reads a reel into outputs of several lengths, and gives the record if it is taken.
+/// Reads a reel into outputs of several lengths, and gives the answer and the record if it is taken.
 fn read_into_rooms(
     compare: &mut Comparison,
     random: &mut Random,
     reel: &[u8],
     most: usize,
-) -> Option<Vec<u8>> {
+) -> Option<(ReelAnswer, Vec<u8>)> {
     let first = compare.read_reel(reel, most);
     if first.number != 0 {
         compare.read_reel(reel, random.below(80));
@@ -240,11 +242,11 @@ fn read_into_rooms(
     compare.read_reel(reel, length - 1);
     compare.read_reel(reel, length);
     compare.read_reel(reel, length + 1 + random.below(300));
-    Some(record)
+    Some((first, record))
 }
 
 /// Writes a record under a code. If it is taken, the library reads it again, which must give the
-/// record.
+/// record, and no word that is not normal.
 pub fn write_and_read_again(
     compare: &mut Comparison,
     record: &[u8],
@@ -257,7 +259,7 @@ pub fn write_and_read_again(
     }
     let reel = compare.written(written).to_vec();
     let again = compare.read_reel(&reel, record.len());
-    if again.number != 0 || compare.written(again) != record {
+    if again.number != 0 || again.not_normal != 0 || compare.written(again) != record {
         compare.differs(
             &format!("a record written under code {code} is not read again"),
             || {
@@ -345,6 +347,7 @@ pub fn reels(compare: &mut Comparison) {
     }
 
     compare.stage("reels, valid and damaged");
+    let mut come_back = [0; 2];
     for _ in 0..72_000 {
         let shape = Shape::any(&mut random, 300);
         let words = random.pick(&ALL_WORDS);
@@ -355,12 +358,24 @@ pub fn reels(compare: &mut Comparison) {
         }
         some_look_ups(compare, &mut random, &made, shape, 3);
         let room = shape.record_length() + random.below(500);
-        let record = read_into_rooms(compare, &mut random, &made, room);
-        if let Some(record) = record {
+        if let Some((read, record)) = read_into_rooms(compare, &mut random, &made, room) {
             for code in CODES {
-                write_and_read_again(compare, &record, code, made.len() + 4 * record.len());
+                let room = made.len() + 4 * record.len();
+                let written = write_and_read_again(compare, &record, code, room);
+                if code == 1 && made[3225] == 1 {
+                    words_come_back(compare, &made, read, &written.expect("its own code"));
+                    come_back[usize::from(read.not_normal == 0)] += 1;
+                }
             }
         }
+    }
+    if come_back.iter().any(|&count| count < 1000) {
+        compare.differs(
+            "nearly all reels have words that are not normal, or none",
+            || {
+                println!("{come_back:?}");
+            },
+        );
     }
 
     compare.stage("reels of 8,000 samples");
@@ -368,10 +383,10 @@ pub fn reels(compare: &mut Comparison) {
         for words in ALL_WORDS {
             let shape = Shape::new(code, 8000 - random.below(2), 1 + random.below(3));
             let mut made = reel(&mut random, shape, words);
-            let record = read_into_rooms(compare, &mut random, &made, shape.record_length() + 50);
+            let read = read_into_rooms(compare, &mut random, &made, shape.record_length() + 50);
+            let (_, record) = read.expect("an undamaged reel");
             for code in CODES {
-                let record = record.as_ref().expect("an undamaged reel");
-                write_and_read_again(compare, record, code, made.len() + record.len());
+                write_and_read_again(compare, &record, code, made.len() + record.len());
             }
             for kind in 0..DAMAGES {
                 let before = made.clone();

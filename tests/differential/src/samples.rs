@@ -2,6 +2,7 @@
 
 use crate::compare::Comparison;
 use crate::random::Random;
+use independent::WordRead;
 
 pub const CODES: [u32; 4] = [1, 2, 3, 4];
 
@@ -143,25 +144,40 @@ pub fn uncanonical_pair(random: &mut Random) -> [u8; 6] {
     }
 }
 
-/// Reads a word and, if it is taken, writes its pair under every code.
+/// Reads a word and, if it is taken, writes its pair under every code. An IBM word is normal exactly
+/// when code 1 gives it back.
 fn word_there_and_back(compare: &mut Comparison, code: u32, word: [u8; 4]) {
-    if let Some(pair) = compare.read_word(code, word) {
+    if let Some(WordRead { pair, not_normal }) = compare.read_word(code, word) {
         for target in CODES {
-            pair_there_and_back(compare, target, pair);
+            let written = pair_there_and_back(compare, target, pair);
+            if (code, target) == (1, 1) && not_normal != (written != Some(word)) {
+                compare.differs(
+                    "a word is normal and does not come back, or isn't and does",
+                    || {
+                        println!(
+                            "word {word:02X?}, written {written:02X?}, not normal {not_normal}"
+                        );
+                    },
+                );
+            }
         }
     }
 }
 
-/// Writes a pair and, if it is taken, reads its word, which must give the pair again.
-fn pair_there_and_back(compare: &mut Comparison, code: u32, pair: [u8; 6]) {
-    if let Some(word) = compare.write_pair(code, pair) {
-        let again = compare.read_word(code, word);
-        if again != Some(pair) {
-            compare.differs("a pair that was written is not read again", || {
-                println!("code {code}, pair {pair:02X?}, word {word:02X?}, read {again:02X?}");
-            });
-        }
+/// Writes a pair and, if it is taken, reads its word, which must give the pair again and be normal.
+fn pair_there_and_back(compare: &mut Comparison, code: u32, pair: [u8; 6]) -> Option<[u8; 4]> {
+    let word = compare.write_pair(code, pair)?;
+    let again = compare.read_word(code, word);
+    let normal = WordRead {
+        pair,
+        not_normal: false,
+    };
+    if again != Some(normal) {
+        compare.differs("a pair that was written is not read again", || {
+            println!("code {code}, pair {pair:02X?}, word {word:02X?}, read {again:02X?}");
+        });
     }
+    Some(word)
 }
 
 pub fn words(compare: &mut Comparison) {
@@ -174,7 +190,7 @@ pub fn words(compare: &mut Comparison) {
         word_there_and_back(compare, 3, [high, low, rest[0], rest[1]]);
     }
 
-    compare.stage("a grid of words of code 1");
+    compare.stage("a grid of words of code 1, and the same bytes under the others");
     let mut fractions: Vec<u32> = vec![0];
     for high in 0..24 {
         for low in 0..=high {
@@ -184,7 +200,9 @@ pub fn words(compare: &mut Comparison) {
     }
     for first in 0..=255 {
         for &fraction in &fractions {
-            compare.read_word(1, (first << 24 | fraction).to_be_bytes());
+            for code in CODES {
+                compare.read_word(code, (first << 24 | fraction).to_be_bytes());
+            }
         }
     }
 
