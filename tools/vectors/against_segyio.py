@@ -9,8 +9,8 @@ compares the stored floats with the values that document 01's rules give
 code is run. Where segyio is installed, the stored floats must be what it gives
 now, and further words are compared. --store asks segyio and writes the file.
 
-Must agree: the normal words (first digit of F not 0, or the word 00000000)
-whose value is a 32-bit float exactly, either 0 or of the float's normal range.
+Must agree: the normal words whose value is a 32-bit float exactly, either 0 or
+of the float's normal range.
 Two kinds of words segyio 1.8.3 reads in its own way: words that aren't normal,
 and words whose value only a subnormal float would hold. Where it gives another
 value than the word's the line says `misread`; `no float` is said of a word
@@ -88,7 +88,7 @@ def is_float(value):
 
 def must_agree(word):
     value = value_of(word)
-    normal = word[1] >= 0x10 or word == bytes(4)
+    normal = samples.not_normal(1, word) == 0
     return normal and is_float(value) and (value == 0 or abs(value) >= SMALLEST_NORMAL_FLOAT)
 
 

@@ -1,4 +1,4 @@
-"""Test vectors for single samples, worked out from document 01 alone.
+"""Test vectors for single samples, worked out from document 01 and document 02's CR 3 alone.
 
 Run from the root of the repository:  python3 tools/vectors/samples.py [--check]
 It rewrites crates/sample_vectors/stdin and crates/sample_vectors/stdout; with
@@ -7,10 +7,11 @@ It rewrites crates/sample_vectors/stdin and crates/sample_vectors/stdout; with
 The rules are written here as literally as possible, by whole numbers and by
 trying every case, so that they share nothing with the code they test.
 
-A line of stdin is 24 bytes, a line of stdout 34, line feed included:
+A line of stdin is 24 bytes, a line of stdout 36, line feed included:
     r CODE(8 hex) WORD(8 hex)----        read a word
     w CODE(8 hex) PAIR(12 hex)           write a pair
-    NUMBER(3 decimal) PLACE(16 hex) PAIR(12 hex), or WORD(8 hex)----
+    NUMBER(3 decimal) PLACE(16 hex) PAIR(12 hex) 1, or 0      a word that was read; 1 if it is not normal
+    NUMBER(3 decimal) PLACE(16 hex) WORD(8 hex)---- -         a pair that was written
 """
 
 import sys
@@ -109,17 +110,22 @@ def word_of_v(code, v):
         return None
 
 
+def not_normal(code, word):
+    """1 for an IBM word other than the normal word of its value, else 0."""
+    return 1 if code == 1 and word != word_of_v(1, v_of_word(1, word)) else 0
+
+
 def pair_bytes(e, m):
     return e.to_bytes(2, "big", signed=True) + m.to_bytes(4, "big", signed=True)
 
 
 def read(code, word):
-    """Number and six bytes for a single word."""
+    """Number, six bytes, and 1 or 0 for a single word."""
     if code not in (1, 2, 3, 4):
-        return 2, bytes(6)
+        return 2, bytes(6), 0
     if code == 4 and word[0] != 0:
-        return 9, bytes(6)
-    return 0, pair_bytes(*pair_of_v(v_of_word(code, word)))
+        return 9, bytes(6), 0
+    return 0, pair_bytes(*pair_of_v(v_of_word(code, word))), not_normal(code, word)
 
 
 def write(code, pair):
@@ -137,18 +143,18 @@ def write(code, pair):
 
 # ------------------------------------------------- the paper's own examples
 
-# (code, word, e, m)
+# (code, word, e, m, 1 if the word is not normal)
 EDGES_READ = [
-    (1, "41100000", 0, 1),
-    (1, "42010000", 0, 1),
-    (1, "C276A000", -3, -949),
-    (1, "80000000", 0, 0),
-    (1, "7F000000", 0, 0),
-    (1, "00000001", -280, 1),
-    (1, "7F800000", 251, 1),
-    (1, "7FFFFFFF", 228, 16777215),
-    (2, "80000000", 31, -1),
-    (4, "00010002", 0, 1),
+    (1, "41100000", 0, 1, 0),
+    (1, "42010000", 0, 1, 1),
+    (1, "C276A000", -3, -949, 0),
+    (1, "80000000", 0, 0, 1),
+    (1, "7F000000", 0, 0, 1),
+    (1, "00000001", -280, 1, 0),
+    (1, "7F800000", 251, 1, 0),
+    (1, "7FFFFFFF", 228, 16777215, 0),
+    (2, "80000000", 31, -1, 0),
+    (4, "00010002", 0, 1, 0),
 ]
 
 # (code, e, m, number, word), the value in the remark
@@ -166,8 +172,8 @@ EDGES_WRITE = [
 
 
 def check_edges():
-    for code, word, e, m in EDGES_READ:
-        assert read(code, bytes.fromhex(word)) == (0, pair_bytes(e, m)), word
+    for code, word, e, m, counted in EDGES_READ:
+        assert read(code, bytes.fromhex(word)) == (0, pair_bytes(e, m), counted), word
     for code, e, m, number, word in EDGES_WRITE:
         got = write(code, pair_bytes(e, m))
         assert got == (number, bytes.fromhex(word)), (code, e, m)
@@ -175,6 +181,40 @@ def check_edges():
     assert v_of_pair(4, 2097151) == 33554416 * SCALE
     assert v_of_pair(1, 16777215) == 33554430 * SCALE
     assert v_of_pair(15, -1) == -32768 * SCALE
+
+
+# Words that are not normal, of every kind: zeros other than 00000000, then C above 0 and a first digit 0.
+NOT_NORMAL = [bytes.fromhex(word) for word in (
+    "80000000", "01000000", "81000000", "40000000", "41000000", "C1000000", "7F000000", "FF000000",
+    "01000001", "81000001", "010FFFFF", "02000001", "05000001", "06000001", "40000001", "C00FFFFF",
+    "C000FFFF", "40000FFF", "400000FF", "4000000F", "42010000", "C2010000", "46000001", "7F000001",
+    "FF000001", "7F0FFFFF", "FF080000",
+)]
+
+# Normal words: 00000000, C 0 with any other F, and a first digit that isn't 0.
+NORMAL = [bytes.fromhex(word) for word in (
+    "00000000", "00000001", "80000001", "0000000F", "00000010", "8000FFFF", "800FFFFF", "00100000",
+    "80FFFFFF", "01100000", "81100000", "41100000", "C1100000", "411FFFFF", "41800000", "C276A000",
+    "46FFFFFF", "471FFFFF", "7F100000", "7FFFFFFF", "FFFFFFFF",
+)]
+
+
+def check_normal():
+    """The words by hand; and document 01's sentence against the search for the normal word of a value."""
+    for words, counted in ((NOT_NORMAL, 1), (NORMAL, 0)):
+        for word in words:
+            assert read(1, word)[2] == counted, word.hex()
+            assert [read(code, word)[2] for code in (0, 2, 3, 4, 5)] == [0] * 5
+    fractions = {0}
+    for digits in range(1, 7):  # so many after the leading zeros
+        low, high = 16 ** (digits - 1), 16 ** digits - 1
+        fractions.update((low, low + 1, 0xA5A5A5 % (high + 1) | 8 * low, high - 1, high))
+    for first in range(256):
+        for f in fractions:
+            word = (first * 2 ** 24 + f).to_bytes(4, "big")
+            c, first_digit = first % 128, f // 16 ** 5
+            normal = word == bytes(4) if f == 0 else first_digit != 0 or c == 0
+            assert not_normal(1, word) == (0 if normal else 1), word.hex()
 
 
 # -------------------------------------------------------------- the vectors
@@ -221,7 +261,7 @@ class Vectors:
         number, word = write(code, pair)
         self.put(
             f"w {code:08x} {pair.hex()}",
-            f"{number:03d} {0:016x} {word.hex()}----",
+            f"{number:03d} {0:016x} {word.hex()}---- -",
             f"write, {'taken' if number == 0 else 'number %d' % number}"
             + (f", code {code}" if code in (1, 2, 3, 4) else ""),
         )
@@ -238,12 +278,13 @@ class Vectors:
 
     def r(self, code, word):
         """A word read; if taken its pair is written back, now and then by all codes."""
-        number, pair = read(code, word)
+        number, pair, counted = read(code, word)
         self.put(
             f"r {code:08x} {word.hex()}----",
-            f"{number:03d} {0:016x} {pair.hex()}",
+            f"{number:03d} {0:016x} {pair.hex()} {counted}",
             f"read, {'taken' if number == 0 else 'number %d' % number}"
-            + (f", code {code}" if code in (1, 2, 3, 4) else ""),
+            + (f", code {code}" if code in (1, 2, 3, 4) else "")
+            + (", not normal" if counted else ""),
         )
         if number == 0:
             self.w(code, pair)
@@ -277,7 +318,7 @@ def near_powers(bits):
 
 
 def edges(x, rnd):
-    for code, word, e, m in EDGES_READ:
+    for code, word, e, m, _ in EDGES_READ:
         x.r(code, bytes.fromhex(word))
         x.pair_all(e, m)
         x.pair_all(e, -m)
@@ -473,15 +514,24 @@ def words_of_segyio(x, rnd):
             x.r(1, bytes.fromhex(line[:8]))
 
 
+def same_bytes(x, rnd):
+    """Words that aren't normal, and the same bytes under the other codes and under no code."""
+    for word in NOT_NORMAL:
+        for code in (1, 2, 3, 4, 0, 5):
+            x.r(code, word)
+
+
 def main():
     check_edges()
+    check_normal()
     x = Vectors()
     for seed, part in enumerate(
-        (edges, ibm_words, whole_words, gain_words, bad_codes, not_canonical, canonical, words_of_segyio)
+        (edges, ibm_words, whole_words, gain_words, bad_codes, not_canonical, canonical, words_of_segyio,
+         same_bytes)
     ):
         part(x, Numbers(1975 + seed))
     assert all(len(line) == 23 for line in x.lines)
-    assert all(len(line) == 33 for line in x.lines.values())
+    assert all(len(line) == 35 for line in x.lines.values())
     text_in = "".join(line + "\n" for line in x.lines)
     text_out = "".join(line + "\n" for line in x.lines.values())
     files = {"stdin": text_in.encode("ascii"), "stdout": text_out.encode("ascii")}
