@@ -18,11 +18,11 @@ sys.dont_write_bytecode = True
 
 from reels import (  # noqa: E402
     BINARY_FIELDS, CARDS, CODE, COUNT, GROUPS, HEADERS, INTERVAL, MOST_INTERVAL, MOST_N, MOST_T, POWERS,
-    TRACE_COUNT, TRACE_FIELDS, TRACE_HEADER, TRACE_INTERVAL, example, meaning, number_bytes,
-    pair_of_word, random_reel, read_reel, record_length, sample_size, scalar_of, smallest, some_bytes,
-    some_groups, some_sample, tagged, trace_size,
+    TRACE_COUNT, TRACE_FIELDS, TRACE_HEADER, TRACE_INTERVAL, example, make_reel, make_trace, meaning,
+    number_bytes, pair_of_word, random_reel, read_reel, record_length, sample_size, scalar_of, smallest,
+    some_bytes, some_groups, some_sample, tagged, trace_size, trace_starts, words,
 )
-from samples import is_canonical, pair_bytes, signed, v_of_pair, word_of_v  # noqa: E402
+from samples import NORMAL, NOT_NORMAL, is_canonical, pair_bytes, signed, v_of_pair, word_of_v  # noqa: E402
 
 # ----------------------------------------------------- where things stand
 
@@ -398,7 +398,7 @@ def check_places():
 
 
 def check_round_trip(rnd):
-    """The written reel means what the reel meant that the record was read from."""
+    """The written reel means what the reel meant that the record was read from; its words are normal."""
     for code in (1, 2, 3, 4):
         for t, n in ((0, 3), (1, 1), (2, 7), (3, 40)):
             reel = random_reel(rnd, code, n, t)
@@ -410,9 +410,25 @@ def check_round_trip(rnd):
                 if said[0] == "taken":
                     assert said[1:4] == (t, n, reel_length(t, n, target))
                     assert meaning(said[4]) == meaning(reel)
-                    assert read_reel(said[4], len(record)) == (("taken", t, n, len(record)), record)
+                    assert read_reel(said[4], len(record)) == (("taken", t, n, len(record), 0), record)
                     assert write_reel(record, target, said[3]) == said
                     assert write_reel(record, target, said[3] - 1) == ("refused", 10, said[3])
+
+
+def check_words_come_back(rnd):
+    """A reel of code 1 has as many words that aren't normal as come back otherwise under code 1."""
+    none = 0
+    for _ in range(300):
+        t, n = rnd.getrandbits(2), 1 + rnd.getrandbits(3)
+        some = NORMAL if rnd.getrandbits(1) else NORMAL * 3 + NOT_NORMAL
+        reel = make_reel(2000, n, 1, [
+            make_trace(some[rnd.getrandbits(16) % len(some)] for _ in range(n)) for _ in range(t)])
+        said, record = read_reel(reel, 1 << 20)
+        written = write_reel(record, 1, len(reel))[4]
+        places = [place for start in trace_starts(reel) for place in words(reel, start)]
+        assert said[4] == sum(reel[p : p + 4] != written[p : p + 4] for p in places)
+        none += said[4] == 0
+    assert 100 < none < 250, none
 
 
 def check_valid(rnd):
@@ -485,6 +501,7 @@ def main():
     check_places()
     check_example()
     check_round_trip(random.Random(1975))
+    check_words_come_back(random.Random(1977))
     check_valid(random.Random(1976))
     check_scalars()
     check_many_traces()

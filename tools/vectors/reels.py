@@ -1,11 +1,11 @@
-"""Reading of whole reels, worked out from document 01 and document 02's CR 2 alone.
+"""Reading of whole reels, worked out from document 01 and document 02's CR 2 and CR 3 alone.
 
     python3 tools/vectors/reels.py            checks this file on the paper's statements
     python3 tools/vectors/reels.py --line     answers as the program does: a reel in, its line out
 
 The rules are written here as literally as possible, so that they share
 nothing with the code they test. What is said of a reel is a tuple:
-    ("taken", T, N, length)            by reading
+    ("taken", T, N, length, count)     by reading; the count is that of the words that are not normal
     ("found", number)                  by look-up
     ("refused", number, beside)        by either; beside is the place or length of the table, or the
                                        place of number 18
@@ -20,7 +20,7 @@ from pathlib import Path
 sys.path.insert(0, str(Path(__file__).resolve().parent))
 sys.dont_write_bytecode = True
 
-from samples import pair_bytes, pair_of_v, signed, v_of_word  # noqa: E402
+from samples import NORMAL, NOT_NORMAL, not_normal, pair_bytes, pair_of_v, signed, v_of_word  # noqa: E402
 
 # ------------------------------------------------------------- the layout
 
@@ -185,6 +185,22 @@ def pair_of_word(code, word):
     return pair_bytes(twos - 280, v >> twos)
 
 
+def is_normal(word):
+    """Whether an IBM word is normal: for zero 00000000, else the first digit of F isn't 0, unless C is 0."""
+    c, f = word[0] % 128, int.from_bytes(word[1:4], "big")
+    if f == 0:
+        return word == bytes(4)
+    return f // 16 ** 5 != 0 or c == 0
+
+
+def count_not_normal(reel):
+    """How many words of a reel without a cause of 1 to 9 or 18 are not normal; 0 for codes 2 to 4."""
+    if binary_number(reel, CODE) != 1:
+        return 0
+    places = (place for start in trace_starts(reel) for place in words(reel, start))
+    return sum(1 for place in places if not is_normal(reel[place : place + 4]))
+
+
 def tagged(tag, content):
     return bytes([tag]) + len(content).to_bytes(2, "big") + content
 
@@ -240,7 +256,7 @@ def read_reel(reel, room):
         return ("refused", 10, length), None
     record = record_of(reel)
     assert len(record) == length
-    return ("taken", t, n, length), record
+    return ("taken", t, n, length, count_not_normal(reel)), record
 
 
 def read_into(reel, output):
@@ -425,7 +441,7 @@ def check_layout():
 def check_example():
     reel = example()
     assert len(reel) == 3848
-    assert program_line(reel) == b"taken 1 2 3471\n"
+    assert program_line(reel) == b"taken 1 2 3471 0\n"
     # the record by hand: 0C80 = 3200, 3C = 60, B4 = 180, 0C = 12, 07D0 = 2000
     record = (
         bytes.fromhex("010C80") + b"\x40" * 3200
@@ -438,11 +454,11 @@ def check_example():
         + bytes.fromhex("050004 00000001")
     )
     assert len(record) == 3471
-    assert read_reel(reel, 3471) == (("taken", 1, 2, 3471), record)
-    assert read_reel(reel, 70000) == (("taken", 1, 2, 3471), record)
+    assert read_reel(reel, 3471) == (("taken", 1, 2, 3471, 0), record)
+    assert read_reel(reel, 70000) == (("taken", 1, 2, 3471, 0), record)
     assert read_reel(reel, 3470) == (("refused", 10, 3471), None)
     assert read_reel(reel, 0) == (("refused", 10, 3471), None)
-    assert read_into(reel, b"\xA5" * 3480) == (("taken", 1, 2, 3471), record + b"\xA5" * 9)
+    assert read_into(reel, b"\xA5" * 3480) == (("taken", 1, 2, 3471, 0), record + b"\xA5" * 9)
     assert read_into(reel, b"\xA5" * 3470) == (("refused", 10, 3471), b"\xA5" * 3470)
 
 
@@ -452,7 +468,9 @@ def check_records(rnd):
             for n in (1, 2, 7, 100):
                 reel = random_reel(rnd, code, n, t)
                 said, record = read_reel(reel, 1 << 20)
-                assert said == ("taken", t, n, 3273 + t * (186 + 6 * n))
+                places = [place for start in trace_starts(reel) for place in words(reel, start)]
+                count = sum(not_normal(code, reel[place : place + 4]) for place in places)
+                assert said == ("taken", t, n, 3273 + t * (186 + 6 * n), count)
                 assert record[:3203] == b"\x01\x0C\x80" + bytes(b or 0x40 for b in reel[:3200])
                 assert record[3206 + 24 : 3206 + 26] == b"\x00\x00"
                 assert record[-4:] == t.to_bytes(4, "big")
@@ -483,6 +501,38 @@ def check_pairs(rnd):
         check(3, whole16(number))
         for g in (0, 1, 15, 16, 255):
             check(4, gain(g, number))
+
+
+def check_not_normal(rnd):
+    """CR 3's statements: which words are not normal, and their count."""
+    assert not any(map(is_normal, NOT_NORMAL)) and all(map(is_normal, NORMAL))
+    for _ in range(3000):  # against the search for the normal word of the value
+        word = ibm(rnd.getrandbits(1), rnd.getrandbits(7), rnd.getrandbits(24) >> rnd.getrandbits(16) % 25)
+        assert is_normal(word) == (not_normal(1, word) == 0), word.hex()
+
+    def reel(code, *traces):
+        """The same bytes of samples under any code."""
+        return make_reel(2000, len(traces[0]) // sample_size(code), code, [make_trace([trace]) for trace in traces])
+
+    # in the first trace, in the last, in all; at the first sample, at the last, at all
+    a, b = bytes.fromhex("42010000"), bytes.fromhex("41100000")
+    for traces, count in (
+        ((b + b + b, b + b + b, b + b + b), 0), ((a + b + b, b + b + b, b + b + b), 1),
+        ((b + b + a, b + b + b, b + b + b), 1), ((b + b + b, b + a + b, b + b + b), 1),
+        ((b + b + b, b + b + b, a + b + b), 1), ((b + b + b, b + b + b, b + b + a), 1),
+        ((b + a + b, b + b + b, a + b + a), 3), ((a + b + a, a + b + a, a + b + a), 6),
+        ((a + a + a, b + b + b, b + b + b), 3), ((a + a + a, a + a + a, a + a + a), 9),
+    ):
+        assert read_reel(reel(1, *traces), BUFFER)[0] == ("taken", 3, 3, 3885, count)
+        assert read_reel(reel(2, *traces), BUFFER)[0] == ("taken", 3, 3, 3885, 0)
+        assert read_reel(reel(3, *traces), BUFFER)[0] == ("taken", 3, 6, 3939, 0)
+        assert read_reel(reel(4, *traces), BUFFER)[0] == ("refused", 9, 3840)
+        assert read_reel(reel(1, *traces), 3884)[0] == ("refused", 10, 3885)
+        assert read_reel(reel(1, *traces) + b"\x00", BUFFER)[0] == ("refused", 5, 3600 + 3 * 252)
+    # every kind of word
+    assert read_reel(reel(1, b"".join(NOT_NORMAL), b"".join(NOT_NORMAL)), BUFFER)[0] == ("taken", 2, 27, 3969, 54)
+    assert read_reel(reel(1, b"".join(NORMAL)), BUFFER)[0] == ("taken", 1, 21, 3585, 0)
+    assert program_line(reel(1, *NOT_NORMAL, *NORMAL)) == b"taken 48 1 12489 27\n"
 
 
 def check_meaning(rnd):
@@ -618,8 +668,8 @@ def check_causes():
     assert said(make_reel(0, 0, 5)) == ("refused", 2, 3224)
     assert said(make_reel(0, 0, 1)) == ("refused", 3, 3220)
     assert said(make_reel(0, 1, 1)) == ("refused", 4, 3216)
-    assert said(make_reel(1, 1, 1)) == ("taken", 0, 1, 3273)
-    assert said(make_reel(32767, 8000, 4)) == ("taken", 0, 8000, 3273)
+    assert said(make_reel(1, 1, 1)) == ("taken", 0, 1, 3273, 0)
+    assert said(make_reel(32767, 8000, 4)) == ("taken", 0, 8000, 3273, 0)
     assert said(make_reel(2000, 8001, 1)) == ("refused", 3, 3220)
     assert said(make_reel(32768, 8000, 1)) == ("refused", 4, 3216)
     assert said(good + b"\x00") == ("refused", 5, 3848)
@@ -675,11 +725,11 @@ def check_look_up():
 
 def check_program_line():
     assert program_line(b"") == b"refused 1 0\n"
-    assert program_line(make_reel(2000, 2, 1)) == b"taken 0 2 3273\n"
+    assert program_line(make_reel(2000, 2, 1)) == b"taken 0 2 3273 0\n"
     assert program_line(bytes(65536)) == b"refused 2 3224\n"
     assert program_line(bytes(65537)) == b"too long\n"
     assert program_line(example() + bytes(65536)) == b"too long\n"
-    assert program_line(make_reel(1, 3428, 3, [bytes(240 + 6856)] * 3)) == b"taken 3 3428 65535\n"
+    assert program_line(make_reel(1, 3428, 3, [bytes(240 + 6856)] * 3)) == b"taken 3 3428 65535 0\n"
     assert program_line(make_reel(1, 5158, 3, [bytes(240 + 10316)] * 2)) == b"refused 10 65541\n"
 
 
@@ -693,6 +743,7 @@ def main():
     check_pairs(random.Random(1976))
     check_meaning(random.Random(1977))
     check_scalars(random.Random(1978))
+    check_not_normal(random.Random(1979))
     check_causes()
     check_look_up()
     check_program_line()

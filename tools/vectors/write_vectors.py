@@ -62,11 +62,11 @@ def digest(some):
 
 
 def check_written(record, said):
-    """The written reel gives the record again, and carries nothing else but its code."""
+    """The written reel gives the record again, its words are normal, and it carries nothing else but its code."""
     _, t, n, length, reel = said
     code = reel[3225]
     assert length == len(reel) == 3600 + t * (240 + n * sample_size(code))
-    assert read_reel(reel, len(record)) == (("taken", t, n, len(record)), record)
+    assert read_reel(reel, len(record)) == (("taken", t, n, len(record), 0), record)
     assert not any(reel[3260:3600])
     for start in range(3600, length, trace_size(code, n)):
         assert not any(reel[start + 180 : start + 240])
