@@ -16,12 +16,12 @@ stdin is a row of cases without anything between them, at most 1,000,000 bytes:
     the record
 
 The output holds bytes A5 before each call. stdout has a line for each case:
-    taken T N LENGTH DIGEST AGAIN
+    taken T N LENGTH DIGEST AGAIN COUNT
     refused NUMBER BESIDE DIGEST
 DIGEST is that of the whole output after the call, all its room. AGAIN is the
-digest of the record that reading the written reel gives. A digest is 0 at
-first, and each byte b makes (digest * 31 + b) mod 2^32 of it. All numbers are
-decimal.
+digest of the record that reading the written reel gives, and COUNT is how many
+of the reel's words are not normal: none. A digest is 0 at first, and each byte
+b makes (digest * 31 + b) mod 2^32 of it. All numbers are decimal.
 
 Trace 100,001 can't be reached here: 100,000 traces take more than 19 million
 bytes. records.py checks the rules there.
@@ -87,7 +87,8 @@ class Cases:
         line += f" {digest(output)}"
         if said[0] == "taken":
             check_written(record, said)
-            line += f" {digest(read_reel(said[4], len(record))[1])}"
+            (*_, count), again = read_reel(said[4], len(record))
+            line += f" {digest(again)} {count}"
             self.kinds[f"taken, code {code}"] += 1
         else:
             assert output == FILLING * room
