@@ -1,4 +1,4 @@
-"""Runs the program on many reels and compares its line with document 01's rules and CR 2's of document 02.
+"""Runs the program on many reels and compares its line with document 01's rules and those of document 02's CR 2 and CR 3.
 
     python3 tests/check_reel.py PATH_OF_PROGRAM [ITS ARGUMENTS]
 
@@ -26,6 +26,7 @@ from reels import (  # noqa: E402
     GROUPS, SCALARS, example, gain, make_reel, make_trace, program_line, random_reel, sample_size, some_bytes,
     some_groups, some_sample, trace_size,
 )
+from samples import NORMAL, NOT_NORMAL  # noqa: E402
 
 CODES = (1, 2, 3, 4)
 SECONDS = 600  # a run that takes as long hangs
@@ -36,11 +37,18 @@ class Inputs:
         self.all = []  # what it is in words, the bytes, the line, the pause between pieces or None
         self.seen = set()
 
-    def put(self, what, data, line=None, pause=None):
-        """An input; the line where it was worked out by hand."""
+    def put(self, what, data, line=None, count=None, pause=None):
+        """An input; its line where it was worked out by hand, without the count of words that aren't normal.
+
+        That count stands beside it where it is known as well: under codes 2 to 4, and without traces, it is 0.
+        """
         data = bytes(data)
         by_rules = program_line(data)
         if line is not None:
+            if line.startswith("taken"):
+                if data[3225] != 1 or line.startswith("taken 0 "):
+                    count = 0
+                line += f" {by_rules.split()[-1].decode('ascii') if count is None else count}"
             assert by_rules == line.encode("ascii") + b"\n", (what, line, by_rules)
         if (data, pause) not in self.seen:
             self.seen.add((data, pause))
@@ -58,7 +66,7 @@ def traces(rnd, code, n, t, faults=None):
 
 
 def lengths(x, rnd):
-    x.put("the paper's example", example(), "taken 1 2 3471")
+    x.put("the paper's example", example(), "taken 1 2 3471", 0)
     x.put("empty input", b"", "refused 1 0")
     x.put("1 byte", b"\x40", "refused 1 1")
     for count in (1, 2, 9, 10, 255, 256, 1000, 3199, 3200, 3201, 3224, 3226, 3598, 3599):
@@ -430,6 +438,88 @@ def small_changes(x, rnd):
             x.put(f"{what}, {more} bytes added", reel + some_bytes(rnd, more))
 
 
+def not_normal(x, rnd):
+    """Words that aren't normal: of every kind, in some traces, under every code, and beside refusals."""
+    def any_of(some):
+        return some[rnd.getrandbits(16) % len(some)]
+
+    def put(what, t, n, chosen, by_hand=None):
+        """A reel of code 1 whose sample k of trace i, both from 1, isn't normal where it is chosen."""
+        picked = [[bool(chosen(i, k)) for k in range(1, n + 1)] for i in range(1, t + 1)]
+        count = sum(map(sum, picked))
+        assert by_hand in (None, count), what
+        reel = make_reel(2000, n, 1, [
+            make_trace(any_of(NOT_NORMAL if one else NORMAL) for one in trace) for trace in picked])
+        x.put(f"not normal: {what}, T {t}, N {n}", reel, f"taken {t} {n} {3273 + t * (186 + 6 * n)}", count)
+
+    # every kind: alone, behind a zero, all in one trace, each in its own
+    for words, count in ((NOT_NORMAL, 1), (NORMAL, 0)):
+        for word in words:
+            x.put(f"the word {word.hex()}", make_reel(2000, 1, 1, [make_trace([word])]), "taken 1 1 3465", count)
+            x.put(f"the word {word.hex()} in two traces", make_reel(2000, 2, 1, [make_trace([bytes(4), word])] * 2),
+                  "taken 2 2 3669", 2 * count)
+    x.put("words that aren't normal, in one trace", make_reel(2000, 27, 1, [make_trace(NOT_NORMAL)]), "taken 1 27 3621", 27)
+    x.put("normal words, in one trace", make_reel(2000, 21, 1, [make_trace(NORMAL)]), "taken 1 21 3585", 0)
+    x.put("words of both kinds, each in its trace",
+          make_reel(2000, 1, 1, [make_trace([word]) for word in NOT_NORMAL + NORMAL]), "taken 48 1 12489", 27)
+    # at one sample, at the first or last of each trace, in the first or last trace
+    for i in (1, 2, 3):
+        for k in (1, 2, 3, 4):
+            put(f"sample {k} of trace {i}", 3, 4, lambda a, b: (a, b) == (i, k), 1)
+    for t, n in ((1, 1), (3, 1), (1, 7), (4, 2), (2, 300)):
+        put("none", t, n, lambda i, k: False, 0)
+        put("all", t, n, lambda i, k: True, t * n)
+        put("the first of each trace", t, n, lambda i, k: k == 1, t)
+        put("the last of each trace", t, n, lambda i, k: k == n, t)
+        put("all but the last of each trace", t, n, lambda i, k: k < n, t * (n - 1))
+        put("the first trace", t, n, lambda i, k: i == 1, n)
+        put("the last trace", t, n, lambda i, k: i == t, n)
+        put("all but the first trace", t, n, lambda i, k: i > 1, (t - 1) * n)
+    for _ in range(40):
+        put("any", 1 + rnd.getrandbits(2), 1 + rnd.getrandbits(5), lambda i, k: rnd.getrandbits(1))
+    # counts of one to five digits
+    for count in (9, 10, 11, 99, 100, 101, 255, 256, 999, 1000, 1001):
+        put(f"{count} words", 2, 501, lambda i, k: 501 * (i - 1) + k <= count, count)
+    put("all", 1, 8000, lambda i, k: True, 8000)
+    put("all", 196, 19, lambda i, k: True, 3724)
+    put("all", 9, 1122, lambda i, k: True, 10098)
+    put("10000 words", 3, 3428, lambda i, k: 3428 * (i - 1) + k <= 10000, 10000)
+    put("all but one", 3, 3428, lambda i, k: (i, k) != (2, 1000), 10283)
+
+    # the same bytes under the other codes, a sample of code 3 being half a word; a gain word begins with 00
+    for t, n in ((1, 1), (2, 3), (3, 40)):
+        words = [[any_of(NOT_NORMAL) for _ in range(n)] for _ in range(t)]
+        made = [make_trace(some) for some in words]
+        length = 3273 + t * (186 + 6 * n)
+        x.put(f"not normal, code 1, T {t}, N {n}", make_reel(2000, n, 1, made), f"taken {t} {n} {length}", t * n)
+        x.put(f"those bytes, code 2, T {t}, N {n}", make_reel(2000, n, 2, made), f"taken {t} {n} {length}")
+        x.put(f"those bytes, code 3, T {t}, N {2 * n}", make_reel(2000, 2 * n, 3, made),
+              f"taken {t} {2 * n} {length + 6 * n * t}")
+        x.put(f"those bytes, code 4, T {t}, N {n}", make_reel(2000, n, 4, made), "refused 9 3840")
+        gains = [make_trace(b"\x00" + word[1:] for word in some) for some in words]
+        x.put(f"those bytes after 00, code 4, T {t}, N {n}", make_reel(2000, n, 4, gains), f"taken {t} {n} {length}")
+
+    # beside a refusal there is no count
+    def refused(what, line, fields=None, t=3, n=2, interval=2000, code=1, more=b"", samples=None):
+        made = [make_trace([any_of(NOT_NORMAL)] * (samples or n), (fields or {}).get(i)) for i in range(1, t + 1)]
+        x.put(f"not normal, and {what}", make_reel(interval, n, code, made) + more, line)
+
+    refused("code 0", "refused 2 3224", code=0)
+    refused("code 5", "refused 2 3224", code=5)
+    refused("N 8001", "refused 3 3220", n=8001, samples=2)
+    refused("interval 0", "refused 4 3216", interval=0)
+    refused("a byte too many", "refused 5 4344", more=b"\x00")
+    refused("a word too many", "refused 5 4344", more=NOT_NORMAL[0])
+    refused("code 4", "refused 9 3840", code=4)
+    for i in (1, 2, 3):
+        for field, number in ((115, 7), (117, 8), (69, 18), (71, 18)):
+            refused(f"field {field} is 7 in trace {i}", f"refused {number} {3600 + (i - 1) * 248 + field - 1}", {i: {field: 7}})
+    for t, n, needed in ((2, 5158, 65541), (3, 3429, 65553), (9, 1123, 65589)):
+        refused(f"a record of {needed} bytes", f"refused 10 {needed}", t=t, n=n)
+    refused("one trace more than goes in", "too long", t=197, n=19)
+    x.put("no trace left of words that aren't normal", make_reel(2000, 2, 1, [make_trace(NOT_NORMAL[:2])])[:-1], "refused 5 3600")
+
+
 def pieces(x, rnd):
     """Input that arrives bit by bit is the same input."""
     for what, data in (
@@ -444,7 +534,7 @@ def all_inputs():
     x = Inputs()
     for seed, part in enumerate((
         lengths, good_reels, codes, counts, intervals, leftovers, trace_counts, trace_intervals,
-        gain_bytes, output_too_short, several_causes, small_changes, pieces, scalars,
+        gain_bytes, output_too_short, several_causes, small_changes, pieces, scalars, not_normal,
     )):
         part(x, random.Random(1975 + seed))
     return x.all
