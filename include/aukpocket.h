@@ -59,6 +59,11 @@
  * all. The characters are those of EBCDIC code page 037 as Unicode publishes it (15 is 85, 25 is 0A). Every card byte has a character of
  * its own, so a line may hold control characters, 0A among them: the listing is not for a terminal as it is, and a line ends at its 81st
  * byte alone.
+ *
+ * An IBM word (code 1) is normal where the first hexadecimal digit of its fraction isn't 0, unless its characteristic is 0; of the words of
+ * zero 00000000 alone is. Every other word has the value of a normal one, which is what writing gives: 80000000 and 7F000000 are zero,
+ * 42010000 is 1 and so is the normal 41100000. A record has the value and no word, so `not_normal` tells while reading how many of the
+ * reel's words weren't normal. Reels of codes 2 to 4 count none.
  */
 #ifndef AUKPOCKET_H
 #define AUKPOCKET_H
@@ -70,14 +75,22 @@
 extern "C" {
 #endif
 
+/* One more with each change of a structure or an array here: what was compiled under another number has to be compiled again.
+ *
+ *   1  as it was first; that header doesn't define the number
+ *   2  `not_normal` at the end of aukpocket_reel_answer and aukpocket_sample_answer (0.3.0) */
+#define AUKPOCKET_VERSION 2
+
 /* What a call on a whole reel or record answers: the traces, the samples of each, and the length of what was written. Beside a listing
- * traces and samples are 0. */
+ * traces and samples are 0. Reading a reel of code 1 also counts its words that aren't normal, 0 to traces * samples; `not_normal` is 0
+ * under codes 2 to 4, beside a refusal, 10 too, and in every other call. */
 struct aukpocket_reel_answer {
     uint64_t number;
     uint64_t traces;
     uint64_t samples;
     uint64_t length;
     uint64_t beside;
+    uint64_t not_normal;
 };
 
 /* What looking up a field answers: its signed number. */
@@ -87,10 +100,12 @@ struct aukpocket_field_answer {
     uint64_t beside;
 };
 
-/* What a single-sample call answers. */
+/* What a single-sample call answers. Reading a word of code 1 that isn't normal also gives 1 in `not_normal`, which is 0 for every other
+ * word, under codes 2 to 4, beside a refusal, and in aukpocket_write_pair. */
 struct aukpocket_sample_answer {
     uint64_t number;
     uint64_t beside;
+    uint64_t not_normal;
 };
 
 /* Reads a reel and writes its record to the front of `record`. A record of T traces of N samples is 3273 + T * (186 + 6 * N) bytes.

@@ -13,6 +13,7 @@ mod c {
         pub samples: u64,
         pub length: u64,
         pub beside: u64,
+        pub not_normal: u64,
     }
 
     #[repr(C)]
@@ -26,12 +27,13 @@ mod c {
     pub struct SampleAnswer {
         pub number: u64,
         pub beside: u64,
+        pub not_normal: u64,
     }
 
     // The sizes that a C compiler gives these structures. tests/command.py holds the header to the same.
-    const _: () = assert!(size_of::<ReelAnswer>() == 40);
+    const _: () = assert!(size_of::<ReelAnswer>() == 48);
     const _: () = assert!(size_of::<FieldAnswer>() == 16);
-    const _: () = assert!(size_of::<SampleAnswer>() == 16);
+    const _: () = assert!(size_of::<SampleAnswer>() == 24);
     const _: () = assert!(size_of::<usize>() == 8);
 
     extern "C" {
@@ -81,6 +83,22 @@ pub struct Taken {
     pub length: usize,
 }
 
+/// A reel that was read: as above, and how many of its words weren't normal, 0 under codes 2 to 4.
+#[derive(Clone, Copy, Debug, PartialEq, Eq)]
+pub struct ReelRead {
+    pub traces: u64,
+    pub samples: u64,
+    pub length: usize,
+    pub not_normal: u64,
+}
+
+/// A word that was read: its canonical pair, and whether it is an IBM word that isn't normal.
+#[derive(Clone, Copy, Debug, PartialEq, Eq)]
+pub struct WordRead {
+    pub pair: [u8; 6],
+    pub not_normal: bool,
+}
+
 /// A refusal: the number of its cause, 1 to 18, and what stands beside it: a place, counted from 0, or a length.
 #[derive(Clone, Copy, Debug, PartialEq, Eq)]
 pub struct Refusal {
@@ -104,13 +122,20 @@ pub fn reel_length(traces: u64, samples: u64, code: u32) -> Option<u64> {
     traces.checked_mul(trace)?.checked_add(3600)
 }
 
-/// Reads a reel and writes its record to the front of the output.
-pub fn read_reel(reel: &[u8], record: &mut [u8]) -> Result<Taken, Refusal> {
+/// Reads a reel, writes its record to the front of the output, and counts its words that aren't normal.
+pub fn read_reel(reel: &[u8], record: &mut [u8]) -> Result<ReelRead, Refusal> {
     let room = record.len();
     // SAFETY: each pointer is a slice's own, with its length.
     let answer =
         unsafe { c::aukpocket_read_reel(reel.as_ptr(), reel.len(), record.as_mut_ptr(), room) };
-    counts(answer, room)
+    let read = reel_read(answer, room)?;
+    let words = read.traces.saturating_mul(read.samples);
+    assert!(
+        read.not_normal <= words,
+        "the library tells of {} words that aren't normal on a reel of {words}",
+        read.not_normal
+    );
+    Ok(read)
 }
 
 /// Writes a record as a reel under a target code to the front of the output.
@@ -120,17 +145,24 @@ pub fn write_reel(record: &[u8], code: u32, reel: &mut [u8]) -> Result<Taken, Re
     let answer = unsafe {
         c::aukpocket_write_reel(record.as_ptr(), record.len(), code, reel.as_mut_ptr(), room)
     };
-    counts(answer, room)
+    taken(answer, room)
 }
 
 /// Looks up the field that begins at a byte number, counted from 1: of the binary header for trace 0, else of that trace's header.
 pub fn look_up(reel: &[u8], trace: usize, byte_number: u32) -> Result<i32, Refusal> {
     // SAFETY: the pointer is the slice's own, with its length.
     let answer = unsafe { c::aukpocket_look_up(reel.as_ptr(), reel.len(), trace, byte_number) };
-    match answer.number {
-        0 => Ok(answer.value),
-        number => Err(refusal(number.into(), answer.beside)),
+    let c::FieldAnswer {
+        number,
+        value,
+        beside,
+    } = answer;
+    if number != 0 {
+        assert!(value == 0, "the library tells of a field beside a refusal");
+        return Err(refusal(number.into(), beside));
     }
+    assert!(beside == 0, "the library tells of a place without a cause");
+    Ok(value)
 }
 
 /// The listing of a record's cards.
@@ -145,7 +177,7 @@ pub fn list_cards(record: &[u8]) -> Result<[u8; LISTING_LENGTH], Refusal> {
             LISTING_LENGTH,
         )
     };
-    let taken = counts(answer, LISTING_LENGTH)?;
+    let taken = taken(answer, LISTING_LENGTH)?;
     assert!(
         (taken.traces, taken.samples, taken.length) == (0, 0, LISTING_LENGTH),
         "the library tells of other counts than a listing has"
@@ -167,18 +199,23 @@ pub fn take_cards(record: &[u8], listing: &[u8], out: &mut [u8]) -> Result<Taken
             room,
         )
     };
-    counts(answer, room)
+    taken(answer, room)
 }
 
-/// The canonical pair of a word under a code.
-pub fn read_word(code: u32, word: [u8; 4]) -> Result<[u8; 6], Refusal> {
+/// The canonical pair of a word under a code, and whether the word isn't normal.
+pub fn read_word(code: u32, word: [u8; 4]) -> Result<WordRead, Refusal> {
     let mut pair = [0; 6];
     // SAFETY: the header asks for four bytes and for six, and the arrays have as many.
     let answer = unsafe { c::aukpocket_read_word(code, word.as_ptr(), pair.as_mut_ptr()) };
-    match answer.number {
-        0 => Ok(pair),
-        number => Err(refusal(number, answer.beside)),
-    }
+    let not_normal = sample_not_normal(answer)?;
+    assert!(
+        not_normal <= 1,
+        "the library tells of {not_normal} words that aren't normal in one"
+    );
+    Ok(WordRead {
+        pair,
+        not_normal: not_normal == 1,
+    })
 }
 
 /// The word of a pair under a target code.
@@ -186,25 +223,28 @@ pub fn write_pair(code: u32, pair: [u8; 6]) -> Result<[u8; 4], Refusal> {
     let mut word = [0; 4];
     // SAFETY: the header asks for six bytes and for four, and the arrays have as many.
     let answer = unsafe { c::aukpocket_write_pair(code, pair.as_ptr(), word.as_mut_ptr()) };
-    match answer.number {
-        0 => Ok(word),
-        number => Err(refusal(number, answer.beside)),
-    }
+    let not_normal = sample_not_normal(answer)?;
+    assert!(
+        not_normal == 0,
+        "the library tells of words that aren't normal where it reads none"
+    );
+    Ok(word)
 }
 
 /// What an answer says, for an output of that room. Each member is named, so that none is dropped unnoticed. A length beyond the room would
 /// tell of bytes that aren't there: another library was linked.
-fn counts(answer: c::ReelAnswer, room: usize) -> Result<Taken, Refusal> {
+fn reel_read(answer: c::ReelAnswer, room: usize) -> Result<ReelRead, Refusal> {
     let c::ReelAnswer {
         number,
         traces,
         samples,
         length,
         beside,
+        not_normal,
     } = answer;
     if number != 0 {
         assert!(
-            (traces, samples, length) == (0, 0, 0),
+            (traces, samples, length, not_normal) == (0, 0, 0, 0),
             "the library tells of counts beside a refusal"
         );
         return Err(refusal(number, beside));
@@ -215,11 +255,49 @@ fn counts(answer: c::ReelAnswer, room: usize) -> Result<Taken, Refusal> {
         length <= room,
         "the library tells of {length} bytes in an output of {room}"
     );
+    Ok(ReelRead {
+        traces,
+        samples,
+        length,
+        not_normal,
+    })
+}
+
+/// What the answer of a call that reads no words says.
+fn taken(answer: c::ReelAnswer, room: usize) -> Result<Taken, Refusal> {
+    let ReelRead {
+        traces,
+        samples,
+        length,
+        not_normal,
+    } = reel_read(answer, room)?;
+    assert!(
+        not_normal == 0,
+        "the library tells of words that aren't normal where it reads none"
+    );
     Ok(Taken {
         traces,
         samples,
         length,
     })
+}
+
+/// How many words that aren't normal the answer of a single-sample call tells of.
+fn sample_not_normal(answer: c::SampleAnswer) -> Result<u64, Refusal> {
+    let c::SampleAnswer {
+        number,
+        beside,
+        not_normal,
+    } = answer;
+    if number != 0 {
+        assert!(
+            not_normal == 0,
+            "the library tells of counts beside a refusal"
+        );
+        return Err(refusal(number, beside));
+    }
+    assert!(beside == 0, "the library tells of a place without a cause");
+    Ok(not_normal)
 }
 
 fn refusal(number: u64, beside: u64) -> Refusal {
@@ -249,8 +327,9 @@ mod tests {
     fn a_reel_and_its_record() {
         let reel = example();
         let mut record = vec![0xEE; 3471 + 5];
-        let taken = read_reel(&reel, &mut record).unwrap();
-        assert_eq!((taken.traces, taken.samples, taken.length), (1, 2, 3471));
+        let read = read_reel(&reel, &mut record).unwrap();
+        assert_eq!((read.traces, read.samples, read.length), (1, 2, 3471));
+        assert_eq!(read.not_normal, 0);
         assert_eq!(record_length(1, 2), Some(3471));
         assert_eq!(record[3471..], [0xEE; 5]);
         let mut again = vec![0xEE; 3848];
@@ -350,10 +429,44 @@ mod tests {
     #[test]
     fn samples() {
         let pair = [0xFF, 0xFD, 0xFF, 0xFF, 0xFC, 0x4B];
-        assert_eq!(read_word(1, [0xC2, 0x76, 0xA0, 0]), Ok(pair));
+        let read = read_word(1, [0xC2, 0x76, 0xA0, 0]).unwrap();
+        assert_eq!((read.pair, read.not_normal), (pair, false));
         assert_eq!(write_pair(1, pair), Ok([0xC2, 0x76, 0xA0, 0]));
         assert_eq!(write_pair(2, pair).unwrap_err().number, 14);
         assert_eq!(read_word(4, [1, 0, 0, 0]).unwrap_err().number, 9);
         assert_eq!(read_word(5, [0; 4]).unwrap_err().number, 2);
+    }
+
+    /// Words at the edge of what is normal, each alone and all on a reel; and the same bytes as whole numbers.
+    #[test]
+    fn words_not_normal() {
+        let words = [
+            (0x0000_0000, false),
+            (0x0000_0001, false),
+            (0x8000_0001, false),
+            (0x000F_FFFF, false),
+            (0x4110_0000, false),
+            (0xFFF0_0000, false),
+            (0x8000_0000, true),
+            (0x7F00_0000, true),
+            (0xC100_0000, true),
+            (0x0100_0000, true),
+            (0x4201_0000, true),
+            (0xC10F_FFFF, true),
+            (0x0100_0001, true),
+        ];
+        for (word, is_not) in words {
+            let word = u32::to_be_bytes(word);
+            let read = |code| read_word(code, word).unwrap().not_normal;
+            assert_eq!((read(1), read(2)), (is_not, false), "{word:02X?}");
+        }
+        let mut reel = example();
+        reel.truncate(3840);
+        reel.extend(words.iter().flat_map(|(word, _)| u32::to_be_bytes(*word)));
+        reel[3221] = words.len() as u8;
+        let mut record = vec![0; record_length(1, words.len() as u64).unwrap() as usize];
+        assert_eq!(read_reel(&reel, &mut record).unwrap().not_normal, 7);
+        reel[3225] = 2;
+        assert_eq!(read_reel(&reel, &mut record).unwrap().not_normal, 0);
     }
 }
