@@ -128,14 +128,7 @@ pub fn read_reel(reel: &[u8], record: &mut [u8]) -> Result<ReelRead, Refusal> {
     // SAFETY: each pointer is a slice's own, with its length.
     let answer =
         unsafe { c::aukpocket_read_reel(reel.as_ptr(), reel.len(), record.as_mut_ptr(), room) };
-    let read = reel_read(answer, room)?;
-    let words = read.traces.saturating_mul(read.samples);
-    assert!(
-        read.not_normal <= words,
-        "the library tells of {} words that aren't normal on a reel of {words}",
-        read.not_normal
-    );
-    Ok(read)
+    reel_read(answer, room)
 }
 
 /// Writes a record as a reel under a target code to the front of the output.
@@ -207,15 +200,8 @@ pub fn read_word(code: u32, word: [u8; 4]) -> Result<WordRead, Refusal> {
     let mut pair = [0; 6];
     // SAFETY: the header asks for four bytes and for six, and the arrays have as many.
     let answer = unsafe { c::aukpocket_read_word(code, word.as_ptr(), pair.as_mut_ptr()) };
-    let not_normal = sample_not_normal(answer)?;
-    assert!(
-        not_normal <= 1,
-        "the library tells of {not_normal} words that aren't normal in one"
-    );
-    Ok(WordRead {
-        pair,
-        not_normal: not_normal == 1,
-    })
+    let not_normal = sample_not_normal(answer, 1)? == 1;
+    Ok(WordRead { pair, not_normal })
 }
 
 /// The word of a pair under a target code.
@@ -223,16 +209,12 @@ pub fn write_pair(code: u32, pair: [u8; 6]) -> Result<[u8; 4], Refusal> {
     let mut word = [0; 4];
     // SAFETY: the header asks for six bytes and for four, and the arrays have as many.
     let answer = unsafe { c::aukpocket_write_pair(code, pair.as_ptr(), word.as_mut_ptr()) };
-    let not_normal = sample_not_normal(answer)?;
-    assert!(
-        not_normal == 0,
-        "the library tells of words that aren't normal where it reads none"
-    );
+    sample_not_normal(answer, 0)?;
     Ok(word)
 }
 
 /// What an answer says, for an output of that room. Each member is named, so that none is dropped unnoticed. A length beyond the room would
-/// tell of bytes that aren't there: another library was linked.
+/// tell of bytes that aren't there, a count beyond the samples of words: another library was linked.
 fn reel_read(answer: c::ReelAnswer, room: usize) -> Result<ReelRead, Refusal> {
     let c::ReelAnswer {
         number,
@@ -255,6 +237,7 @@ fn reel_read(answer: c::ReelAnswer, room: usize) -> Result<ReelRead, Refusal> {
         length <= room,
         "the library tells of {length} bytes in an output of {room}"
     );
+    check_not_normal(not_normal, traces.saturating_mul(samples));
     Ok(ReelRead {
         traces,
         samples,
@@ -271,10 +254,7 @@ fn taken(answer: c::ReelAnswer, room: usize) -> Result<Taken, Refusal> {
         length,
         not_normal,
     } = reel_read(answer, room)?;
-    assert!(
-        not_normal == 0,
-        "the library tells of words that aren't normal where it reads none"
-    );
+    check_not_normal(not_normal, 0);
     Ok(Taken {
         traces,
         samples,
@@ -282,8 +262,8 @@ fn taken(answer: c::ReelAnswer, room: usize) -> Result<Taken, Refusal> {
     })
 }
 
-/// How many words that aren't normal the answer of a single-sample call tells of.
-fn sample_not_normal(answer: c::SampleAnswer) -> Result<u64, Refusal> {
+/// How many words that aren't normal the answer of a single-sample call tells of, which reads that many words.
+fn sample_not_normal(answer: c::SampleAnswer, words: u64) -> Result<u64, Refusal> {
     let c::SampleAnswer {
         number,
         beside,
@@ -297,7 +277,16 @@ fn sample_not_normal(answer: c::SampleAnswer) -> Result<u64, Refusal> {
         return Err(refusal(number, beside));
     }
     assert!(beside == 0, "the library tells of a place without a cause");
+    check_not_normal(not_normal, words);
     Ok(not_normal)
+}
+
+/// Ends the run where a call that reads that many words tells of more that aren't normal.
+fn check_not_normal(not_normal: u64, words: u64) {
+    assert!(
+        not_normal <= words,
+        "the library tells of {not_normal} words that aren't normal where {words} were read"
+    );
 }
 
 fn refusal(number: u64, beside: u64) -> Refusal {
@@ -311,6 +300,7 @@ fn refusal(number: u64, beside: u64) -> Refusal {
 #[cfg(test)]
 mod tests {
     use super::*;
+    use std::panic::catch_unwind;
 
     /// The reel of document 01: one trace of two samples, 41100000 and C276A000.
     fn example() -> Vec<u8> {
@@ -468,5 +458,38 @@ mod tests {
         assert_eq!(read_reel(&reel, &mut record).unwrap().not_normal, 7);
         reel[3225] = 2;
         assert_eq!(read_reel(&reel, &mut record).unwrap().not_normal, 0);
+    }
+
+    /// Counts that no call gives are never handed on.
+    #[test]
+    fn counts_that_are_wrong() {
+        let reel = |number, not_normal| c::ReelAnswer {
+            number,
+            traces: 3 * u64::from(number == 0),
+            samples: 2 * u64::from(number == 0),
+            length: 9 * u64::from(number == 0),
+            beside: 7 * u64::from(number != 0),
+            not_normal,
+        };
+        let sample = |number, not_normal| c::SampleAnswer {
+            number,
+            beside: 0,
+            not_normal,
+        };
+        let read_fails = |answer| catch_unwind(|| reel_read(answer, 9)).is_err();
+        let taken_fails = |answer| catch_unwind(|| taken(answer, 9)).is_err();
+        let sample_fails =
+            |answer, words| catch_unwind(|| sample_not_normal(answer, words)).is_err();
+        assert_eq!(reel_read(reel(0, 6), 9).unwrap().not_normal, 6);
+        assert!(read_fails(reel(0, 7)));
+        assert!(read_fails(reel(5, 1)));
+        assert_eq!(taken(reel(0, 0), 9).unwrap().traces, 3);
+        assert!(taken_fails(reel(0, 1)));
+        assert!(taken_fails(reel(14, 1)));
+        assert_eq!(sample_not_normal(sample(0, 1), 1), Ok(1));
+        assert!(sample_fails(sample(0, 2), 1));
+        assert!(sample_fails(sample(0, 1), 0));
+        assert_eq!(sample_not_normal(sample(9, 0), 1).unwrap_err().number, 9);
+        assert!(sample_fails(sample(9, 1), 1));
     }
 }
