@@ -29,6 +29,9 @@ A record leaves out what carries no meaning in revision 0: bytes 3261 to 3600, a
 each trace header. read, info and verify count those that aren't 0 and warn of them on standard error;
 the exit status stays as it is.
 
+Of a reel in code 1 they also say how many words aren't normal: an old recorder, or a program in between,
+wrote them otherwise than a modern one does. The values are the same.
+
 Places are counted from 0, byte numbers, as in the standard, from 1. A whole reel and its record have
 to fit in memory.
 ";
@@ -46,6 +49,13 @@ const LEFT_OUT: &str = "
 The record leaves out bytes 3261 to 3600, and bytes 181 to 240 of each trace header, which carry no
 meaning in revision 0. Those that aren't 0 are counted, and a warning on standard error says how many;
 the exit status stays as it is.
+";
+
+const NOT_NORMAL: &str = "
+Of a reel in code 1 it says how many words aren't normal, of how many, and the share. An IBM word is normal
+where the first hexadecimal digit of its fraction isn't 0, unless its characteristic is 0; of the words of
+zero 00000000 alone is. An old recorder, or a program in between, wrote words that a modern one doesn't. Their
+values are the same and the record holds them exactly; a reel written from the record has the normal words.
 ";
 
 const SCALARS: &str = "
@@ -66,7 +76,7 @@ aukpocket read REEL RECORD [--force]
 
 Reads the reel and writes its canonical record: the cards, every header number and the exact value of
 every sample. Two reels have the same record exactly when they mean the same.
-{SCALARS}{LEFT_OUT}{OUTPUT}{STATUS}"
+{SCALARS}{NOT_NORMAL}{LEFT_OUT}{OUTPUT}{STATUS}"
     )
 }
 
@@ -120,6 +130,9 @@ interval and the code; for a record, the codes that hold it; and the first cards
 page 037, a dot for a control character). A refused file is shown as far as its headers go.
 
   --cards COUNT   how many cards, 0 to 40; 5 unless given
+{NOT_NORMAL}
+Words are counted while the reel is read into memory, so its record has to fit there too; where it doesn't,
+a warning says that they weren't counted. A record has values and no words: nothing is said of it.
 {LEFT_OUT}{STATUS}"
     )
 }
@@ -175,6 +188,10 @@ and compares the records byte for byte. Says which codes hold the reel's samples
 written reel and a second record have to fit in memory.
 
 Neither writes a file.
+{NOT_NORMAL}
+So a reel written in the reel's own code may have other bytes than the reel, and the same record: where a
+word wasn't normal (in code 4: a gain wasn't the smallest), a card byte was 00, trace field 115 or 117 was 0,
+elevations or coordinates had another scalar than the record's, or a byte is left out, as below.
 {LEFT_OUT}
 Exit status: 0 fine, 1 wrong words or trouble with a file or memory, 2 the reel is refused, 3 the file is
 not the reel's record; or a record came back otherwise or the reel's own code doesn't hold it, which must
@@ -190,11 +207,12 @@ aukpocket check < REEL
 
 Reads a reel of any size from standard input and prints one line:
 
-  taken T N LENGTH         T traces of N samples, and the length of the record
+  taken T N LENGTH COUNT   T traces of N samples, the length of the record, and how many words aren't normal
   refused NUMBER BESIDE    the number of the cause, and the place or length beside it
 
 It is the line of the program check_reel without that program's limits: there is neither `too long` nor
-a refusal by 10.
+a refusal by 10. COUNT is 0 in codes 2 to 4; `aukpocket read --help` says which words are normal. The reel and
+its record have to fit in memory.
 Beside a refusal the sentence stands on standard error. Writes no file.
 {STATUS}"
     )

@@ -1,6 +1,6 @@
 //! Whether a file is a reel or a record, by its content.
 
-use aukpocket::{read_reel, write_reel, Refusal, Taken};
+use aukpocket::{read_reel, write_reel, ReelRead, Refusal, Taken};
 
 /// Whether a file is to be judged as a record: it begins as one, and isn't refused as one and taken as a reel.
 pub fn is_record(bytes: &[u8]) -> bool {
@@ -21,7 +21,7 @@ pub fn record_fault(answer: Result<Taken, Refusal>) -> Option<Refusal> {
 }
 
 /// Why a reel isn't taken. With no room for the record, a reel that would be taken is refused by 10 with the length of its record.
-pub fn reel_fault(answer: Result<Taken, Refusal>) -> Option<Refusal> {
+pub fn reel_fault(answer: Result<ReelRead, Refusal>) -> Option<Refusal> {
     answer.err().filter(|r| r.number != 10)
 }
 

@@ -9,17 +9,19 @@ mod kinds;
 mod layout;
 mod left_out;
 mod listing;
+mod not_normal;
 mod refusals;
 mod scalars;
 mod sha256;
 mod system;
 mod trouble;
 
-use aukpocket::{list_cards, look_up, read_reel, take_cards, write_reel, Refusal, Taken};
+use aukpocket::{list_cards, look_up, read_reel, take_cards, write_reel, ReelRead, Refusal, Taken};
 use files::{step, Target};
 use kinds::{is_record, is_reel, record_fault, reel_fault};
-use layout::{number, Shape};
+use layout::Shape;
 use listing::Encoding;
+use not_normal::NotNormal;
 use std::env;
 use std::ffi::{OsStr, OsString};
 use std::fmt::Write as _;
@@ -296,6 +298,11 @@ fn extent(traces: u64, samples: u64) -> String {
     )
 }
 
+/// How many words aren't normal, behind what joins it to a sentence; nothing where there is nothing to tell.
+fn joined(before: &str, counted: Option<NotNormal>) -> String {
+    counted.map_or(String::new(), |counted| format!("{before}{counted}"))
+}
+
 fn code_name(code: u16) -> &'static str {
     match code {
         1 => ", IBM floating point",
@@ -306,16 +313,17 @@ fn code_name(code: u16) -> &'static str {
     }
 }
 
-/// The record of a reel. Its length is worked out from the reel's header; where that can't be, the library tells it.
-fn record_of(reel: &[u8], name: &str) -> Result<(Vec<u8>, Taken), Trouble> {
+/// The record of a reel, and what reading answers. Its length is worked out from the reel's header; where that can't be, the library tells
+/// it.
+fn record_of(reel: &[u8], name: &str) -> Result<(Vec<u8>, ReelRead), Trouble> {
     let mut room = Shape::of_reel(reel).record_length();
     loop {
         step(format_args!("making the record of {name}"), room);
         let mut record = files::buffer(room, format_args!("{name}: its record"))?;
         match read_reel(reel, &mut record) {
-            Ok(taken) => {
-                record.truncate(taken.length);
-                return Ok((record, taken));
+            Ok(read) => {
+                record.truncate(read.length);
+                return Ok((record, read));
             }
             Err(Refusal { number: 10, beside }) if beside > room => room = beside,
             Err(refusal) => return Err(Trouble::refused(name, refusals::of_reel(reel, refusal))),
@@ -352,14 +360,15 @@ fn read(words: &Words) -> Result<(), Trouble> {
     let target = Target::new(to, words.force, &[from])?;
     let reel = files::load(from)?;
     let name = from.display().to_string();
-    let (record, taken) = record_of(&reel, &name)?;
+    let (record, read) = record_of(&reel, &name)?;
     target.put(&record)?;
     warn_of_left_out(&reel, &name);
     tell(&format!(
-        "{name}: {}; {}: its record, {} bytes\n",
-        extent(taken.traces, taken.samples),
+        "{name}: {}{}; {}: its record, {} bytes\n",
+        extent(read.traces, read.samples),
+        joined(", ", NotNormal::of(&reel, read)),
         to.display(),
-        taken.length
+        read.length
     ))
 }
 
@@ -434,6 +443,13 @@ fn info(words: &Words) -> Result<(), Trouble> {
 
 fn info_of_reel(reel: &[u8], name: &str, cards: usize) -> Result<(), Trouble> {
     let refusal = reel_fault(read_reel(reel, &mut []));
+    // Words are counted in reading alone, so the record is made, and dropped. In the other codes there is nothing to count.
+    let counted = match refusal {
+        None if Shape::of_reel(reel).code == 1 => {
+            record_of(reel, name).map(|(_, read)| NotNormal::of(reel, read))
+        }
+        _ => Ok(None),
+    };
     let kind = match refusal {
         None => "reel",
         Some(Refusal { number: 1, .. }) => "neither a record nor as long as a reel",
@@ -454,6 +470,9 @@ fn info_of_reel(reel: &[u8], name: &str, cards: usize) -> Result<(), Trouble> {
             shape.code as i16,
             code_name(shape.code)
         );
+        if let Ok(Some(counted)) = &counted {
+            let _ = writeln!(text, "words     {}", counted.without_noun());
+        }
         if refusal.is_none() {
             let _ = writeln!(text, "record    {} bytes", shape.record_length());
         }
@@ -463,6 +482,12 @@ fn info_of_reel(reel: &[u8], name: &str, cards: usize) -> Result<(), Trouble> {
     match refusal {
         None => {
             warn_of_left_out(reel, name);
+            if let Err(trouble) = counted {
+                warn(
+                    &trouble.sentence,
+                    "its words that aren't normal weren't counted",
+                );
+            }
             Ok(())
         }
         Some(refusal) => Err(Trouble::refused(name, refusals::of_reel(reel, refusal))),
@@ -648,7 +673,8 @@ fn verify_record(reel_path: &Path, record_path: &Path) -> Result<(), Trouble> {
     let record_name = record_path.display().to_string();
     let (mut file, length) = files::open(record_path)?;
     let reel = files::load(reel_path)?;
-    let (record, taken) = record_of(&reel, &name)?;
+    let (record, read) = record_of(&reel, &name)?;
+    let counted = joined("; on the reel ", NotNormal::of(&reel, read));
     warn_of_left_out(&reel, &name);
     step(format_args!("summing {name}"), reel.len() as u64);
     let reel_sum = sha256::sum(&reel);
@@ -668,8 +694,8 @@ fn verify_record(reel_path: &Path, record_path: &Path) -> Result<(), Trouble> {
     text.extend(listed(reel_path).1);
     text.extend(
         format!(
-            ": {}, {} bytes\n",
-            extent(taken.traces, taken.samples),
+            ": {}, {} bytes{counted}\n",
+            extent(read.traces, read.samples),
             record.len()
         )
         .as_bytes(),
@@ -730,12 +756,14 @@ fn listed(path: &Path) -> (bool, Vec<u8>) {
 fn verify_reel(path: &Path) -> Result<(), Trouble> {
     let name = path.display().to_string();
     let reel = files::load(path)?;
-    let (record, taken) = record_of(&reel, &name)?;
+    let (record, read) = record_of(&reel, &name)?;
     let own = u32::from(Shape::of_reel(&reel).code);
+    let counted = NotNormal::of(&reel, read);
     print(&format!(
-        "{name}: {} in code {own}, {} bytes; its record, {} bytes\n",
-        extent(taken.traces, taken.samples),
+        "{name}: {} in code {own}, {} bytes{}; its record, {} bytes\n",
+        extent(read.traces, read.samples),
         reel.len(),
+        joined(", ", counted),
         record.len()
     ))?;
     warn_of_left_out(&reel, &name);
@@ -743,10 +771,15 @@ fn verify_reel(path: &Path) -> Result<(), Trouble> {
     let mut holding = Vec::new();
     let mut differences = Vec::new();
     for code in CODES {
-        match again(&record, taken, code, &name)? {
+        match again(&record, read, code, &name)? {
             Again::Same(length) => {
                 holding.push(code.to_string());
-                print(&format!("code {code}: holds it; written ({length} bytes) and read again, the record is the same\n"))?;
+                // `again` has counted the written words too.
+                let normal = match counted {
+                    Some(counted) if code == own && counted.any() => ", and all words are normal",
+                    _ => "",
+                };
+                print(&format!("code {code}: holds it; written ({length} bytes) and read again, the record is the same{normal}\n"))?;
             }
             Again::Refused(sentence) if code != own => {
                 print(&format!("code {code}: doesn't hold it; {sentence}\n"))?;
@@ -775,7 +808,12 @@ enum Again {
     Differs(String),
 }
 
-fn again(record: &[u8], taken: Taken, code: u32, name: &str) -> Result<Again, Trouble> {
+/// Writes a record and reads it again. All words of a written reel are normal.
+fn again(record: &[u8], read: ReelRead, code: u32, name: &str) -> Result<Again, Trouble> {
+    let expected = ReelRead {
+        not_normal: 0,
+        ..read
+    };
     let (reel, written) = match reel_of(record, code, name)? {
         Ok(made) => made,
         Err(refusal) if refusal.number == 14 => {
@@ -792,7 +830,10 @@ fn again(record: &[u8], taken: Taken, code: u32, name: &str) -> Result<Again, Tr
     );
     Ok(match read_reel(&reel, &mut back) {
         Err(refusal) => Again::Differs(refusals::of_reel(&reel, refusal)),
-        Ok(read) if read != taken || written.traces != taken.traces => {
+        Ok(ReelRead { not_normal, .. }) if not_normal != 0 => Again::Differs(format!(
+            "{not_normal} words of the written reel aren't normal"
+        )),
+        Ok(found) if found != expected || written.traces != expected.traces => {
             Again::Differs("the counts of the record differ".to_string())
         }
         Ok(_) if record == back => Again::Same(written.length),
@@ -806,18 +847,15 @@ fn again(record: &[u8], taken: Taken, code: u32, name: &str) -> Result<Again, Tr
 fn check(_: &Words) -> Result<(), Trouble> {
     let reel = files::load_from(&mut io::stdin().lock(), 0, "standard input")?;
     step("checking standard input", reel.len() as u64);
-    // With no room for the record, a reel that would be taken is refused by 10 with the length of its record, from which T follows.
-    match read_reel(&reel, &mut []) {
-        Ok(taken) => print(&format!(
-            "taken {} {} {}\n",
-            taken.traces, taken.samples, taken.length
-        )),
-        Err(Refusal { number: 10, beside }) => {
-            let samples = u64::from(number(&reel, layout::COUNT_PLACE));
-            let traces = (beside - 3273) / (186 + 6 * samples);
-            print(&format!("taken {traces} {samples} {beside}\n"))
+    match reel_fault(read_reel(&reel, &mut [])) {
+        None => {
+            let (_, read) = record_of(&reel, "standard input")?;
+            print(&format!(
+                "taken {} {} {} {}\n",
+                read.traces, read.samples, read.length, read.not_normal
+            ))
         }
-        Err(refusal) => {
+        Some(refusal) => {
             print(&format!("refused {} {}\n", refusal.number, refusal.beside))?;
             Err(Trouble::refused(
                 "standard input",
