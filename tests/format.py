@@ -4,8 +4,8 @@
 
 The record that the command makes of the sample reel, and the reel itself, are decoded by tests/format_reader.py, which was written from
 the page alone, and compared with the numbers and values that tests/make_sample_reel.py made the reel of. So are records and reels in
-every code, and so are listings. The page's example is held to the command's bytes, its way to find the power of a group to its rule, and
-its tables to the layout and to code page 037.
+every code, and so are listings and the count of words that aren't normal. The page's example is held to the command's bytes, its way to
+find the power of a group to its rule, and its tables to the layout and to code page 037.
 """
 
 import random
@@ -23,7 +23,7 @@ sys.path[:0] = [str(TOP / "tools" / "vectors"), str(TOP / "tests")]
 
 import make_sample_reel as sample  # noqa: E402
 import reels  # noqa: E402
-from format_reader import GROUPS, POWERS, WIDTHS, listing, read_record, read_reel  # noqa: E402
+from format_reader import GROUPS, POWERS, WIDTHS, is_normal, listing, not_normal, read_record, read_reel  # noqa: E402
 
 PAGE = (TOP / "docs" / "FORMAT.md").read_text(encoding="utf-8")
 
@@ -44,6 +44,12 @@ def check_listing(command, folder, record):
     (folder / "record").write_bytes(record)
     printed = subprocess.run([command, "cards", "--latin1", str(folder / "record")], check=True, stdout=subprocess.PIPE, timeout=600).stdout
     assert printed == listing(read_record(record)[0])
+
+
+def check_count(command, reel):
+    """The count of words that aren't normal, the last item of the line that the command prints, is the reader's."""
+    line = subprocess.run([command, "check"], check=True, input=reel, stdout=subprocess.PIPE, timeout=600).stdout
+    assert line.split()[4:] == [b"%d" % not_normal(reel)], line
 
 
 def sample_meaning():
@@ -143,6 +149,10 @@ def check_page(command, folder):
     assert [row for row, _ in rows] == list("0123")
     numbers = bytes.fromhex("".join(cells for _, cells in rows))
     assert numbers == bytes(range(0x40)).decode("cp037").encode("latin-1")
+    # What the page says of some words, which the reader was written from.
+    shown, one = re.search(r"words aren't normal\. Of (.*) there are three: ([0-9A-F]{8}), .*, and the last two, ", PAGE).groups()
+    words = re.findall(r"[0-9A-F]{8}", shown)
+    assert [word for word in words if not is_normal(bytes.fromhex(word))] == [one, *words[-2:]]
     # Every card byte but 00, in some card.
     cards = bytes(place % 255 + 1 for place in range(3200))
     check_listing(command, folder, record[:3] + cards + record[3203:])
@@ -161,16 +171,23 @@ def main():
         assert read_record(record_of(command, folder, reel)) == meant
         check_listing(command, folder, (folder / "record").read_bytes())
         assert read_reel(reel) == meant
+        assert not_normal(reel) == 2
+        check_count(command, reel)
         for code in (1, 4):
             run(command, "write", folder / "record", code, folder / f"{code}.sgy")
             assert read_reel((folder / f"{code}.sgy").read_bytes()) == meant
-        rnd, count = random.Random(181), 0
+            assert not_normal((folder / f"{code}.sgy").read_bytes()) == 0
+        rnd, count, others = random.Random(181), 0, 0
         for code in (1, 2, 3, 4):
             for n, t in ((1, 0), (1, 1), (2, 3), (500, 4)):
                 reel = reels.random_reel(rnd, code, n, t)
                 assert read_record(record_of(command, folder, reel)) == read_reel(reel), (code, n, t)
+                check_count(command, reel)
+                others += not_normal(reel)
                 count += n * t
-    said = f"the page's examples and tables, its way to find a power, the sample's record, two listings and {count} further samples agree"
+    assert others > 50
+    said = (f"the page's examples and tables, its way to find a power, the sample's record, two listings and {count} further samples, "
+            f"{others} of them in words that aren't normal, agree")
     print(f"format: {said}, {time.monotonic() - begun:.0f} s")
 
 

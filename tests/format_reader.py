@@ -124,6 +124,23 @@ def word_value(code, word):
     return Fraction(signed(word))
 
 
+def is_normal(word):
+    """Is it the normal word, under code 1, of its value?"""
+    characteristic, fraction = word[0] % 128, int.from_bytes(word[1:], "big")
+    return word == bytes(4) if fraction == 0 else fraction >= 16**5 or characteristic == 0
+
+
+def not_normal(data):
+    """How many words of a reel aren't normal, which are counted under code 1 alone."""
+    _, binary, traces = read_reel(data)
+    if signed(data[CODE - 1 : CODE + 1]) != 1:
+        return 0
+    length = 240 + 4 * binary[COUNT]
+    words = (data[place : place + 4] for start in range(3600, 3600 + len(traces) * length, length)
+             for place in range(start + 240, start + length, 4))
+    return sum(not is_normal(word) for word in words)
+
+
 def main():
     if len(sys.argv) != 3 or sys.argv[1] not in ("record", "reel"):
         sys.exit("usage: format_reader.py record|reel FILE")

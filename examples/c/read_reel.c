@@ -1,7 +1,7 @@
 /* Reads a reel file into a record file through the C interface, and prints what reading answers:
  *
- *     taken T N LENGTH       T traces of N samples, and the length of the record
- *     refused NUMBER BESIDE  the number of the cause, and what stands beside it (see aukpocket.h)
+ *     taken T N LENGTH COUNT  T traces of N samples, the length of the record, and how many words aren't normal
+ *     refused NUMBER BESIDE   the number of the cause, and what stands beside it (see aukpocket.h)
  *
  *     cc -I include examples/c/read_reel.c build/libaukpocket.a -o read_reel
  *     ./read_reel examples/sample.sgy c.record
@@ -52,7 +52,7 @@ int main(int count, char **words)
         return 1;
     }
 
-    /* With no room for the record, a reel that would be taken is refused by 10, with the length needed. */
+    /* With no room for the record, a reel that would be taken is refused by 10, with the length needed. No words are counted then. */
     answer = aukpocket_read_reel(reel, reel_length, none, 0);
     if (answer.number != 10) {
         printf("refused %" PRIu64 " %" PRIu64 "\n", answer.number, answer.beside);
@@ -78,6 +78,6 @@ int main(int count, char **words)
         perror(words[2]);
         return 1;
     }
-    printf("taken %" PRIu64 " %" PRIu64 " %" PRIu64 "\n", answer.traces, answer.samples, answer.length);
+    printf("taken %" PRIu64 " %" PRIu64 " %" PRIu64 " %" PRIu64 "\n", answer.traces, answer.samples, answer.length, answer.not_normal);
     return 0;
 }

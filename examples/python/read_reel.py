@@ -1,7 +1,7 @@
 """Reads a reel file into a record file through the C interface, and prints what reading answers:
 
-    taken T N LENGTH       T traces of N samples, and the length of the record
-    refused NUMBER BESIDE  the number of the cause, and what stands beside it (see include/aukpocket.h)
+    taken T N LENGTH COUNT  T traces of N samples, the length of the record, and how many words aren't normal
+    refused NUMBER BESIDE   the number of the cause, and what stands beside it (see include/aukpocket.h)
 
 ctypes wants a shared object, which the C compiler makes of the static library:
 
@@ -14,7 +14,9 @@ import sys
 
 
 class ReelAnswer(ctypes.Structure):
-    _fields_ = [(name, ctypes.c_uint64) for name in ("number", "traces", "samples", "length", "beside")]
+    """As the header has it where AUKPOCKET_VERSION is 2. A call writes all six members: with fewer here it would write beyond them."""
+
+    _fields_ = [(name, ctypes.c_uint64) for name in ("number", "traces", "samples", "length", "beside", "not_normal")]
 
 
 def load_library(path):
@@ -26,7 +28,7 @@ def load_library(path):
 
 def read_reel(library, reel):
     """The answer and, where the reel is taken, its record."""
-    # With no room for the record, a reel that would be taken is refused by 10, with the length needed.
+    # With no room for the record, a reel that would be taken is refused by 10, with the length needed. No words are counted then.
     none = ctypes.create_string_buffer(1)
     answer = library.aukpocket_read_reel(reel, len(reel), none, 0)
     if answer.number != 10:
@@ -49,7 +51,7 @@ def main():
         return 2
     with open(sys.argv[3], "xb") as file:  # a file that is there already is kept
         file.write(record)
-    print("taken", answer.traces, answer.samples, answer.length)
+    print("taken", answer.traces, answer.samples, answer.length, answer.not_normal)
     return 0
 
 
