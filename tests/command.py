@@ -34,7 +34,7 @@ from records import (  # noqa: E402
     make_record, place_of_binary, place_of_card, place_of_end, place_of_field, place_of_pair, place_of_samples, place_of_trace,
 )
 from reels import example, gain, make_reel, make_trace, random_reel, trace_size, whole16, whole32  # noqa: E402
-from samples import pair_bytes  # noqa: E402
+from samples import pair_bytes, v_of_word, word_of_v  # noqa: E402
 
 SAMPLE = TOP / "examples" / "sample.sgy"
 ARCHIVE = TOP / "build" / "libaukpocket.a"
@@ -54,6 +54,18 @@ EARLIER = ("a damaged record is refused so, and one made before the rule of the 
 
 def with_bytes(data, place, other):
     return data[:place] + other + data[place + len(other) :]
+
+
+def is_normal(word):
+    """Is an IBM word the normal word of its value, by document 01's rules?"""
+    return word == word_of_v(1, v_of_word(1, word))
+
+
+def count_of(reel):
+    """How many words of a reel that is taken aren't normal: 0 in every code but 1."""
+    n, code = (int.from_bytes(reel[place : place + 2], "big") for place in (3220, 3224))
+    starts = range(3600, len(reel), trace_size(code, n)) if code == 1 else ()
+    return sum(not is_normal(reel[place : place + 4]) for start in starts for place in range(start + 240, start + 240 + 4 * n, 4))
 
 
 def warning(path, reel):
@@ -152,7 +164,8 @@ class Sample(Case):
     def test_read_and_write(self):
         record = self.folder / "a.record"
         said = self.fine("read", SAMPLE, record)
-        self.assertEqual(said, f"{SAMPLE}: 6 traces of 240 samples; {record}: its record, 13029 bytes\n")
+        self.assertEqual(said, (
+            f"{SAMPLE}: 6 traces of 240 samples, 2 of 1440 words not normal (0.14 %); {record}: its record, 13029 bytes\n"))
         self.assertEqual(record.read_bytes(), self.record)
         for code in (1, 4):
             reel, again = self.folder / f"{code}.sgy", self.folder / f"{code}.record"
@@ -205,7 +218,7 @@ class Sample(Case):
         self.assertEqual(
             self.fine("info", SAMPLE, "--cards", 2),
             f"file      {SAMPLE}, 10800 bytes\nkind      reel\n{counts}code      1, IBM floating point\n"
-            f"record    13029 bytes\ncards     2 of 40\n{cards}")
+            f"words     2 of 1440 not normal (0.14 %)\nrecord    13029 bytes\ncards     2 of 40\n{cards}")
         record = self.file("a.record", self.record)
         self.assertEqual(
             self.fine("info", "--cards", 2, record),
@@ -218,12 +231,15 @@ class Sample(Case):
 
     def test_verify(self):
         said = self.fine("verify", SAMPLE)
+        self.assertTrue(said.startswith(
+            f"{SAMPLE}: 6 traces of 240 samples in code 1, 10800 bytes, 2 of 1440 words not normal (0.14 %); its record, 13029 bytes\n"
+            "code 1: holds it; written (10800 bytes) and read again, the record is the same, and all words are normal\n"), said)
         self.assertEqual(said.count("the record is the same"), 2)
-        self.assertTrue(said.endswith("codes that hold it: 1 4\n"), said)
+        self.assertTrue(said.endswith("the record is the same\ncodes that hold it: 1 4\n"), said)
 
     def test_check(self):
-        self.assertEqual(self.fine("check", stdin=self.reel), "taken 6 240 13029\n")
-        self.assertEqual(self.fine("check", stdin=example()), "taken 1 2 3471\n")
+        self.assertEqual(self.fine("check", stdin=self.reel), "taken 6 240 13029 2\n")
+        self.assertEqual(self.fine("check", stdin=example()), "taken 1 2 3471 0\n")
 
 
 class Readme(Case):
@@ -340,7 +356,7 @@ class Refusals(Case):
         for part in parts:
             self.assertIn(part, said)
         self.trouble(2, "check", stdin=reel, stdout=f"refused 6 {place}\n")
-        self.assertEqual(self.fine("check", stdin=reel[:-242]), f"taken 100000 1 {3273 + 100_000 * 192}\n")
+        self.assertEqual(self.fine("check", stdin=reel[:-242]), f"taken 100000 1 {3273 + 100_000 * 192} 0\n")
         # And a record of as many traces, whose last is one too many.
         record = self.folder / "most.record"
         path.write_bytes(reel[:-242])
@@ -390,7 +406,7 @@ class Refusals(Case):
         for scalar in ALLOWED:
             for byte_number in GROUPS:
                 trace = make_trace([bytes(4)], {byte_number: scalar, 140 - byte_number: 1})
-                self.assertEqual(self.fine("check", stdin=make_reel(500, 1, 1, [trace])), "taken 1 1 3465\n")
+                self.assertEqual(self.fine("check", stdin=make_reel(500, 1, 1, [trace])), "taken 1 1 3465 0\n")
 
     def test_11_to_14(self):
         one = pair_bytes(0, 1)
@@ -474,7 +490,7 @@ class Refusals(Case):
             reel = bytes(reel)[: len(reel) - rnd.choice((0, 0, 0, 1, trace_size(code, n)))] + bytes(rnd.choice((0, 0, 0, 5)))
             said, path = reels.read_reel(reel, 10**9)[0], self.file("reel", reel)
             if said[0] == "taken":
-                self.assertEqual(self.fine("check", stdin=reel), "taken %d %d %d\n" % said[1:4])
+                self.assertEqual(self.fine("check", stdin=reel), "taken %d %d %d %d\n" % (*said[1:4], count_of(reel)))
                 self.fine("verify", path, warned=warning(path, reel))
                 self.fine("info", path, warned=warning(path, reel))
                 record = reels.record_of(reel)
@@ -590,7 +606,7 @@ class Scalars(Case):
                 self.assertEqual(self.fine("look", reel, 1, name), f"{value}\n")
             self.assertEqual(self.fine("info", reel, "--cards", 0), (
                 f"file      {reel}, 3848 bytes\nkind      reel\ntraces    1\nsamples   2 a trace\ninterval  2000 microseconds\n"
-                "code      1, IBM floating point\nrecord    3471 bytes\n"))
+                "code      1, IBM floating point\nwords     none of 2 not normal\nrecord    3471 bytes\n"))
 
     def test_written_as_in_the_record(self):
         """A written reel has the record's numbers and scalars; read again it gives the record."""
@@ -697,7 +713,8 @@ class Verify(Case):
     def different(self, record, *parts):
         path = self.file("a.record", record)
         said = self.trouble(3, "verify", SAMPLE, path, stdout=(
-            f"# {path} is NOT the record of {SAMPLE}: 6 traces of 240 samples, 13029 bytes\n{self.sums(SAMPLE, path)}"))
+            f"# {path} is NOT the record of {SAMPLE}: 6 traces of 240 samples, 13029 bytes; on the reel 2 of 1440 words not normal "
+            f"(0.14 %)\n{self.sums(SAMPLE, path)}"))
         self.assertTrue(said.startswith(f"{path}: isn't the record of {SAMPLE}: ") and said.endswith("; keep the tape"), said)
         for part in parts:
             self.assertIn(part, said)
@@ -705,8 +722,9 @@ class Verify(Case):
     def test_the_same(self):
         path = self.file("a.record", self.record)
         said = self.fine("verify", SAMPLE, path)
-        self.assertEqual(said, f"# {path} is the record, byte for byte, of {SAMPLE}: 6 traces of 240 samples, 13029 bytes\n"
-                               + self.sums(SAMPLE, path))
+        self.assertEqual(said, (
+            f"# {path} is the record, byte for byte, of {SAMPLE}: 6 traces of 240 samples, 13029 bytes; on the reel 2 of 1440 words not "
+            f"normal (0.14 %)\n{self.sums(SAMPLE, path)}"))
         # What it prints is what sha256sum takes.
         for strict in (("--strict",), ()):
             run = subprocess.run(["sha256sum", "-c", *strict], input=said.encode(), capture_output=True, timeout=SECONDS)
@@ -784,6 +802,158 @@ class Verify(Case):
             path = self.file("a.record", bytes(i % 251 for i in range(length)))
             said = self.run_command("verify", SAMPLE, path).stdout.decode()
             self.assertTrue(said.endswith(self.sums(path)), length)
+
+
+# IBM words, each of which has another sign, characteristic or count of zeros at the front of its fraction.
+ZEROS = ["80000000", "01000000", "81000000", "41000000", "C1000000", "7F000000", "FF000000"]
+LEADING = [f"{first}{digits:06X}" for first in ("01", "40", "C2", "7F", "81", "FF") for k in range(1, 6)
+           for digits in (16 ** (5 - k), 16 ** (6 - k) - 1)]
+NOT_NORMAL = [bytes.fromhex(word) for word in ZEROS + LEADING]
+NORMAL = [bytes.fromhex(word) for word in (
+    "00000000", "00000001", "80000001", "0000000F", "000FFFFF", "800FFFFF", "00100000", "80FFFFFF", "01100000", "81100000", "41100000",
+    "C276A000", "42FFFFFF", "7F100000", "7FFFFFFF", "FFFFFFFF")]
+
+
+class NotNormal(Case):
+    """How many words of a reel aren't normal, told by each command that reads one."""
+
+    def reel(self, *traces, code=1):
+        """A reel of traces of words, all of one length."""
+        return make_reel(2000, len(traces[0]) * (2 if code == 3 else 1), code, [make_trace(words) for words in traces])
+
+    def told(self, reel, count, text):
+        """What each command says of a reel: how many, of how many and the share, or nothing."""
+        path, record = self.file("a.sgy", reel), self.folder / "a.record"
+        t, n, length = reels.read_reel(reel, 10**9)[0][1:4]
+        extent = f"{t} trace{'s' * (t != 1)} of {n} sample{'s' * (n != 1)}"
+        code = int.from_bytes(reel[3224:3226], "big")
+        self.assertEqual(self.fine("check", stdin=reel), f"taken {t} {n} {length} {count}\n")
+        self.assertEqual(self.fine("read", path, record, "--force"), (
+            f"{path}: {extent}{text and ', ' + text}; {record}: its record, {length} bytes\n"))
+        self.assertEqual(record.read_bytes(), reels.record_of(reel))
+        words = [line for line in self.fine("info", path, "--cards", 0).splitlines() if line.startswith("words")]
+        self.assertEqual(words, ["words     " + re.sub(" words?", "", text)] if text else [])
+        said = self.fine("verify", path)
+        self.assertTrue(said.startswith(
+            f"{path}: {extent} in code {code}, {len(reel)} bytes{text and ', ' + text}; its record, {length} bytes\n"), said)
+        self.assertEqual("the record is the same, and all words are normal\n" in said, count > 0)
+        said = self.fine("verify", path, record).splitlines()[0]
+        self.assertEqual(said, (
+            f"# {record} is the record, byte for byte, of {path}: {extent}, {length} bytes{text and '; on the reel ' + text}"))
+        self.assertNotIn("words", self.fine("info", record, "--cards", 0))
+
+    def test_the_words_are_what_they_are_called(self):
+        """By document 01's rules, and so that every kind is among them."""
+        self.assertEqual([word.hex() for word in NOT_NORMAL if is_normal(word)], [])
+        self.assertEqual([word.hex() for word in NORMAL if not is_normal(word)], [])
+        numbers = [int.from_bytes(word, "big") for word in NOT_NORMAL]
+        kinds = {(number >> 31, 6 - len(f"{number % 2 ** 24:X}") if number % 2 ** 24 else 6) for number in numbers}
+        self.assertEqual(kinds, {(sign, zeros) for sign in (0, 1) for zeros in range(1, 7)})
+
+    def test_each_word_alone(self):
+        """Each among normal words; each of these alone, on a reel of nothing else."""
+        one = NORMAL[10]
+        for i, word in enumerate(NOT_NORMAL):
+            words = [one] * 6
+            words[i % 6] = word
+            self.assertEqual(self.fine("check", stdin=self.reel(words[:3], words[3:])), "taken 2 3 3681 1\n", word.hex())
+        for word in NORMAL:
+            self.assertEqual(self.fine("check", stdin=self.reel([word])), "taken 1 1 3465 0\n", word.hex())
+
+    def test_every_place(self):
+        """The first and the last sample of the first trace, of one between and of the last."""
+        one, odd = NORMAL[10], NOT_NORMAL[-1]
+        for trace in (0, 1, 3):
+            for sample in (0, 2, 4):
+                traces = [[one] * 5 for _ in range(4)]
+                traces[trace][sample] = odd
+                self.assertEqual(self.fine("check", stdin=self.reel(*traces)), f"taken 4 5 {3273 + 4 * 216} 1\n", (trace, sample))
+        self.told(self.reel([one] * 5, [one] * 5, [one] * 4 + [odd]), 1, "1 of 15 words not normal (6.67 %)")
+
+    def test_traces(self):
+        """All kinds in the first trace, in the last, in all; none; and on a reel without words."""
+        count = len(NOT_NORMAL)
+        good = (NORMAL * count)[:count]
+        for traces, text in (
+            ([NOT_NORMAL, good, good], f"{count} of {3 * count} words not normal (33.33 %)"),
+            ([good, good, NOT_NORMAL], f"{count} of {3 * count} words not normal (33.33 %)"),
+            ([NOT_NORMAL, good, NOT_NORMAL], f"{2 * count} of {3 * count} words not normal (66.67 %)"),
+            ([NOT_NORMAL] * 3, f"{3 * count} of {3 * count} words not normal (100 %)"),
+            ([good] * 3, f"none of {3 * count} words not normal"),
+        ):
+            self.told(self.reel(*traces), count * traces.count(NOT_NORMAL), text)
+        self.told(make_reel(2000, 5, 1), 0, "")
+        self.told(self.reel([NORMAL[0]]), 0, "none of 1 word not normal")
+        self.told(self.reel([NOT_NORMAL[0]]), 1, "1 of 1 word not normal (100 %)")
+
+    def test_shares(self):
+        """Some are never 0 %, and 100 % are all."""
+        one, odd = NORMAL[10], NOT_NORMAL[3]
+        for n, t, count, share in (
+            (5000, 4, 1, "0.01 %"), (6667, 3, 1, "under 0.01 %"), (8000, 4, 1, "under 0.01 %"), (5000, 4, 2, "0.01 %"),
+            (5000, 4, 3, "0.02 %"), (8, 1, 1, "12.50 %"), (5000, 4, 10_000, "50.00 %"), (5000, 4, 19_998, "99.99 %"),
+            (5000, 4, 19_999, "over 99.99 %"), (6667, 3, 20_000, "over 99.99 %"), (5000, 4, 20_000, "100 %"),
+        ):
+            words = [odd] * count + [one] * (n * t - count)
+            reel = self.reel(*(words[i : i + n] for i in range(0, n * t, n)))
+            self.told(reel, count, f"{count} of {n * t} words not normal ({share})")
+
+    def test_other_codes(self):
+        """The same bytes are numbers there, and nothing is said of them. Nor is it of gain words, of which a value has several."""
+        self.told(self.reel(NOT_NORMAL, code=2), 0, "")
+        self.told(self.reel(NOT_NORMAL, code=3), 0, "")
+        gains = [gain(g, 2**g) for g in range(1, 15)]
+        self.assertEqual({word_of_v(4, v_of_word(4, word)) for word in gains}, {gain(0, 1)})
+        self.told(self.reel(gains, code=4), 0, "")
+        self.told(self.reel(gains), 0, "none of 14 words not normal")
+
+    def test_refused_reels(self):
+        """Nothing is counted beside a refusal, wherever the cause stands."""
+        good = self.reel(NOT_NORMAL, NOT_NORMAL)
+        size = (len(good) - 3600) // 2
+        for reel, number, beside in (
+            (good[:-1], 5, 3600 + size), (with_bytes(good, 3224, b"\0\5"), 2, 3224), (with_bytes(good, 3224, b"\0\4"), 9, 3840),
+            (with_bytes(good, 3600 + size + 114, b"\0\1"), 7, 3600 + size + 114),
+            (with_bytes(good, 3600 + size + 68, b"\0\7"), 18, 3600 + size + 68),
+        ):
+            path = self.file("a.sgy", reel)
+            self.trouble(2, "check", stdin=reel, stdout=f"refused {number} {beside}\n")
+            for words in (("read", path, self.folder / "none"), ("verify", path), ("verify", path, SAMPLE)):
+                self.assertIn(f"refused by {number}: ", self.trouble(2, *words))
+            run = self.run_command("info", path)
+            self.assertEqual((run.returncode, b"words" in run.stdout), (2, False))
+
+    def test_values_and_the_written_reel(self):
+        """The record is that of the normal words, and so is a reel that is written from it, which counts none."""
+        normal = [word_of_v(1, v_of_word(1, word)) for word in NOT_NORMAL]
+        path, twin = self.file("a.sgy", self.reel(NOT_NORMAL)), self.file("b.sgy", self.reel(normal))
+        record, written = self.folder / "a.record", self.folder / "c.sgy"
+        self.fine("read", path, record)
+        said = self.fine("verify", twin, record)
+        self.assertIn(f"on the reel none of {len(normal)} words not normal\n", said)
+        self.fine("write", record, 1, written)
+        self.assertNotEqual(written.read_bytes(), path.read_bytes())
+        self.assertEqual(written.read_bytes()[3840:], twin.read_bytes()[3840:])
+        self.assertTrue(self.fine("check", stdin=written.read_bytes()).endswith(" 0\n"))
+
+    def test_where_it_is_explained(self):
+        for command in ("read", "info", "verify"):
+            self.assertIn("how many words aren't normal, of how many, and the share. An IBM word is normal", self.fine(command, "--help"))
+        for path, heading in (("docs/aukpocket.1", "\n.SH WORDS THAT ARE NOT NORMAL\n"), ("README.md", "\n## Words that aren't normal\n")):
+            self.assertTrue(heading in (TOP / path).read_text(encoding="utf-8"), path)
+
+    def test_the_tables_of_the_readme(self):
+        page = (TOP / "README.md").read_text(encoding="utf-8")
+        rows = re.findall(r"^\| ([0-9A-F]{8}) \| [^|]+ \| ([0-9A-F]{8}) \|", page, re.M)
+        self.assertEqual(len(rows), 5)
+        for word, normal in rows:
+            self.assertEqual(word_of_v(1, v_of_word(1, bytes.fromhex(word))).hex().upper(), normal)
+        rows = re.findall(r"^\| ([0-9A-F]{8}) \| ([1-4]) \| ([0-9A-F]{4}) ([0-9A-F]{8}) \| ([01]) \|", page, re.M)
+        self.assertEqual(len(rows), 6)
+        for word, code, e, m, not_normal in rows:
+            word, code = bytes.fromhex(word), int(code)
+            self.assertEqual(reels.pair_of_word(code, word).hex().upper(), e + m)
+            self.assertEqual(code == 1 and not is_normal(word), not_normal == "1")
 
 
 class LeftOut(Case):
@@ -1455,6 +1625,8 @@ class Large(Case):
         self.assertEqual(said, "".join(f"aukpocket: {what}\n" for what in (
             f"loading {self.reel}, 32 MB", f"making the record of {self.reel}, 48 MB", f"writing {output}, 48 MB")))
         self.assertEqual(output.stat().st_size, self.length)
+        self.assertEqual(self.terminal("info", self.reel), "".join(f"aukpocket: {what}\n" for what in (
+            f"loading {self.reel}, 32 MB", f"making the record of {self.reel}, 48 MB")))
         self.assertIn("aukpocket: reading the reel in code 3 again, 16 MB\n", self.terminal("verify", self.reel))
         said = self.terminal("verify", self.reel, output)
         self.assertTrue(said.endswith(f"aukpocket: summing {self.reel}, 32 MB\naukpocket: comparing {output}, 48 MB\n"), said)
@@ -1468,7 +1640,7 @@ class Large(Case):
         self.assertEqual(self.terminal("read", SAMPLE, self.folder / "small"), "")
         self.fine("read", self.reel, output, "--force")
         with open(self.reel, "rb") as file:
-            self.assertEqual(self.fine("check", stdin=file), f"taken {self.T} {self.N} {self.length}\n")
+            self.assertEqual(self.fine("check", stdin=file), f"taken {self.T} {self.N} {self.length} 0\n")
 
     def test_killed_at_any_time(self):
         output = self.folder / "output"
@@ -1486,6 +1658,19 @@ class Large(Case):
         output = self.folder / "output"
         said = self.trouble(1, "read", self.reel, output, preexec_fn=limit)
         self.assertIn("its record: too large for the memory that this run may have: 48 MB are needed", said)
+        # There is room for the reel: `info` shows all but the count. `check` has no line without one.
+        self.assertEqual(self.fine("info", self.reel, "--cards", 0, preexec_fn=limit, warned=(
+            f"aukpocket: warning: {said}: its words that aren't normal weren't counted\n")), (
+            f"file      {self.reel}, {self.reel.stat().st_size} bytes\nkind      reel\ntraces    {self.T}\nsamples   {self.N} a trace\n"
+            f"interval  2000 microseconds\ncode      1, IBM floating point\nrecord    {self.length} bytes\n"))
+        with open(self.reel, "rb") as file:
+            self.assertEqual(self.trouble(1, "check", stdin=file, preexec_fn=limit), said.replace(str(self.reel), "standard input"))
+        # A refused reel has no record, and is refused as ever.
+        cut = self.file("cut.sgy", self.reel.read_bytes()[:-1])
+        self.assertIn("refused by 5: ", self.trouble(2, "info", cut, preexec_fn=limit, stdout=None))
+        with open(cut, "rb") as file:
+            self.trouble(2, "check", stdin=file, preexec_fn=limit, stdout=f"refused 5 {3600 + (self.T - 1) * (240 + 4 * self.N)}\n")
+        cut.unlink()
         limit = limited(resource.RLIMIT_AS, 20 * MEGABYTE)
         said = self.trouble(1, "info", self.reel, preexec_fn=limit)
         self.assertIn("large.sgy: too large for the memory that this run may have: 32 MB are needed", said)
@@ -1533,6 +1718,12 @@ struct aukpocket_reel_answer aukpocket_read_reel(const uint8_t *reel, size_t ree
         answer.beside = 1;
     if (wrong("refusal"))
         answer.number = 5;
+    if (wrong("normal") && reads == 2)
+        answer.not_normal = 3;
+    if (wrong("many"))
+        answer.not_normal = answer.traces * answer.samples + 1;
+    if (wrong("counted") && answer.number != 0)
+        answer.not_normal = 1;
     return answer;
 }
 struct aukpocket_reel_answer aukpocket_list_cards(const uint8_t *record, size_t record_length, uint8_t *listing, size_t length)
@@ -1540,16 +1731,21 @@ struct aukpocket_reel_answer aukpocket_list_cards(const uint8_t *record, size_t 
     struct aukpocket_reel_answer answer = proved_list_cards(record, record_length, listing, length);
     if (wrong("traces"))
         answer.traces += 1;
+    if (wrong("listed"))
+        answer.not_normal = 1;
     return answer;
 }
 struct aukpocket_reel_answer aukpocket_write_reel(const uint8_t *record, size_t record_length, uint32_t code, uint8_t *reel, size_t length)
 {
-    struct aukpocket_reel_answer unfit = {14, 0, 0, 0, 3452}, invalid = {13, 0, 0, 0, 3};
+    struct aukpocket_reel_answer unfit = {14, 0, 0, 0, 3452, 0}, invalid = {13, 0, 0, 0, 3, 0}, answer;
     if (wrong("own") && code == 1)
         return unfit;
     if (wrong("valid") && code == 4)
         return invalid;
-    return proved_write_reel(record, record_length, code, reel, length);
+    answer = proved_write_reel(record, record_length, code, reel, length);
+    if (wrong("written"))
+        answer.not_normal = 1;
+    return answer;
 }
 """
 
@@ -1572,6 +1768,7 @@ class Wrong(Built):
         for way, code, part in (
             ("none", None, ""), ("byte", 1, "the records differ from place 13021 on"), ("count", 4, "the counts of the record differ"),
             ("own", 1, "refused by 14: "), ("valid", 4, "refused by 13: a card byte is 00"),
+            ("normal", 1, "3 words of the written reel aren't normal"),
         ):
             run = subprocess.run([command, "verify", SAMPLE], capture_output=True, text=True, env={"WRONG": way}, timeout=SECONDS)
             if code is None:
@@ -1582,16 +1779,21 @@ class Wrong(Built):
             self.assertEqual(run.stderr, f"aukpocket: {SAMPLE}: came back otherwise in code {code}; keep the tape, and report this\n")
         # A length beyond the output is never believed, and no number of an answer is dropped.
         record = self.file("record", reels.record_of(SAMPLE.read_bytes()))
+        cut, none = self.file("cut.sgy", SAMPLE.read_bytes()[:-1]), self.folder / "none"
         for way, words, said in (
-            ("length", ("read", SAMPLE, self.folder / "none"), "the library tells of 13030 bytes in an output of 13029"),
-            ("place", ("read", SAMPLE, self.folder / "none"), "the library tells of a place without a cause"),
-            ("refusal", ("read", SAMPLE, self.folder / "none"), "the library tells of counts beside a refusal"),
+            ("length", ("read", SAMPLE, none), "the library tells of 13030 bytes in an output of 13029"),
+            ("place", ("read", SAMPLE, none), "the library tells of a place without a cause"),
+            ("refusal", ("read", SAMPLE, none), "the library tells of counts beside a refusal"),
             ("traces", ("cards", record), "the library tells of other counts than a listing has"),
+            ("many", ("read", SAMPLE, none), "the library tells of 1441 words that aren't normal where 1440 were read"),
+            ("counted", ("read", cut, none), "the library tells of counts beside a refusal"),
+            ("listed", ("cards", record), "the library tells of 1 words that aren't normal where 0 were read"),
+            ("written", ("write", record, "1", none), "the library tells of 1 words that aren't normal where 0 were read"),
         ):
             run = subprocess.run([command, *words], capture_output=True, text=True, env={"WRONG": way}, timeout=SECONDS)
             self.assertNotIn(run.returncode, (0, 2))
             self.assertIn(said, run.stderr)
-            self.assertFalse((self.folder / "none").exists())
+            self.assertFalse(none.exists())
 
     def test_a_missing_library(self):
         shutil.copytree(TOP / "cli", self.folder / "cli", ignore=shutil.ignore_patterns("target"))
@@ -1733,6 +1935,7 @@ static unsigned char reel[3848], record[3471], again[3848], listing[3241], out[3
 int main(void)
 {
     const unsigned char word[4] = {0xC2, 0x76, 0xA0, 0x00}, pair[6] = {0xFF, 0xFD, 0xFF, 0xFF, 0xFC, 0x4B};
+    const unsigned char words[8] = {0x42, 0x01, 0, 0, 0x80, 0, 0, 0}; /* 1 and 0, neither by its normal word */
     unsigned char word_out[4], pair_out[6];
     struct aukpocket_reel_answer read, written, listed, taken;
     struct aukpocket_field_answer field, none;
@@ -1745,36 +1948,38 @@ int main(void)
     reel[3840] = 0x41, reel[3841] = 0x10;
     memcpy(reel + 3844, word, 4);
     read = aukpocket_read_reel(reel, 3848, record, 3471);
-    if (read.number != 0 || read.traces != 1 || read.samples != 2 || read.length != 3471 || read.beside != 0)
+    if (read.number != 0 || read.traces != 1 || read.samples != 2 || read.length != 3471 || read.beside != 0 || read.not_normal != 0)
         return 1;
     written = aukpocket_write_reel(record, 3471, 1, again, 3848);
-    if (written.number != 0 || written.length != 3848 || memcmp(reel, again, 3848) != 0)
+    if (written.number != 0 || written.length != 3848 || written.not_normal != 0 || memcmp(reel, again, 3848) != 0)
         return 2;
     written = aukpocket_write_reel(record, 3471, 2, again, 3848);
-    if (written.number != 14 || written.traces != 0 || written.beside != 3458)
+    if (written.number != 14 || written.traces != 0 || written.beside != 3458 || written.not_normal != 0)
         return 3;
     field = aukpocket_look_up(reel, 3848, 1, 117);
     none = aukpocket_look_up(reel, 3848, ((size_t)1 << 32) + 1, 117);
     if (field.number != 0 || field.value != 2000 || none.number != 15 || none.value != 0)
         return 4;
     sample = aukpocket_read_word(1, word, pair_out);
-    if (sample.number != 0 || memcmp(pair, pair_out, 6) != 0)
+    if (sample.number != 0 || sample.not_normal != 0 || memcmp(pair, pair_out, 6) != 0)
         return 5;
     sample = aukpocket_write_pair(1, pair, word_out);
-    if (sample.number != 0 || memcmp(word, word_out, 4) != 0)
+    if (sample.number != 0 || sample.not_normal != 0 || memcmp(word, word_out, 4) != 0)
         return 6;
     sample = aukpocket_write_pair(3, pair, word_out);
-    if (sample.number != 14 || memcmp("\0\0\0", word_out, 4) != 0)
+    if (sample.number != 14 || sample.not_normal != 0 || memcmp("\0\0\0", word_out, 4) != 0)
         return 7;
     listing[3240] = out[3471] = 0xEE;
     listed = aukpocket_list_cards(record, 3471, listing, 3241);
     if (listed.number != 0 || listed.traces != 0 || listed.samples != 0 || listed.length != 3240 || listed.beside != 0)
         return 8;
+    if (listed.not_normal != 0)
+        return 23;
     if (listing[3238] != 0x20 || listing[3239] != 0x0A || listing[3240] != 0xEE)
         return 9;
     listing[81] = 'A';
     taken = aukpocket_take_cards(record, 3471, (const unsigned char *)listing, 3240, out, 3472);
-    if (taken.number != 0 || taken.traces != 1 || taken.samples != 2 || taken.length != 3471 || taken.beside != 0)
+    if (taken.number != 0 || taken.traces != 1 || taken.samples != 2 || taken.length != 3471 || taken.beside != 0 || taken.not_normal != 0)
         return 10;
     record[83] = 0xC1;
     if (memcmp(record, out, 3471) != 0 || out[3471] != 0xEE)
@@ -1793,7 +1998,31 @@ int main(void)
         return 14;
     record[3340] = 0x01;
     written = aukpocket_write_reel(record, 3471, 1, again, 3848);
-    return written.number == 13 && written.beside == 3339 ? 0 : 15;
+    if (written.number != 13 || written.beside != 3339)
+        return 15;
+    memcpy(reel + 3840, words, 8);
+    read = aukpocket_read_reel(reel, 3848, record, 3471);
+    if (read.number != 18 || read.not_normal != 0)
+        return 16;
+    reel[3670] = 0xD8, reel[3671] = 0xF0;
+    read = aukpocket_read_reel(reel, 3848, record, 3470);
+    if (read.number != 10 || read.beside != 3471 || read.not_normal != 0)
+        return 17;
+    read = aukpocket_read_reel(reel, 3848, record, 3471);
+    if (read.number != 0 || read.traces != 1 || read.samples != 2 || read.length != 3471 || read.beside != 0 || read.not_normal != 2)
+        return 18;
+    reel[3225] = 2;
+    read = aukpocket_read_reel(reel, 3848, record, 3471);
+    if (read.number != 0 || read.length != 3471 || read.not_normal != 0)
+        return 19;
+    sample = aukpocket_read_word(1, words, pair_out);
+    if (sample.number != 0 || sample.beside != 0 || sample.not_normal != 1 || memcmp("\0\0\0\0\0\1", pair_out, 6) != 0)
+        return 20;
+    sample = aukpocket_read_word(2, words, pair_out);
+    if (sample.number != 0 || sample.not_normal != 0)
+        return 21;
+    sample = aukpocket_read_word(4, words, pair_out);
+    return sample.number == 9 && sample.not_normal == 0 ? 0 : 22;
 }
 """
 
@@ -1807,7 +2036,7 @@ class Examples(Built):
 
     def both(self, *program):
         record = self.folder / "record"
-        self.assertEqual(self.example(*program, SAMPLE, record), (0, "taken 6 240 13029\n"))
+        self.assertEqual(self.example(*program, SAMPLE, record), (0, "taken 6 240 13029 2\n"))
         self.assertEqual(record.read_bytes(), reels.record_of(SAMPLE.read_bytes()))
         self.assertEqual(self.example(*program, SAMPLE, record), (1, ""))  # it is there already
         for reel, said in ((b"", "refused 1 0\n"), (example()[:-1], "refused 5 3600\n")):
@@ -1827,12 +2056,14 @@ class Examples(Built):
         self.both(sys.executable, TOP / "examples/python/read_reel.py", library)
 
     def test_the_header(self):
-        """The sizes that cli/src/library.rs and the examples count on, in C and in C++."""
-        sizes = (("reel", "length", 40, 24), ("field", "value", 16, 4), ("sample", "beside", 16, 8))
-        source = '#include "aukpocket.h"\n' + "".join(
-            f"typedef char {kind}_size[sizeof(struct aukpocket_{kind}_answer) == {size} ? 1 : -1];\n"
-            f"typedef char {kind}_place[offsetof(struct aukpocket_{kind}_answer, {member}) == {place} ? 1 : -1];\n"
-            for kind, member, size, place in sizes)
+        """The sizes that cli/src/library.rs and the examples count on, in C and in C++. With other sizes the version is another."""
+        sizes = (("reel", 48, {"length": 24, "not_normal": 40}), ("field", 16, {"value": 4}), ("sample", 24, {"not_normal": 16}))
+        source = '#include "aukpocket.h"\n#if AUKPOCKET_VERSION != 2\n#error another version\n#endif\n'
+        for kind, size, places in sizes:
+            answer = f"struct aukpocket_{kind}_answer"
+            source += f"typedef char {kind}_size[sizeof({answer}) == {size} ? 1 : -1];\n"
+            source += "".join(f"typedef char {kind}_{member}[offsetof({answer}, {member}) == {place} ? 1 : -1];\n"
+                              for member, place in places.items())
         source += EVERY_CALL
         for compiler, name in (("cc", "sizes.c"), ("c++", "sizes.cpp")):
             if compiler == "c++" and shutil.which(compiler) is None:

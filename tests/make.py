@@ -100,7 +100,7 @@ class Make(Case):
             run = subprocess.run(line.split("  ")[1].strip(), shell=True, cwd=self.top, capture_output=True, timeout=SECONDS)
             self.assertEqual((run.returncode, run.stderr), (0, b""), line)
         run = subprocess.run(["build/check_reel"], cwd=self.top, input=(TOP / "examples/sample.sgy").read_bytes(), capture_output=True)
-        self.assertEqual(run.stdout, b"taken 6 240 13029\n")
+        self.assertEqual(run.stdout, b"taken 6 240 13029 2\n")
 
         # Installed, with the folder that a packager puts before it and without.
         for dest, prefix in (("", self.room / "inst"), (str(self.room / "pack"), "/usr")):
@@ -121,7 +121,7 @@ class Make(Case):
             self.assertEqual((run.stdout.split(), run.stderr), (flags, ""))
         subprocess.run(["cc", TOP / "examples/c/read_reel.c", *flags, "-o", self.room / "program"], check=True, timeout=SECONDS)
         run = subprocess.run([self.room / "program", TOP / "examples/sample.sgy", self.room / "record"], capture_output=True, timeout=SECONDS)
-        self.assertEqual(run.stdout, b"taken 6 240 13029\n")
+        self.assertEqual(run.stdout, b"taken 6 240 13029 2\n")
         version = subprocess.run([there / "bin/aukpocket", "--version"], capture_output=True, text=True).stdout.split()[1]
         self.assertIn(f"Version: {version}\n", described)
         self.assertIn(f'"aukpocket {version}"', (there / "share/man/man1/aukpocket.1").read_text())
