@@ -149,10 +149,11 @@ def check_page(command, folder):
     assert [row for row, _ in rows] == list("0123")
     numbers = bytes.fromhex("".join(cells for _, cells in rows))
     assert numbers == bytes(range(0x40)).decode("cp037").encode("latin-1")
-    # What the page says of some words, which the reader was written from.
+    # What the page says of some words.
     shown, one = re.search(r"words aren't normal\. Of (.*) there are three: ([0-9A-F]{8}), .*, and the last two, ", PAGE).groups()
-    words = re.findall(r"[0-9A-F]{8}", shown)
-    assert [word for word in words if not is_normal(bytes.fromhex(word))] == [one, *words[-2:]]
+    words = [bytes.fromhex(word) for word in re.findall(r"[0-9A-F]{8}", shown)]
+    assert [word for word in words if not is_normal(word)] == [bytes.fromhex(one), *words[-2:]]
+    check_count(command, reels.make_reel(2000, len(words), 1, [reels.make_trace(words)]))
     # Every card byte but 00, in some card.
     cards = bytes(place % 255 + 1 for place in range(3200))
     check_listing(command, folder, record[:3] + cards + record[3203:])
