@@ -108,8 +108,9 @@ struct aukpocket_sample_answer {
     uint64_t not_normal;
 };
 
-/* Reads a reel and writes its record to the front of `record`. A record of T traces of N samples is 3273 + T * (186 + 6 * N) bytes.
- * Refuses by 1 to 6 in that order, then trace by trace 7, 8, 18 by field 69, 18 by field 71, and 9, then 10. */
+/* Reads a reel, writes its record to the front of `record`, and counts its words that aren't normal. A record of T traces of N samples is
+ * 3273 + T * (186 + 6 * N) bytes. Refuses by 1 to 6 in that order, then trace by trace 7, 8, 18 by field 69, 18 by field 71, and 9, then
+ * 10. */
 struct aukpocket_reel_answer aukpocket_read_reel(const uint8_t *reel, size_t reel_length, uint8_t *record, size_t record_length);
 
 /* Writes a record as a reel under a target code to the front of `reel`. A reel of T traces of N samples is 3600 + T * (240 + N * w)
@@ -134,8 +135,8 @@ struct aukpocket_reel_answer aukpocket_take_cards(const uint8_t *record, size_t 
                                                   size_t listing_length, uint8_t *out, size_t out_length);
 
 /* One sample, from the four bytes of its word to the six of its canonical pair: the exponent in two bytes, the mantissa in four, both
- * big-endian two's complement. A code 3 sample is the word's first two bytes, and the rest is ignored. Refuses by 2, then 9; the pair is
- * then all 00. */
+ * big-endian two's complement; and whether the word isn't normal. A code 3 sample is the word's first two bytes, and the rest is ignored.
+ * Refuses by 2, then 9; the pair is then all 00. */
 struct aukpocket_sample_answer aukpocket_read_word(uint32_t code, const uint8_t word[4], uint8_t pair[6]);
 
 /* One sample, from the six bytes of its pair to the four of its word. A code 3 sample is the word's first two bytes, and the rest is 00.
