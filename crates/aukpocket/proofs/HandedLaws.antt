@@ -3,18 +3,23 @@ use mathlib.Core.Path.{_≡_, ap, _∙_}
 use mathlib.Core.List.{List}
 use Prim.Native.Nat.{ℕ}
 use Rattle.numbers.specs.Outcome.{Outcome}
-use Rattle.record.specs.Answer.{saidBy, outcome}
+use Rattle.record.specs.Answer.{saidBy, outcome, countedBy, countedOutcome}
 use Rattle.record.specs.declared.Answer.{Answer}
+use Rattle.record.specs.declared.Counted.{Counted}
 use Rattle.sample.specs.Calls as single
 use Rattle.sample.specs.declared.Answer as sample
+use Rattle.sample.specs.declared.WordAnswer as word
 use Rattle.listing.specs.Calls as calls
 use Rattle.listing.specs.declared.Listed.{Listed}
-use Rattle.aukpocket.specs.Interface.{Handed, handed, reelAnswer, reelIn, reelHanded, listingAnswer, listingHanded, sampleAnswer, sampleIn, sampleHanded}
+use Rattle.aukpocket.specs.Interface.{Handed, handed, reelAnswer, reelIn, reelHanded, countedAnswer, countedHanded, listingAnswer, listingHanded, sampleAnswer, wordAnswer, sampleIn, sampleHanded, wordHanded}
 use Rattle.aukpocket.specs.declared.ReelAnswer.{ReelAnswer}
 use Rattle.aukpocket.specs.declared.SampleAnswer.{SampleAnswer}
 
 pub reel-handed : (r : ReelAnswer) (answer : Answer) (out : List ℕ) (o : Outcome) → handed r ≡ reelAnswer (saidBy answer) → outcome answer out ≡ o → reelIn r out ≡ reelHanded o
 reel-handed r answer out o p q = ap (λ (a : Handed ReelAnswer). record { answer = a; bytes = out }) p ∙ ap reelHanded q
+
+pub counted-handed : (r : ReelAnswer) (answer : Counted) (out : List ℕ) (o : Outcome) → handed r ≡ countedAnswer (countedBy answer) → countedOutcome answer out ≡ o → reelIn r out ≡ countedHanded o
+counted-handed r answer out o p q = ap (λ (a : Handed ReelAnswer). record { answer = a; bytes = out }) p ∙ ap countedHanded q
 
 pub listing-handed : (r : ReelAnswer) (answer : Listed) (out : List ℕ) (o : Outcome) → handed r ≡ listingAnswer (calls.saidBy answer) → calls.listed answer out ≡ o
     → reelIn r out ≡ listingHanded o
@@ -23,3 +28,7 @@ listing-handed r answer out o p q = ap (λ (a : Handed ReelAnswer). record { ans
 pub sample-handed : (r : SampleAnswer) (answer : sample.Answer) (bytes : List ℕ) (o : Outcome) → handed r ≡ sampleAnswer (single.saidBy answer)
     → record { said = single.saidBy answer; bytes = bytes } ≡ o → sampleIn r bytes ≡ sampleHanded o
 sample-handed r answer bytes o p q = ap (λ (a : Handed SampleAnswer). record { answer = a; bytes = bytes }) p ∙ ap sampleHanded q
+
+pub word-handed : (r : SampleAnswer) (answer : word.WordAnswer) (bytes : List ℕ) (o : Outcome) → handed r ≡ wordAnswer (single.wordSaid answer)
+    → record { said = single.wordSaid answer; bytes = bytes } ≡ o → sampleIn r bytes ≡ wordHanded o
+word-handed r answer bytes o p q = ap (λ (a : Handed SampleAnswer). record { answer = a; bytes = bytes }) p ∙ ap wordHanded q

@@ -20,9 +20,19 @@ abbrev pub reelAnswer : Said → Handed ReelAnswer
 reelAnswer (taken []) = lost
 reelAnswer (taken (t ∷ [])) = lost
 reelAnswer (taken (t ∷ n ∷ [])) = lost
-reelAnswer (taken (t ∷ n ∷ l ∷ [])) = handed (record { number = 0; traces = t; samples = n; length = l; beside = 0 })
+reelAnswer (taken (t ∷ n ∷ l ∷ [])) = handed (record { number = 0; traces = t; samples = n; length = l; beside = 0; «not_normal» = 0 })
 reelAnswer (taken (t ∷ n ∷ l ∷ more ∷ rest)) = lost
-reelAnswer (refused number beside) = handed (record { number = number; traces = 0; samples = 0; length = 0; beside = beside })
+reelAnswer (refused number beside) = handed (record { number = number; traces = 0; samples = 0; length = 0; beside = beside; «not_normal» = 0 })
+
+-- What reading a reel says, in numbers: the count of its words that are not normal besides.
+abbrev pub countedAnswer : Said → Handed ReelAnswer
+countedAnswer (taken []) = lost
+countedAnswer (taken (t ∷ [])) = lost
+countedAnswer (taken (t ∷ n ∷ [])) = lost
+countedAnswer (taken (t ∷ n ∷ l ∷ [])) = lost
+countedAnswer (taken (t ∷ n ∷ l ∷ c ∷ [])) = handed (record { number = 0; traces = t; samples = n; length = l; beside = 0; «not_normal» = c })
+countedAnswer (taken (t ∷ n ∷ l ∷ c ∷ more ∷ rest)) = lost
+countedAnswer (refused number beside) = handed (record { number = number; traces = 0; samples = 0; length = 0; beside = beside; «not_normal» = 0 })
 
 -- The structure and the output's bytes.
 pub record ReelHanded : Type 0 where
@@ -35,13 +45,16 @@ reelIn answer out = record { answer = handed answer; bytes = out }
 abbrev pub reelHanded : Outcome → ReelHanded
 reelHanded o = record { answer = reelAnswer (o .said); bytes = o .bytes }
 
+abbrev pub countedHanded : Outcome → ReelHanded
+countedHanded o = record { answer = countedAnswer (o .said); bytes = o .bytes }
+
 -- What listing a record's cards says, in numbers: number 0 and the listing's length where it is taken; else the number of the cause and what
 -- stands beside it. The other members are 0.
 abbrev pub listingAnswer : Said → Handed ReelAnswer
 listingAnswer (taken []) = lost
-listingAnswer (taken (l ∷ [])) = handed (record { number = 0; traces = 0; samples = 0; length = l; beside = 0 })
+listingAnswer (taken (l ∷ [])) = handed (record { number = 0; traces = 0; samples = 0; length = l; beside = 0; «not_normal» = 0 })
 listingAnswer (taken (l ∷ more ∷ rest)) = lost
-listingAnswer (refused number beside) = handed (record { number = number; traces = 0; samples = 0; length = 0; beside = beside })
+listingAnswer (refused number beside) = handed (record { number = number; traces = 0; samples = 0; length = 0; beside = beside; «not_normal» = 0 })
 
 abbrev pub listingHanded : Outcome → ReelHanded
 listingHanded o = record { answer = listingAnswer (o .said); bytes = o .bytes }
@@ -56,11 +69,17 @@ fieldAnswer (refused number beside) z = handed (record { number = number; value 
 abbrev pub fieldHanded : NumberOutcome → Handed FieldAnswer
 fieldHanded o = fieldAnswer (o .said) (o .value)
 
--- What a single-sample call says, in numbers.
+-- What writing a pair says, in numbers; and what reading a word says, with 1 for an IBM word that isn't normal, else 0.
 abbrev pub sampleAnswer : Said → Handed SampleAnswer
-sampleAnswer (taken []) = handed (record { number = 0; beside = 0 })
+sampleAnswer (taken []) = handed (record { number = 0; beside = 0; «not_normal» = 0 })
 sampleAnswer (taken (more ∷ rest)) = lost
-sampleAnswer (refused number beside) = handed (record { number = number; beside = beside })
+sampleAnswer (refused number beside) = handed (record { number = number; beside = beside; «not_normal» = 0 })
+
+abbrev pub wordAnswer : Said → Handed SampleAnswer
+wordAnswer (taken []) = lost
+wordAnswer (taken (c ∷ [])) = handed (record { number = 0; beside = 0; «not_normal» = c })
+wordAnswer (taken (c ∷ more ∷ rest)) = lost
+wordAnswer (refused number beside) = handed (record { number = number; beside = beside; «not_normal» = 0 })
 
 -- The structure and the bytes handed out.
 pub record SampleHanded : Type 0 where
@@ -72,3 +91,6 @@ sampleIn answer out = record { answer = handed answer; bytes = out }
 
 abbrev pub sampleHanded : Outcome → SampleHanded
 sampleHanded o = record { answer = sampleAnswer (o .said); bytes = o .bytes }
+
+abbrev pub wordHanded : Outcome → SampleHanded
+wordHanded o = record { answer = wordAnswer (o .said); bytes = o .bytes }

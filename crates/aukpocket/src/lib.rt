@@ -2,19 +2,21 @@
 // whose `number` is 0 where the call was taken, else the number of the cause.
 ghost use mathlib.Core.Path.{_≡_};
 ghost use Rattle.sample.specs.Calls as single;
-ghost use Rattle.record.specs.Answer.{saidBy};
+ghost use Rattle.record.specs.Answer.{saidBy, countedBy};
 ghost use Rattle.read_reel.specs.Reading.{readOutcome};
 ghost use Rattle.write_reel.specs.Writing.{writeOutcome};
 ghost use Rattle.look_up.specs.LookUp.{lookUpOutcome};
 ghost use Rattle.code_page.specs.Page.{latin};
 ghost use Rattle.listing.specs.Calls as calls;
-ghost use Rattle.aukpocket.specs.Interface.{handed, reelAnswer, reelIn, reelHanded, listingAnswer, listingHanded, fieldHanded, sampleAnswer, sampleIn, sampleHanded};
+ghost use Rattle.aukpocket.specs.Interface.{handed, reelAnswer, reelIn, reelHanded, countedAnswer, countedHanded, listingAnswer, listingHanded, fieldHanded, sampleAnswer, wordAnswer, sampleIn, sampleHanded, wordHanded};
 use listing::Listed;
 use numbers::ByteNo;
 use record::Answer;
+use record::Counted;
+use sample::WordAnswer;
 
 // What a call on a whole reel or record answers: T, N and the length of what it wrote, of which the listing of a record's cards has the
-// length alone; or the number of the cause, and what stands beside it.
+// length alone, and of reading a reel how many of its words are not normal; or the number of the cause, and what stands beside it.
 #[repr(C)]
 pub struct ReelAnswer {
     pub number: u64,
@@ -22,6 +24,7 @@ pub struct ReelAnswer {
     pub samples: u64,
     pub length: u64,
     pub beside: u64,
+    pub not_normal: u64,
 }
 
 // What looking up a field answers: its signed number; or the number of the cause, and what stands beside it.
@@ -32,11 +35,12 @@ pub struct FieldAnswer {
     pub beside: u64,
 }
 
-// What a single-sample call answers: that it was taken; or the number of the cause, and 0.
+// What a single-sample call answers: that it was taken, and of reading a word whether it isn't normal; or the number of the cause, and 0.
 #[repr(C)]
 pub struct SampleAnswer {
     pub number: u64,
     pub beside: u64,
+    pub not_normal: u64,
 }
 
 // An answer in numbers.
@@ -54,6 +58,7 @@ fn reel_answer(answer: Answer) -> ReelAnswer
             samples: samples as u64,
             length: length as u64,
             beside: 0,
+            not_normal: 0,
         },
         Answer::Refused { number, place } => ReelAnswer {
             number: number as u64,
@@ -61,6 +66,36 @@ fn reel_answer(answer: Answer) -> ReelAnswer
             samples: 0,
             length: 0,
             beside: place.0 as u64,
+            not_normal: 0,
+        },
+    }
+}
+
+// An answer with its count, in numbers.
+fn counted_answer(answer: Counted) -> ReelAnswer
+    ensures { λ r. ⌜ handed r ≡ countedAnswer (countedBy answer) ⌝ }
+{
+    match answer {
+        Counted::Taken {
+            traces,
+            samples,
+            length,
+            count,
+        } => ReelAnswer {
+            number: 0,
+            traces: traces as u64,
+            samples: samples as u64,
+            length: length as u64,
+            beside: 0,
+            not_normal: count as u64,
+        },
+        Counted::Refused { number, place } => ReelAnswer {
+            number: number as u64,
+            traces: 0,
+            samples: 0,
+            length: 0,
+            beside: place.0 as u64,
+            not_normal: 0,
         },
     }
 }
@@ -68,9 +103,9 @@ fn reel_answer(answer: Answer) -> ReelAnswer
 // Reads a reel into the front of a record buffer.
 #[no_mangle]
 pub extern "C" fn aukpocket_read_reel(reel: &[u8], out: &mut [u8]) -> ReelAnswer
-    ensures { λ r. ⌜ reelIn r (now (out .exit)) ≡ reelHanded (readOutcome (now (reel .entry)) (now (out .entry))) ⌝ }
+    ensures { λ r. ⌜ reelIn r (now (out .exit)) ≡ countedHanded (readOutcome (now (reel .entry)) (now (out .entry))) ⌝ }
 {
-    reel_answer(read_reel::read_reel(reel, out))
+    counted_answer(read_reel::read_reel(reel, out))
 }
 
 // Writes a record under a target code as a reel, into the front of a reel buffer.
@@ -92,6 +127,7 @@ fn listing_answer(answer: Listed) -> ReelAnswer
             samples: 0,
             length: length as u64,
             beside: 0,
+            not_normal: 0,
         },
         Listed::Refused { number, place } => ReelAnswer {
             number: number as u64,
@@ -99,6 +135,7 @@ fn listing_answer(answer: Listed) -> ReelAnswer
             samples: 0,
             length: 0,
             beside: place.0 as u64,
+            not_normal: 0,
         },
     }
 }
@@ -138,7 +175,7 @@ pub extern "C" fn aukpocket_look_up(reel: &[u8], trace: usize, byte: u32) -> Fie
     }
 }
 
-// A single sample's answer in numbers.
+// What writing a pair answers, in numbers.
 fn sample_answer(answer: sample::Answer) -> SampleAnswer
     ensures { λ r. ⌜ handed r ≡ sampleAnswer (single.saidBy answer) ⌝ }
 {
@@ -146,10 +183,30 @@ fn sample_answer(answer: sample::Answer) -> SampleAnswer
         sample::Answer::Taken => SampleAnswer {
             number: 0,
             beside: 0,
+            not_normal: 0,
         },
         sample::Answer::Refused { number, place } => SampleAnswer {
             number: number as u64,
             beside: place.0 as u64,
+            not_normal: 0,
+        },
+    }
+}
+
+// What reading a word answers, in numbers.
+fn word_answer(answer: WordAnswer) -> SampleAnswer
+    ensures { λ r. ⌜ handed r ≡ wordAnswer (single.wordSaid answer) ⌝ }
+{
+    match answer {
+        WordAnswer::Taken { not_normal } => SampleAnswer {
+            number: 0,
+            beside: 0,
+            not_normal: not_normal as u64,
+        },
+        WordAnswer::Refused { number, place } => SampleAnswer {
+            number: number as u64,
+            beside: place.0 as u64,
+            not_normal: 0,
         },
     }
 }
@@ -157,13 +214,13 @@ fn sample_answer(answer: sample::Answer) -> SampleAnswer
 // One sample, from the four bytes of its word to the six of its canonical pair.
 #[no_mangle]
 pub extern "C" fn aukpocket_read_word(code: u32, word: &[u8; 4], pair: &mut [u8; 6]) -> SampleAnswer
-    ensures { λ r. ⌜ sampleIn r (now (pair .exit)) ≡ sampleHanded (single.wordOutcome code (now (word .entry))) ⌝ }
+    ensures { λ r. ⌜ sampleIn r (now (pair .exit)) ≡ wordHanded (single.wordOutcome code (now (word .entry))) ⌝ }
 {
     let read = sample::read_word(code, *word);
     let bytes = read.pair;
     *pair = bytes;
     let answer = read.answer;
-    sample_answer(answer)
+    word_answer(answer)
 }
 
 // One sample, from the six bytes of its pair to the four of its word.

@@ -35,7 +35,7 @@ lineOf (refused number beside) = refusedWord ++ itemsOf (number ∷ beside ∷ [
 abbrev pub tooLong : List ℕ
 tooLong = 116 ∷ 111 ∷ 111 ∷ 32 ∷ 108 ∷ 111 ∷ 110 ∷ 103 ∷ 10 ∷ []
 
--- A line in an array of 96 bytes, which has room for a word, three numbers of 20 digits behind a space each, and 0A: its rest is 00.
+-- A line in an array of 96 bytes, which has room for `taken`, four numbers of 20 digits behind a space each, and 0A: its rest is 00.
 abbrev pub padded : List ℕ → Line
 padded line = record { bytes = line ++ replicate (96 - length line) 0; length = length line }
 

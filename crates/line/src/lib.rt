@@ -3,10 +3,10 @@ ghost use mathlib.Core.Path.{_≡_};
 ghost use Prim.Native.Nat.{_+_, _≤_};
 ghost use lib.ListN.{length};
 ghost use lib.Seq.{sets};
-ghost use Rattle.record.specs.Answer.{saidBy};
+ghost use Rattle.record.specs.Answer.{countedBy};
 ghost use Rattle.line.specs.Decimal.{decimalOf};
 ghost use Rattle.line.specs.Line.{itemOf, lineOf, tooLong, padded, programLine, programOut};
-use record::Answer;
+use record::Counted;
 
 // A line of at most 96 bytes, at the front of an array whose rest is 00.
 pub struct Line {
@@ -51,30 +51,32 @@ fn put_item(n: usize, out: &mut [u8; 96], at: usize) -> usize
     put_digits(n, out, at + 1)
 }
 
-// The line of an answer: `taken`, T, N and the record's length, or `refused`, the number and what
-// stands beside it in the table.
-pub fn line_of(answer: Answer) -> Line
-    ensures line { λ r. ⌜ r ≡ padded (lineOf (saidBy answer)) ⌝ }
+// The line of an answer: `taken`, T, N, the record's length and the count, or `refused`, the number and
+// what stands beside it in the table.
+pub fn line_of(answer: Counted) -> Line
+    ensures line { λ r. ⌜ r ≡ padded (lineOf (countedBy answer)) ⌝ }
     ensures fits { λ r. ⌜ (r .length ≤ 96) × (length (r .bytes) ≡ 96) ⌝ }
 {
     let mut bytes = [0u8; 96];
     match answer {
-        Answer::Taken {
+        Counted::Taken {
             traces,
             samples,
             length,
+            count,
         } => {
             let word = put_word(b"taken", &mut bytes);
             let first = put_item(traces, &mut bytes, word);
             let second = put_item(samples, &mut bytes, first);
             let third = put_item(length, &mut bytes, second);
-            bytes[third] = b'\n';
+            let fourth = put_item(count, &mut bytes, third);
+            bytes[fourth] = b'\n';
             Line {
                 bytes,
-                length: third + 1,
+                length: fourth + 1,
             }
         }
-        Answer::Refused { number, place } => {
+        Counted::Refused { number, place } => {
             let word = put_word(b"refused", &mut bytes);
             let first = put_item(number as usize, &mut bytes, word);
             let second = put_item(place.0, &mut bytes, first);

@@ -3,6 +3,7 @@
 -- Each line is computed by the rules themselves.
 use mathlib.Core.Path.{_≡_, refl}
 use mathlib.Core.Bool.{true}
+use mathlib.Core.List.{[], _∷_}
 use lib.IntN.{pos, negsuc}
 use lib.Dec.{lit<, lit≤}
 use Rattle.numbers.specs.Walk.{bytesAt}
@@ -10,6 +11,7 @@ use Rattle.numbers.specs.First.{first}
 use Rattle.value.specs.Pair.{twosIn, twos, oddPart, isCanonical}
 use Rattle.value.specs.Writing.{isNormal, writePair}
 use Rattle.value.specs.declared.Written.the-variants.{Word, Refused}
+use Rattle.sample.specs.Reading.{notNormal}
 use Rattle.sample_theorems.specs.Starred.{Starred, beyond}
 
 -- THEOREM. The starred lines, as a group.
@@ -37,3 +39,11 @@ least-gain = (refl, refl)
 pub beyond-14 : (isCanonical beyond ≡ true) × (writePair 1 beyond ≡ Refused 14) × (writePair 2 beyond ≡ Refused 14) × (writePair 3 beyond ≡ Refused 14) × (writePair 4 beyond ≡ Refused 14)
 unfolding first isNormal
 beyond-14 = (refl, refl, refl, refl, refl)
+
+-- THEOREM. Of the words of zero 00000000 is normal, 80000000, 7F000000 and FF000000 are not; 41100000 is, 42010000, of the same value, isn't;
+-- where C is 0, 00000001 and 80000001 are.
+pub normal-edges : (notNormal 1 (0 ∷ 0 ∷ 0 ∷ 0 ∷ []) ≡ 0) × (notNormal 1 (0x80 ∷ 0 ∷ 0 ∷ 0 ∷ []) ≡ 1) × (notNormal 1 (0x7F ∷ 0 ∷ 0 ∷ 0 ∷ []) ≡ 1)
+    × (notNormal 1 (0xFF ∷ 0 ∷ 0 ∷ 0 ∷ []) ≡ 1) × (notNormal 1 (0x41 ∷ 0x10 ∷ 0 ∷ 0 ∷ []) ≡ 0) × (notNormal 1 (0x42 ∷ 0x01 ∷ 0 ∷ 0 ∷ []) ≡ 1)
+    × (notNormal 1 (0 ∷ 0 ∷ 0 ∷ 1 ∷ []) ≡ 0) × (notNormal 1 (0x80 ∷ 0 ∷ 0 ∷ 1 ∷ []) ≡ 0)
+unfolding bytesAt isNormal
+normal-edges = (refl, refl, refl, refl, refl, refl, refl, refl)

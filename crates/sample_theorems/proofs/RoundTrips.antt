@@ -1,6 +1,6 @@
 -- # There and back
-use mathlib.Core.Path.{_≡_, refl, sym, ap, _∙_}
-use mathlib.Core.List.{List, []}
+use mathlib.Core.Path.{_≡_, refl, sym, ap, ap₂, _∙_}
+use mathlib.Core.List.{List, [], _∷_}
 use Prim.Native.Nat.{ℕ}
 use native.Mathlib.Omega.{arith}
 use lib.ListN.{length}
@@ -15,14 +15,14 @@ use Rattle.value.specs.declared.Pair.{Pair}
 use Rattle.value.specs.declared.Written.{Written}
 use Rattle.value.specs.declared.Written.the-variants.{Word, Refused}
 use Rattle.value.proofs.WrittenLaws.{written-is}
-use Rattle.sample.specs.Reading.{readWord}
+use Rattle.sample.specs.Reading.{notNormal, readWord}
 use Rattle.sample.specs.Calls.{readSaid, wordOutcome, writeSaid, pairOutcome}
 use Rattle.sample.specs.declared.Sample.{Sample}
 use Rattle.sample.specs.declared.Sample.the-variants as sample
 use Rattle.sample.specs.declared.Sample.the-variants.{Taken}
 use Rattle.sample_theorems.specs.Statements.{Back}
 use Rattle.sample_theorems.proofs.Pairs.{bytes-pair, pair-bytes, taken-code, value-pair-back, reading-value, reading-canonical, reading-takes}
-use Rattle.sample_theorems.proofs.Words.{writing-sound, writing-complete, writing-normal}
+use Rattle.sample_theorems.proofs.Words.{writing-sound, writing-complete, writing-normal, writing-0}
 
 -- THEOREM. A pair that is written under a code, and the word read under that code, give the pair again.
 pub write-read : (code : ℕ) (p : Pair) (n : ℕ) → writePair code p ≡ Word n → readWord code (bytesOf 4 n) ≡ Taken (p .e) (p .m)
@@ -48,30 +48,40 @@ read-write code w e m b t =
 
 -- ## The two calls, by the bytes that they hand out
 
--- THEOREM. Six bytes that are written, and the word read under the same code, give the six bytes again.
+-- a word that was written, read again
+again : (code : ℕ) (p : Pair) (n : ℕ) → writePair code p ≡ Word n → wordOutcome code (bytesOf 4 n) ≡ readSaid 0 (Taken (p .e) (p .m))
+again code p n h = ap₂ readSaid (writing-0 code p n h) (write-read code p n h)
+
+-- THEOREM. Six bytes that are written, and the word read under the same code, give the six bytes again, and 0: the word is no other than the
+-- normal one.
 pub calls-write-read : (code : ℕ) (b : List ℕ) → length b ≡ 6 → Bytes b → pairOutcome code b .said ≡ taken []
-    → wordOutcome code (pairOutcome code b .bytes) ≡ record { said = taken []; bytes = b }
+    → wordOutcome code (pairOutcome code b .bytes) ≡ record { said = taken (0 ∷ []); bytes = b }
 calls-write-read code b k h t = go (writePair code (pairIn b)) refl t
   where
-    go : (r : Written) → writePair code (pairIn b) ≡ r → writeSaid r .said ≡ taken [] → wordOutcome code (writeSaid r .bytes) ≡ record { said = taken []; bytes = b }
-    go (Word n) e q = ap readSaid (write-read code (pairIn b) n e) ∙ ap (λ (l : List ℕ). outcome l) (pair-bytes b k h)
+    go : (r : Written) → writePair code (pairIn b) ≡ r → writeSaid r .said ≡ taken [] → wordOutcome code (writeSaid r .bytes) ≡ record { said = taken (0 ∷ []); bytes = b }
+    go (Word n) e q = again code (pairIn b) n e ∙ ap (λ (l : List ℕ). outcome l) (pair-bytes b k h)
       where
         outcome : List ℕ → Outcome
-        outcome l = record { said = taken []; bytes = l }
+        outcome l = record { said = taken (0 ∷ []); bytes = l }
     go (Refused n) e q = absurd (let z : _≡_ {A = ℕ} 0 1 = cc in omega arith)
 
 -- THEOREM. A word that is read is not refused when the six bytes are written under the same code, and the word that was written is read as
--- the same six bytes again.
-pub calls-read-write : (code : ℕ) (w : List ℕ) → Bytes w → wordOutcome code w .said ≡ taken []
-    → (pairOutcome code (wordOutcome code w .bytes) .said ≡ taken []) × (wordOutcome code (pairOutcome code (wordOutcome code w .bytes) .bytes) ≡ wordOutcome code w)
-calls-read-write code w h t = go (readWord code w) refl t
+-- the same six bytes again, with 0.
+pub calls-read-write : (code : ℕ) (w : List ℕ) (c : ℕ) → Bytes w → wordOutcome code w .said ≡ taken (c ∷ [])
+    → (pairOutcome code (wordOutcome code w .bytes) .said ≡ taken [])
+    × (wordOutcome code (pairOutcome code (wordOutcome code w .bytes) .bytes) ≡ record { said = taken (0 ∷ []); bytes = wordOutcome code w .bytes })
+calls-read-write code w c h t = go (readWord code w) refl t
   where
-    go : (r : Sample) → readWord code w ≡ r → readSaid r .said ≡ taken []
-        → (pairOutcome code (readSaid r .bytes) .said ≡ taken []) × (wordOutcome code (pairOutcome code (readSaid r .bytes) .bytes) ≡ readSaid r)
+    k : ℕ
+    k = notNormal code w
+
+    go : (r : Sample) → readWord code w ≡ r → readSaid k r .said ≡ taken (c ∷ [])
+        → (pairOutcome code (readSaid k r .bytes) .said ≡ taken [])
+        × (wordOutcome code (pairOutcome code (readSaid k r .bytes) .bytes) ≡ record { said = taken (0 ∷ []); bytes = readSaid k r .bytes })
     go (sample.Taken e m) x q =
         let p : Pair = record { e = e; m = m } in
         let y = read-write code w e m h x in
-        let again : pairOutcome code (readSaid (Taken e m) .bytes) ≡ writeSaid (Word (y .0)) =
+        let word : pairOutcome code (readSaid k (Taken e m) .bytes) ≡ writeSaid (Word (y .0)) =
         ap (λ (b : Pair). writeSaid (writePair code b)) (bytes-pair p (reading-canonical code w e m h x)) ∙ ap writeSaid (y .1 .word) in
-        (ap (λ (o : Outcome). o .said) again, ap (λ (o : Outcome). wordOutcome code (o .bytes)) again ∙ ap readSaid (write-read code p (y .0) (y .1 .word)))
+        (ap (λ (o : Outcome). o .said) word, ap (λ (o : Outcome). wordOutcome code (o .bytes)) word ∙ again code p (y .0) (y .1 .word))
     go (sample.Refused n) x q = absurd (let z : _≡_ {A = ℕ} 0 1 = cc in omega arith)

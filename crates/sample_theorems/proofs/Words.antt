@@ -3,18 +3,19 @@
 -- A pair that is written becomes a word of 32 bits, whose four bytes are `bytesOf 4 n`.
 use mathlib.Core.Path.{_≡_, refl, sym, ap, _∙_, subst}
 use mathlib.Core.Logic.{_⊎_, inl, inr, ⊎-elim}
-use mathlib.Core.Bool.{true}
+use mathlib.Core.Bool.{Bool, true, false, not, _&&_}
 use mathlib.Core.List.{List, [], _∷_, _++_}
 use Prim.Native.Nat.{ℕ, _*_, _^_, _≤_, _<_}
 use native.Mathlib.Nat.{mul-one}
 use native.Mathlib.Omega.{arith}
-use lib.Dec.{T}
+use borrow.Author.Tests.{eqb-true, ne-eqb}
+use lib.Dec.{T, eqb}
 use lib.Pow.{pow-pos}
 use lib.IntN.{ℤ, pos}
 use lib.ListN.{getD}
 use Rattle.numbers.specs.Terms.{Bytes}
 use Rattle.numbers.specs.Iff.{Iff}
-use Rattle.numbers.specs.Walk.{bytesAt}
+use Rattle.numbers.specs.Walk.{pick, bytesAt}
 use Rattle.numbers.specs.BigEndian.{number, bytesOf}
 use Rattle.numbers.specs.TwosComplement.{signedOf, bitsOf}
 use Rattle.numbers.proofs.ByteLaws.{byte-at, number-at}
@@ -24,6 +25,7 @@ use Rattle.value.specs.Pair.{valueOf, isCanonical}
 use Rattle.value.specs.Writing.{numberOf, ibmWord, wholeWord, gainFits, gainWord, wordOf, writePair, firstDigit, isNormal, Writes}
 use Rattle.value.specs.declared.Pair.{Pair}
 use Rattle.value.specs.declared.Written.the-variants.{Word}
+use Rattle.sample.specs.Reading.{notNormal}
 use Rattle.sample_theorems.specs.Statements.{Says}
 use Rattle.value.proofs.Codes.{code-is}
 use Rattle.value.proofs.Held.{held-sound, held-lt, held-only}
@@ -125,6 +127,55 @@ pub writing-only : (p : Pair) (n k : ℕ) → writePair 1 p ≡ Word n → k < 2
 writing-only p n k h b t e =
     let x = normal-written (valueOf p) n (written-is 1 p n h .2) in
     normal-only k n b (x .fit) t (x .normal) (e ∙ sym (x .value))
+
+-- ## How many words are not normal (document 02, CR 3)
+
+-- a word is the number of its four bytes
+word-fits : (w : List ℕ) → Bytes w → number (bytesAt w 0 4) < 2 ^ 32
+word-fits w b = number-at w b 0 4
+
+-- THEOREM. Reading gives 0 for the normal word of its value, and 1 for any other IBM word.
+pub normal-0 : (w : List ℕ) → Bytes w → Iff (notNormal 1 w ≡ 0) (ibmWord (exactValue 1 w) ≡ Word (number (bytesAt w 0 4)))
+normal-0 w b = (λ e. there (isNormal n) refl e, λ e. rw (normal-word n h .1 e))
+  where
+    n : ℕ
+    n = number (bytesAt w 0 4)
+
+    h : n < 2 ^ 32
+    h = word-fits w b
+
+    there : (t : Bool) → isNormal n ≡ t → _≡_ {A = ℕ} (pick (not t) 1 0) 0 → ibmWord (ibmValue n) ≡ Word n
+    there true q e = normal-word n h .0 q
+    there false q e = absurd (let z : _≡_ {A = ℕ} 1 0 = e in omega (arith, z))
+
+pub other-1 : (w : List ℕ) → Bytes w → Iff (notNormal 1 w ≡ 1) (ibmWord (exactValue 1 w) ≡ Word (number (bytesAt w 0 4)) → ⊥)
+other-1 w b = (λ e f. differ (sym e ∙ normal-0 w b .1 f), λ f. there (isNormal n) refl f)
+  where
+    n : ℕ
+    n = number (bytesAt w 0 4)
+
+    differ : _≡_ {A = ℕ} 1 0 → ⊥
+    differ z = omega (arith, z)
+
+    there : (t : Bool) → isNormal n ≡ t → (ibmWord (ibmValue n) ≡ Word n → ⊥) → _≡_ {A = ℕ} (pick (not (isNormal n)) 1 0) 1
+    there true q f = absurd (f (normal-word n (word-fits w b) .0 q))
+    there false q f = rw q
+
+-- THEOREM. Under the other codes it gives 0.
+pub other-codes : (code : ℕ) (w : List ℕ) → (code ≡ 1 → ⊥) → notNormal code w ≡ 0
+other-codes code w h = rw (ne-eqb code 1 h)
+
+-- THEOREM. A word that is written is one for which reading gives 0, under every code.
+pub writing-0 : (code : ℕ) (p : Pair) (n : ℕ) → writePair code p ≡ Word n → notNormal code (bytesOf 4 n) ≡ 0
+writing-0 code p n h = go (eqb code 1) refl
+  where
+    go : (t : Bool) → eqb code 1 ≡ t → _≡_ {A = ℕ} (pick (t && not (isNormal (number (bytesAt (bytesOf 4 n) 0 4)))) 1 0) 0
+    go true q =
+        let one = eqb-true code 1 q in
+        rw (word-number n (writing-sound code p n h .fit), writing-normal p n (ap (λ (c : ℕ). writePair c p) (sym one) ∙ h))
+    go false q = refl
+
+-- ## The words of the other codes
 
 -- THEOREM. Code 4: no gain below that of the word that is written has a number of 16 bits with the value.
 pub writing-least : (p : Pair) (n g d : ℕ) → writePair 4 p ≡ Word n → d < 2 ^ 16 → gainValue g (signedOf 16 d) ≡ valueOf p → getD (bytesOf 4 n) 1 0 ≤ g

@@ -32,7 +32,7 @@ pub record Starred : Type 0 where
   pub one : (ibm 0x41 0x10 0 0 ≡ Taken (pos 0) (pos 1)) × (ibm 0x42 0x01 0 0 ≡ Taken (pos 0) (pos 1))
   -- C276A000: e -3, m -949; bytes FF FD FF FF FC 4B
   pub minus : (ibm 0xC2 0x76 0xA0 0 ≡ Taken (negsuc 2) (negsuc 948))
-      × (wordOutcome 1 (0xC2 ∷ 0x76 ∷ 0xA0 ∷ 0 ∷ []) ≡ record { said = taken []; bytes = 0xFF ∷ 0xFD ∷ 0xFF ∷ 0xFF ∷ 0xFC ∷ 0x4B ∷ [] })
+      × (wordOutcome 1 (0xC2 ∷ 0x76 ∷ 0xA0 ∷ 0 ∷ []) ≡ record { said = taken (0 ∷ []); bytes = 0xFF ∷ 0xFD ∷ 0xFF ∷ 0xFF ∷ 0xFC ∷ 0x4B ∷ [] })
   -- 80000000 and 7F000000: zero
   pub nothing : (ibm 0x80 0 0 0 ≡ Taken (pos 0) (pos 0)) × (ibm 0x7F 0 0 0 ≡ Taken (pos 0) (pos 0))
   -- 00000001: e -280, m 1; 7F800000: e 251, m 1

@@ -3,11 +3,11 @@
 //     r CCCCCCCC WWWWWWWW----    read the word W under the format code C
 //     w CCCCCCCC PPPPPPPPPPPP    write the pair P under the format code C
 //
-// Each line of the output, 34 bytes with its line feed, has the answer: its number in three decimal
-// digits, 000 where the sample was taken; its place; and the bytes handed out, a word's with dashes
-// after them.
+// Each line of the output, 36 bytes with its line feed, has the answer: its number in three decimal
+// digits, 000 where the sample was taken; its place; the bytes handed out, a word's with dashes after
+// them; and, of a word that was read, 1 where it isn't normal, else 0, a dash of a pair.
 //
-//     NNN LLLLLLLLLLLLLLLL HHHHHHHHHHHH
+//     NNN LLLLLLLLLLLLLLLL HHHHHHHHHHHH C
 //
 // All but the number is in lowercase hexadecimal digits. A line of another form is answered by
 // `bad line`.
@@ -15,6 +15,7 @@ ghost use Prim.Native.Nat.{_≤_};
 use libc::STDIN_FILENO;
 use libc::STDOUT_FILENO;
 use sample::Answer;
+use sample::WordAnswer;
 
 // What two hexadecimal digits spell: a byte, or 0 where they are not both digits.
 struct Byte {
@@ -124,32 +125,32 @@ fn digit_of(value: u8) -> u8
 }
 
 // Spells a byte in two digits from `at` on.
-fn put_byte(reply: &mut [u8; 34], at: usize, byte: u8)
-    requires { ⌜ at ≤ 32 ⌝ }
+fn put_byte(reply: &mut [u8; 36], at: usize, byte: u8)
+    requires { ⌜ at ≤ 34 ⌝ }
 {
     reply[at] = digit_of(byte / 16);
     reply[at + 1] = digit_of(byte % 16);
 }
 
 // Spells a 16-bit number in four digits from `at` on.
-fn put_u16(reply: &mut [u8; 34], at: usize, number: u16)
-    requires { ⌜ at ≤ 30 ⌝ }
+fn put_u16(reply: &mut [u8; 36], at: usize, number: u16)
+    requires { ⌜ at ≤ 32 ⌝ }
 {
     put_byte(reply, at, (number / 256) as u8);
     put_byte(reply, at + 2, (number % 256) as u8);
 }
 
 // Spells a 32-bit number in eight digits from `at` on.
-fn put_u32(reply: &mut [u8; 34], at: usize, number: u32)
-    requires { ⌜ at ≤ 26 ⌝ }
+fn put_u32(reply: &mut [u8; 36], at: usize, number: u32)
+    requires { ⌜ at ≤ 28 ⌝ }
 {
     put_u16(reply, at, (number / 65536) as u16);
     put_u16(reply, at + 4, (number % 65536) as u16);
 }
 
 // A reply with its number and its place, and dashes for the bytes handed out.
-fn reply_of(number: u8, place: usize) -> [u8; 34] {
-    let mut reply = [b'-'; 34];
+fn reply_of(number: u8, place: usize) -> [u8; 36] {
+    let mut reply = [b'-'; 36];
     reply[0] = b'0' + number / 100;
     reply[1] = b'0' + number / 10 % 10;
     reply[2] = b'0' + number % 10;
@@ -157,12 +158,28 @@ fn reply_of(number: u8, place: usize) -> [u8; 34] {
     put_u32(&mut reply, 4, (place / 4294967296) as u32);
     put_u32(&mut reply, 12, (place % 4294967296) as u32);
     reply[20] = b' ';
-    reply[33] = b'\n';
+    reply[33] = b' ';
+    reply[35] = b'\n';
     reply
 }
 
-// The reply to an answer: a sample that was taken has number 0 and place 0.
-fn reply_to(answer: Answer) -> [u8; 34] {
+// A reply to reading a word, with its count.
+fn counted_reply(number: u8, place: usize, count: u8) -> [u8; 36] {
+    let mut reply = reply_of(number, place);
+    reply[34] = b'0' + count % 10;
+    reply
+}
+
+// The reply to what reading a word answers: a sample that was taken has number 0 and place 0, a refused one the count 0.
+fn word_reply(answer: WordAnswer) -> [u8; 36] {
+    match answer {
+        WordAnswer::Taken { not_normal } => counted_reply(0, 0, not_normal),
+        WordAnswer::Refused { number, place } => counted_reply(number, place.0, 0),
+    }
+}
+
+// The reply to what writing a pair answers.
+fn reply_to(answer: Answer) -> [u8; 36] {
     match answer {
         Answer::Taken => reply_of(0, 0),
         Answer::Refused { number, place } => reply_of(number, place.0),
@@ -170,7 +187,7 @@ fn reply_to(answer: Answer) -> [u8; 34] {
 }
 
 // Writes a reply, and says whether that went well, as each function that answers a line does.
-fn send(reply: &[u8; 34]) -> bool {
+fn send(reply: &[u8; 36]) -> bool {
     io::write_all(STDOUT_FILENO, reply)
 }
 
@@ -188,7 +205,7 @@ fn read_word(line: [u8; 24]) -> bool {
     }
     let read = sample::read_word(code.value, word.bytes);
     let pair = read.pair;
-    let mut reply = reply_to(read.answer);
+    let mut reply = word_reply(read.answer);
     put_u16(&mut reply, 21, numbers::be16(pair[0], pair[1]));
     put_u32(
         &mut reply,

@@ -7,15 +7,16 @@
 //
 // The output holds bytes A5 before each call. Each case is answered by a line, its items parted by one space:
 //
-//     taken T N LENGTH DIGEST AGAIN
+//     taken T N LENGTH DIGEST AGAIN COUNT
 //     refused NUMBER BESIDE DIGEST
 //
 // DIGEST is that of the whole output after the call, all its room. AGAIN is the digest of the record that reading the written reel
-// gives. A digest is 0 at first, and each byte b makes (digest * 31 + b) mod 2^32 of it. All numbers are decimal. A case that is cut
+// gives, and COUNT that of its words that are not normal. A digest is 0 at first, and each byte b makes (digest * 31 + b) mod 2^32 of it. All numbers are decimal. A case that is cut
 // short, or longer than 60,000, is answered by `bad case`, and is the last; a written reel that isn't read again, by `not read`.
 use libc::STDIN_FILENO;
 use libc::STDOUT_FILENO;
 use record::Answer;
+use record::Counted;
 
 // The digest of some bytes.
 fn digest(bytes: &[u8]) -> u64 {
@@ -56,15 +57,19 @@ fn print_first(length: usize, bytes: &[u8]) {
     print_item(digest(&bytes[..length]));
 }
 
-// The digest of the record that reading a written reel gives.
+// The digest of the record that reading a written reel gives, and the count.
 fn print_again(reel: &[u8], again: &mut [u8]) {
     match read_reel::read_reel(reel, again) {
-        Answer::Taken {
+        Counted::Taken {
             traces: _,
             samples: _,
             length,
-        } => print_first(length, again),
-        Answer::Refused {
+            count,
+        } => {
+            print_first(length, again);
+            print_item(count as u64);
+        }
+        Counted::Refused {
             number: _,
             place: _,
         } => {

@@ -3,7 +3,7 @@ use mathlib.Core.Path.{refl}
 use mathlib.Core.List.{[], _∷_, append-assoc}
 use native.Mathlib.Omega.{arith}
 use borrow.Author.Needs.{needs}
-use Rattle.record.specs.Answer.{saidBy}
+use Rattle.record.specs.Answer.{countedBy}
 use Rattle.line.specs.Line.{takenWord, refusedWord, lineOf}
 use Rattle.line.proofs.StoreLaws.{begin, next, item, finish}
 use Rattle.line.proofs.line_of.Statement.{statement}
@@ -11,10 +11,11 @@ use Rattle.line.proofs.line_of.Tie as tie
 
 returns : tie.Need-returns
 returns c =
-    let third = c .put-item3 .ensures in
-    let second = c .before .before .put-item2 .ensures in
-    let first = c .before .before .before .before .put-item .ensures in
-    let at-word = c .before .before .before .before .before .before in
+    let fourth = c .put-item4 .ensures in
+    let third = c .before .before .put-item3 .ensures in
+    let second = c .before .before .before .before .put-item2 .ensures in
+    let first = c .before .before .before .before .before .before .put-item .ensures in
+    let at-word = c .before .before .before .before .before .before .before .before in
     let word = at-word .put-word .ensures in
     let match = at-word .before .before .before .before in
     let answer = match .before .before .args .answer in
@@ -22,13 +23,14 @@ returns c =
     let w₁ = item _ w₀ (first .0) (first .2) in
     let w₂ = item _ w₁ (second .0) (second .2) in
     let w₃ = item _ w₂ (third .0) (third .2) in
-    let w₄ = next (10 ∷ []) w₃ refl refl in
-    finish (lineOf (saidBy answer)) w₄ (rw (match .answer .given .1) (simp append-assoc)) (omega arith)
+    let w₄ = item _ w₃ (fourth .0) (fourth .2) in
+    let w₅ = next (10 ∷ []) w₄ refl refl in
+    finish (lineOf (countedBy answer)) w₅ (rw (match .answer .given .1) (simp append-assoc)) (omega arith)
 
 returns-2 : tie.Need-returns-2
 returns-2 c =
-    let second = c .put-item5 .ensures in
-    let first = c .before .before .put-item4 .ensures in
+    let second = c .put-item6 .ensures in
+    let first = c .before .before .put-item5 .ensures in
     let at-word = c .before .before .before .before in
     let word = at-word .put-word2 .ensures in
     let match = at-word .before .before .before .before in
@@ -37,7 +39,7 @@ returns-2 c =
     let w₁ = item _ w₀ (first .0) (first .2) in
     let w₂ = item _ w₁ (second .0) (second .2) in
     let w₃ = next (10 ∷ []) w₂ refl refl in
-    finish (lineOf (saidBy answer)) w₃ (rw (match .answer2 .given .1) (simp append-assoc)) (omega arith)
+    finish (lineOf (countedBy answer)) w₃ (rw (match .answer2 .given .1) (simp append-assoc)) (omega arith)
 
 pub line-of-spec : {M : Type 1} → statement M
 line-of-spec =
@@ -45,6 +47,7 @@ line-of-spec =
     (tie.spec
     (λ c. search needs)
     (λ c. search needs)
+    (λ c κs. search needs)
     (λ c κs. search needs)
     (λ c κs. search needs)
     (λ c κs. search needs)

@@ -1,0 +1,17 @@
+-- `aukpocket::counted_answer` meets its contract. Assumes nothing.
+use Rattle.aukpocket.specs.Interface.{countedAnswer}
+use Rattle.record.specs.Answer.{countedBy}
+use mathlib.Core.Path.{ap, sym}
+use borrow.Author.Needs.{needs}
+use Rattle.aukpocket.proofs.counted_answer.Statement.{statement}
+use Rattle.aukpocket.proofs.counted_answer.Tie as tie
+
+returns : tie.Need-returns
+returns c = ap (λ x. countedAnswer (countedBy x)) (sym (c .before .answer .given .1))
+
+returns-2 : tie.Need-returns-2
+returns-2 c = ap (λ x. countedAnswer (countedBy x)) (sym (c .before .answer2 .given .1))
+
+pub counted-answer-spec : {M : Type 1} → statement M
+counted-answer-spec =
+    tie.close (tie.spec (λ c. search needs) (λ c. search needs) (λ c. search needs) returns returns-2)
