@@ -49,11 +49,11 @@ use Rattle.numbers.proofs.RowLaws.{Tests, apart, refused-where, row-where, then
 use Rattle.numbers.proofs.SaidLaws.{not-taken, iff-trans, says-refused, says-fine, says-either, refused-by, taken-by, keeps-rest}
 use Rattle.value.specs.Value.{isCode, exactValue}
 use Rattle.value.specs.Pair.{valueOf, isCanonical, pairIn}
-use Rattle.value.specs.Writing.{wordOf, writePair}
+use Rattle.value.specs.Writing.{isNormal, wordOf, writePair}
 use Rattle.value.proofs.WrittenLaws.{Only14, only-14}
 use Rattle.value.specs.declared.Written.{Written}
 use Rattle.value.specs.declared.Written.the-variants as written
-use Rattle.sample.specs.Reading.{badGain, pairTaken, readWord}
+use Rattle.sample.specs.Reading.{badGain, notNormal, pairTaken, readWord}
 use Rattle.sample.specs.Calls as calls
 use Rattle.sample.specs.declared.Sample.{Sample}
 use Rattle.sample.specs.declared.Sample.the-variants as sample
@@ -63,6 +63,7 @@ use Rattle.reel.specs.Causes.{traceCauses, behindCauses, causesOf}
 use Rattle.record.specs.Record.{reelRecord}
 use Rattle.record.specs.Held.{heldBy}
 use Rattle.fit.specs.Target.{isUnfit, targetCauses}
+use Rattle.reel.specs.NotNormal.{notNormalIn, notNormalAmong}
 use Rattle.read_reel.specs.Reading.{recordLengthOf, readNumbers, readCauses, readEnd, readOutcome}
 use Rattle.write_reel.specs.Reel.{reelOf}
 use Rattle.write_reel.specs.Writing.{reelLengthOf, writtenNumbers, writeCauses, writeEnd, writeOutcome}
@@ -130,21 +131,21 @@ module _ (s out : List ℕ) where
   -- THEOREM. A taken call leaves the output's length, and each byte behind the length returned, as they were; document 01: "The rest of a
   -- longer output buffer keeps its content."
   -- Alone it rules out none of the list.
-  pub read-rest : (t n l : ℕ) → Bytes s → readOutcome s out .said ≡ taken (t ∷ n ∷ l ∷ [])
+  pub read-rest : (t n l c : ℕ) → Bytes s → readOutcome s out .said ≡ taken (t ∷ n ∷ l ∷ c ∷ [])
       → (length (readOutcome s out .bytes) ≡ length out) × (drop l (readOutcome s out .bytes) ≡ drop l out)
-  read-rest t n l b e =
-      let q = says-fine readSays (readNumbers s) refl (λ n p. refl) readChecks (t ∷ n ∷ l ∷ []) e in
+  read-rest t n l c b e =
+      let q = says-fine readSays (readNumbers s) refl (λ n p. refl) readChecks (t ∷ n ∷ l ∷ c ∷ []) e in
       let f = then-fine (causesOf s) _ q in
-      let same : taken (readNumbers s) ≡ taken (t ∷ n ∷ l ∷ []) = sym (ap readSays q) ∙ e in
+      let same : taken (readNumbers s) ≡ taken (t ∷ n ∷ l ∷ c ∷ []) = sym (ap readSays q) ∙ e in
       let size : recordLengthOf s ≡ l = cc in
       subst (λ (x : ℕ). (length (readOutcome s out .bytes) ≡ length out) × (drop x (readOutcome s out .bytes) ≡ drop x out)) size
       (keeps-rest (readEnd s out) (reelRecord s) out (recordLengthOf s) readChecks refl q (record-size s b (f .0)) (at-most (length out) (recordLengthOf s) 10 (recordLengthOf s) (f .1)))
 
--- THEOREM. Document 01's example, of which it says: "it prints whole: `taken 1 2 3471`". It is taken with T 1, N 2 and a record of 3,471
--- bytes, for which an output of that length is long enough.
+-- THEOREM. Document 01's example, of which it says: "it prints whole: `taken 1 2 3471`"; since CR 3 the line has a fifth item. It is taken
+-- with T 1, N 2, a record of 3,471 bytes, for which an output of that length is long enough, and no word that isn't normal.
 -- Rules out a reader that declines every reel.
-pub example-taken : readOutcome example (replicate 3471 0) .said ≡ taken (1 ∷ 2 ∷ 3471 ∷ [])
-unfolding causesOf behindCauses traceCauses bytesAt
+pub example-taken : readOutcome example (replicate 3471 0) .said ≡ taken (1 ∷ 2 ∷ 3471 ∷ 0 ∷ [])
+unfolding causesOf behindCauses traceCauses bytesAt notNormalAmong notNormalIn isNormal
 example-taken = refl
 
 -- ## Writing a reel
@@ -303,25 +304,26 @@ module _ (s : List ℕ) (k : ℕ) (b : ByteNo) where
 
 -- ## Single samples
 
--- What a single-sample call says, by what its checks answer.
-abbrev says : Check → Said
-says Fine = taken []
-says (Refused number place) = refused number (placeNo place)
+-- What a single-sample call says, by what its checks answer and the numbers that it returns.
+abbrev says : List ℕ → Check → Said
+says numbers Fine = taken numbers
+says numbers (Refused number place) = refused number (placeNo place)
 
--- Such a call, of which `said` is what it says and c what its checks answer, and a table R of rows that are exact against them.
-module _ (said : Said) (c : Check) (is : said ≡ says c) (R : ℕ → ℕ → Type 0) (exact : (number place : ℕ) → Iff (c ≡ Refused number (atPlace place)) (R number place)) where
+-- Such a call, of which `said` is what it says, `numbers` what it returns and c what its checks answer, and a table R of rows that are exact
+-- against them.
+module _ (said : Said) (numbers : List ℕ) (c : Check) (is : said ≡ says numbers c) (R : ℕ → ℕ → Type 0) (exact : (number place : ℕ) → Iff (c ≡ Refused number (atPlace place)) (R number place)) where
   -- It is taken, or refused by a number with a place;
-  single-ends : (said ≡ taken []) ⊎ ((number : ℕ) × (place : ℕ) × (said ≡ refused number place))
+  single-ends : (said ≡ taken numbers) ⊎ ((number : ℕ) × (place : ℕ) × (said ≡ refused number place))
   single-ends =
-      subst (λ (x : Said). (x ≡ taken []) ⊎ ((number : ℕ) × (place : ℕ) × (x ≡ refused number place))) (sym is) (says-either says [] refl (λ n p. refl) c)
+      subst (λ (x : Said). (x ≡ taken numbers) ⊎ ((number : ℕ) × (place : ℕ) × (x ≡ refused number place))) (sym is) (says-either (says numbers) numbers refl (λ n p. refl) c)
 
   -- refused exactly when a row applies,
   single-refused : (number place : ℕ) → Iff (said ≡ refused number place) (R number place)
-  single-refused number place = iff-trans (λ e. sym is ∙ e, λ e. is ∙ e) (refused-by says [] refl (λ n p. refl) R c exact number place)
+  single-refused number place = iff-trans (λ e. sym is ∙ e, λ e. is ∙ e) (refused-by (says numbers) numbers refl (λ n p. refl) R c exact number place)
 
   -- and taken exactly when none does.
-  single-taken : Iff (said ≡ taken []) ((number place : ℕ) → ¬ (R number place))
-  single-taken = iff-trans (λ e. sym is ∙ e, λ e. is ∙ e) (taken-by says [] refl (λ n p. refl) R c exact)
+  single-taken : Iff (said ≡ taken numbers) ((number place : ℕ) → ¬ (R number place))
+  single-taken = iff-trans (λ e. sym is ∙ e, λ e. is ∙ e) (taken-by (says numbers) numbers refl (λ n p. refl) R c exact)
 
 module _ (code : ℕ) (w : List ℕ) where
   -- The checks of a single word.
@@ -329,12 +331,12 @@ module _ (code : ℕ) (w : List ℕ) where
   wordChecks = then (refuseIf (not (isCode code)) 2 0) (refuseIf (badGain code w) 9 0)
 
   -- What the call says is what they answer.
-  word-says : calls.wordOutcome code w .said ≡ says wordChecks
+  word-says : calls.wordOutcome code w .said ≡ says (notNormal code w ∷ []) wordChecks
   unfolding wordChecks
   word-says = go (isCode code) (badGain code w)
     where
-      go : (a g : Bool) → calls.readSaid (pick a (pick g (sample.Refused 9) (pairTaken (exactValue code w))) (sample.Refused 2)) .said
-          ≡ says (then (refuseIf (not a) 2 0) (refuseIf g 9 0))
+      go : (a g : Bool) → calls.readSaid (notNormal code w) (pick a (pick g (sample.Refused 9) (pairTaken (exactValue code w))) (sample.Refused 2)) .said
+          ≡ says (notNormal code w ∷ []) (then (refuseIf (not a) 2 0) (refuseIf g 9 0))
       go true true = refl
       go true false = refl
       go false g = refl
@@ -365,29 +367,29 @@ module _ (code : ℕ) (w : List ℕ) where
           fine-then (test-between 1 4 code 2 0) (omega arith, omega arith) (ap (λ (x : Bool). refuseIf x 9 0) (gain-true c h))
 
   -- THEOREM. "Every call comes to a defined end on every input: no access outside the lent buffers and no number that loses bits": reading a
-  -- single word is taken, or refused by a number with a place. The rest of the clause Rattle proves of each function.
+  -- single word is taken, with 1 or 0, or refused by a number with a place. The rest of the clause Rattle proves of each function.
   -- Alone it rules out none of the list.
-  pub word-ends : (calls.wordOutcome code w .said ≡ taken []) ⊎ ((number : ℕ) × (place : ℕ) × (calls.wordOutcome code w .said ≡ refused number place))
-  word-ends = single-ends (calls.wordOutcome code w .said) wordChecks word-says (WordRow code w) word-exact
+  pub word-ends : (calls.wordOutcome code w .said ≡ taken (notNormal code w ∷ [])) ⊎ ((number : ℕ) × (place : ℕ) × (calls.wordOutcome code w .said ≡ refused number place))
+  word-ends = single-ends (calls.wordOutcome code w .said) (notNormal code w ∷ []) wordChecks word-says (WordRow code w) word-exact
 
   -- THEOREM. "each refusal has the number and place that document 01 sets, and is given in just the cases set there"; document 01: "A
   -- single word is refused by 2, then 9; a single pair by 11, 13, 14; the place is 0 and the bytes handed out are all 00." Exactly when
   -- that row applies.
   -- Rules out a call that declines every word.
   pub word-refused : (number place : ℕ) → Iff (calls.wordOutcome code w .said ≡ refused number place) (WordRow code w number place)
-  word-refused = single-refused (calls.wordOutcome code w .said) wordChecks word-says (WordRow code w) word-exact
+  word-refused = single-refused (calls.wordOutcome code w .said) (notNormal code w ∷ []) wordChecks word-says (WordRow code w) word-exact
 
   -- THEOREM. "in just the cases set there": it is taken exactly when no row applies.
   -- Rules out a call that declines every word.
-  pub word-taken : Iff (calls.wordOutcome code w .said ≡ taken []) ((number place : ℕ) → ¬ (WordRow code w number place))
-  word-taken = single-taken (calls.wordOutcome code w .said) wordChecks word-says (WordRow code w) word-exact
+  pub word-taken : Iff (calls.wordOutcome code w .said ≡ taken (notNormal code w ∷ [])) ((number place : ℕ) → ¬ (WordRow code w number place))
+  word-taken = single-taken (calls.wordOutcome code w .said) (notNormal code w ∷ []) wordChecks word-says (WordRow code w) word-exact
 
   -- THEOREM. Document 01: "the place is 0 and the bytes handed out are all 00": the six of a word that is refused.
   -- Alone it rules out none of the list.
   pub word-zero : (number place : ℕ) → calls.wordOutcome code w .said ≡ refused number place → calls.wordOutcome code w .bytes ≡ 0 ∷ 0 ∷ 0 ∷ 0 ∷ 0 ∷ 0 ∷ []
   word-zero number place e = go (readWord code w) e
     where
-      go : (r : Sample) → calls.readSaid r .said ≡ refused number place → calls.readSaid r .bytes ≡ 0 ∷ 0 ∷ 0 ∷ 0 ∷ 0 ∷ 0 ∷ []
+      go : (r : Sample) → calls.readSaid (notNormal code w) r .said ≡ refused number place → calls.readSaid (notNormal code w) r .bytes ≡ 0 ∷ 0 ∷ 0 ∷ 0 ∷ 0 ∷ 0 ∷ []
       go (sample.Taken x m) e = absurd (not-taken (sym e))
       go (sample.Refused n) e = refl
 
@@ -399,12 +401,12 @@ module _ (code : ℕ) (b : List ℕ) where
       (then (refuseIf (not (isCanonical (pairIn b))) 13 0) (refuseIf (isUnfit (wordOf code (valueOf (pairIn b)))) 14 0))
 
   -- What the call says is what they answer.
-  pair-says : calls.pairOutcome code b .said ≡ says pairChecks
+  pair-says : calls.pairOutcome code b .said ≡ says [] pairChecks
   unfolding pairChecks
   pair-says = go (isCode code) (isCanonical (pairIn b)) (wordOf code (valueOf (pairIn b))) (only-14 code (valueOf (pairIn b)))
     where
       go : (a c : Bool) (r : Written) → Only14 r → calls.writeSaid (pick a (pick c r (written.Refused 13)) (written.Refused 11)) .said
-          ≡ says (then (refuseIf (not a) 11 0) (then (refuseIf (not c) 13 0) (refuseIf (isUnfit r) 14 0)))
+          ≡ says [] (then (refuseIf (not a) 11 0) (then (refuseIf (not c) 13 0) (refuseIf (isUnfit r) 14 0)))
       go true true (written.Word n) h = refl
       go true true (written.Refused n) h = ap (λ (x : ℕ). refused x 0) h
       go true false r h = refl
@@ -442,18 +444,18 @@ module _ (code : ℕ) (b : List ℕ) where
   -- single pair is taken, or refused by a number with a place. The rest of the clause Rattle proves of each function.
   -- Alone it rules out none of the list.
   pub pair-ends : (calls.pairOutcome code b .said ≡ taken []) ⊎ ((number : ℕ) × (place : ℕ) × (calls.pairOutcome code b .said ≡ refused number place))
-  pair-ends = single-ends (calls.pairOutcome code b .said) pairChecks pair-says (PairRow code b) pair-exact
+  pair-ends = single-ends (calls.pairOutcome code b .said) [] pairChecks pair-says (PairRow code b) pair-exact
 
   -- THEOREM. "each refusal has the number and place that document 01 sets, and is given in just the cases set there"; document 01: "a
   -- single pair by 11, 13, 14; the place is 0". Exactly when that row applies.
   -- Rules out a call that declines every pair; and by 14, normalising by single bits, pushing C below 0 and shifting up for a negative e.
   pub pair-refused : (number place : ℕ) → Iff (calls.pairOutcome code b .said ≡ refused number place) (PairRow code b number place)
-  pair-refused = single-refused (calls.pairOutcome code b .said) pairChecks pair-says (PairRow code b) pair-exact
+  pair-refused = single-refused (calls.pairOutcome code b .said) [] pairChecks pair-says (PairRow code b) pair-exact
 
   -- THEOREM. "in just the cases set there": it is taken exactly when no row applies.
   -- Rules out a call that declines every pair, and what `pair-refused` rules out by 14.
   pub pair-taken : Iff (calls.pairOutcome code b .said ≡ taken []) ((number place : ℕ) → ¬ (PairRow code b number place))
-  pair-taken = single-taken (calls.pairOutcome code b .said) pairChecks pair-says (PairRow code b) pair-exact
+  pair-taken = single-taken (calls.pairOutcome code b .said) [] pairChecks pair-says (PairRow code b) pair-exact
 
   -- THEOREM. Document 01: "the place is 0 and the bytes handed out are all 00": the four of a pair that is refused.
   -- Alone it rules out none of the list.

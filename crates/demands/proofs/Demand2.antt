@@ -48,26 +48,30 @@ use Rattle.demands.specs.Results.{RecordRead, CanBeWritten, ReelWritten}
 
 -- ## A reel becomes its record
 
--- Three numbers that are returned are the same as the three that are known to be.
+-- Three numbers that are returned are the same as the three that are known to be; and four.
 same-numbers : {t n l t₂ n₂ l₂ : ℕ} → taken (t ∷ n ∷ l ∷ []) ≡ taken (t₂ ∷ n₂ ∷ l₂ ∷ []) → (t ≡ t₂) × (n ≡ n₂) × (l ≡ l₂)
 same-numbers e = (cc, cc, cc)
+
+same-four : {t n l c t₂ n₂ l₂ c₂ : ℕ} → taken (t ∷ n ∷ l ∷ c ∷ []) ≡ taken (t₂ ∷ n₂ ∷ l₂ ∷ c₂ ∷ []) → (t ≡ t₂) × (n ≡ n₂) × (l ≡ l₂) × (c ≡ c₂)
+same-four e = (cc, cc, cc, cc)
 
 -- THEOREM. "A reel becomes the record that SEG-Y revision 0 and the IBM floating point word define, as document 01 condenses them."
 -- Rules out a reader that gives one fixed record, one that writes nothing and says taken, one that converts the first trace and copies it
 -- for the rest, and one whose T or length is invented; two's complement for the IBM fraction, keeping minus zero, and filling field 115 only
 -- for the first trace.
-pub reading : (s out : List ℕ) (t n l : ℕ) → Bytes s → readOutcome s out .said ≡ taken (t ∷ n ∷ l ∷ []) → RecordRead s out t n l
-reading s out t n l b e =
-    let k = same-numbers (sym e ∙ taken-numbers s out (t ∷ n ∷ l ∷ []) e) in
-    let whole : length (recordOf (meaningOf s)) ≡ l = record-size s b (taken-reel s out (t ∷ n ∷ l ∷ []) e) ∙ sym (k .2) in
+pub reading : (s out : List ℕ) (t n l c : ℕ) → Bytes s → readOutcome s out .said ≡ taken (t ∷ n ∷ l ∷ c ∷ []) → RecordRead s out t n l c
+reading s out t n l c b e =
+    let k = same-four (sym e ∙ taken-numbers s out (t ∷ n ∷ l ∷ c ∷ []) e) in
+    let whole : length (recordOf (meaningOf s)) ≡ l = record-size s b (taken-reel s out (t ∷ n ∷ l ∷ c ∷ []) e) ∙ sym (k .2) in
     record {
       traces = k .0;
       samples = k .1;
       size = k .2 ∙ ap₂ (λ (x y : ℕ). 3273 + x * (186 + 6 * y)) (sym (k .0)) (sym (k .1));
-      content = output-record s out t n l b e;
+      count = k .3;
+      content = output-record s out t n l c b e;
       whole = whole;
       rest =
-          ap (λ (o : Outcome). drop l (o .bytes)) (taken-outcome s out (t ∷ n ∷ l ∷ []) e)
+          ap (λ (o : Outcome). drop l (o .bytes)) (taken-outcome s out (t ∷ n ∷ l ∷ c ∷ []) e)
           ∙ drop-at (recordOf (meaningOf s)) _ l whole ∙ ap (λ (x : ℕ). drop x out) (sym (k .2));
     }
 
@@ -114,17 +118,18 @@ written r code out t n l e =
 
 -- ## Reading the reel that was written
 
--- THEOREM. "and reading that reel, again into an output long enough, gives the record again": byte for byte and with the same T and N.
+-- THEOREM. "and reading that reel, again into an output long enough, gives the record again": byte for byte and with the same T and N. No
+-- word of that reel is one that isn't normal.
 -- Rules out a fixed record or reel, writing nothing and saying taken, copying the first trace for the rest, and an invented length. That T
 -- and N are the record's own, and not merely the same both times, is `reading` and `written`.
 pub read-back : (r : List ℕ) (code : ℕ) (out out₂ : List ℕ) (t n l : ℕ) → Bytes r → writeOutcome r code out .said ≡ taken (t ∷ n ∷ l ∷ []) → length r ≤ length out₂
-    → readOutcome (take l (writeOutcome r code out .bytes)) out₂ ≡ record { said = taken (t ∷ n ∷ length r ∷ []); bytes = r ++ drop (length r) out₂ }
+    → readOutcome (take l (writeOutcome r code out .bytes)) out₂ ≡ record { said = taken (t ∷ n ∷ length r ∷ 0 ∷ []); bytes = r ++ drop (length r) out₂ }
 read-back r code out out₂ t n l b e h =
     let w = written-needs r code out (t ∷ n ∷ l ∷ []) e in
     let k = written r code out t n l e in
     ap (λ (s : List ℕ). readOutcome s out₂) (k .content)
     ∙ written-read r b code out w out₂ h
-    ∙ ap₂ (λ (x y : ℕ). record { said = taken (x ∷ y ∷ length r ∷ []); bytes = r ++ drop (length r) out₂ }) (sym (k .traces)) (sym (k .samples))
+    ∙ ap₂ (λ (x y : ℕ). record { said = taken (x ∷ y ∷ length r ∷ 0 ∷ []); bytes = r ++ drop (length r) out₂ }) (sym (k .traces)) (sym (k .samples))
 
 -- THEOREM. "A valid record is written as a reel in any of the four sample formats whenever that format holds every sample exactly and the
 -- output is long enough, and reading that reel, again into an output long enough, gives the record again."
@@ -134,7 +139,7 @@ pub round-trip : (r : List ℕ) (code : ℕ) (out out₂ : List ℕ) → Bytes r
     let t = heldCount r n in
     let l = 3600 + t * (240 + n * sampleBytes code) in
     (writeOutcome r code out .said ≡ taken (t ∷ n ∷ l ∷ []))
-    × (readOutcome (take l (writeOutcome r code out .bytes)) out₂ ≡ record { said = taken (t ∷ n ∷ length r ∷ []); bytes = r ++ drop (length r) out₂ })
+    × (readOutcome (take l (writeOutcome r code out .bytes)) out₂ ≡ record { said = taken (t ∷ n ∷ length r ∷ 0 ∷ []); bytes = r ++ drop (length r) out₂ })
 round-trip r code out out₂ b v h room =
     let e = writing r code out b v .1 h in
     (e, read-back r code out out₂ _ _ _ b e room)

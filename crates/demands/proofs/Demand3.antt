@@ -73,8 +73,8 @@ use Rattle.demands.specs.Results.{sampleValue, Agree, ReelAgain, OwnCode
 -- Rules out a reader that gives one fixed record, and one that converts the first trace and copies it for the rest; two's complement for the
 -- IBM fraction, keeping minus zero, and filling field 115 only for the first trace. Also copying the words through, since two words of one
 -- value must give one pair.
-pub records-equal : (s₁ s₂ out₁ out₂ : List ℕ) (t₁ n₁ l₁ t₂ n₂ l₂ : ℕ) → Bytes s₁ → Bytes s₂
-    → readOutcome s₁ out₁ .said ≡ taken (t₁ ∷ n₁ ∷ l₁ ∷ []) → readOutcome s₂ out₂ .said ≡ taken (t₂ ∷ n₂ ∷ l₂ ∷ [])
+pub records-equal : (s₁ s₂ out₁ out₂ : List ℕ) (t₁ n₁ l₁ c₁ t₂ n₂ l₂ c₂ : ℕ) → Bytes s₁ → Bytes s₂
+    → readOutcome s₁ out₁ .said ≡ taken (t₁ ∷ n₁ ∷ l₁ ∷ c₁ ∷ []) → readOutcome s₂ out₂ .said ≡ taken (t₂ ∷ n₂ ∷ l₂ ∷ c₂ ∷ [])
     → Iff (take l₁ (readOutcome s₁ out₁ .bytes) ≡ take l₂ (readOutcome s₂ out₂ .bytes)) (MeanTheSame s₁ s₂)
 records-equal = same-outputs
 
@@ -143,20 +143,20 @@ own-alike own y z = one-spelling (λ x. eqb (natAbs x) 0) (pos 0) (pos own) only
 -- means the same and has the same record, wherever the outputs are long enough."
 -- Rules out a writer that writes nothing and says taken, a writer or a reader that converts the first trace and copies it for the rest, and
 -- either with a length that is invented, or a T that the other doesn't have. That T is the reel's own is `reading`.
-pub reel-again : (s out : List ℕ) (t n l : ℕ) (code : ℕ) (out₂ : List ℕ) (t₂ n₂ l₂ : ℕ) → Bytes s → readOutcome s out .said ≡ taken (t ∷ n ∷ l ∷ [])
+pub reel-again : (s out : List ℕ) (t n l c : ℕ) (code : ℕ) (out₂ : List ℕ) (t₂ n₂ l₂ : ℕ) → Bytes s → readOutcome s out .said ≡ taken (t ∷ n ∷ l ∷ c ∷ [])
     → writeOutcome (take l (readOutcome s out .bytes)) code out₂ .said ≡ taken (t₂ ∷ n₂ ∷ l₂ ∷ [])
     → ReelAgain s t n l (take l (readOutcome s out .bytes)) code t₂ n₂ l₂ (take l₂ (writeOutcome (take l (readOutcome s out .bytes)) code out₂ .bytes))
-reel-again s out t n l code out₂ t₂ n₂ l₂ b e e₂ =
+reel-again s out t n l c code out₂ t₂ n₂ l₂ b e e₂ =
     let r = take l (readOutcome s out .bytes) in
-    let x = reading s out t n l b e in
-    let v = read-valid s out t n l b e in
+    let x = reading s out t n l c b e in
+    let v = read-valid s out t n l c b e in
     let h = v .bytes in
     let w = written-needs r code out₂ (t₂ ∷ n₂ ∷ l₂ ∷ []) e₂ in
     let k = written r code out₂ t₂ n₂ l₂ e₂ in
     let size : length r ≡ l = ap length (x .content) ∙ x .whole in
     let f = written-no-cause r h code out₂ w in
     let has = written-record r h code out₂ w in
-    let means = same-records s _ b (written-bytes r h code out₂ w) (taken-reel s out (t ∷ n ∷ l ∷ []) e) f .0 (sym (x .content) ∙ sym has) in
+    let means = same-records s _ b (written-bytes r h code out₂ w) (taken-reel s out (t ∷ n ∷ l ∷ c ∷ []) e) f .0 (sym (x .content) ∙ sym has) in
     record {
       traces = k .traces ∙ v .traces;
       samples = k .samples ∙ v .samples;
@@ -167,8 +167,8 @@ reel-again s out t n l code out₂ t₂ n₂ l₂ b e e₂ =
       has = ap reelRecord (k .content) ∙ has;
       read = λ out₃ room.
           read-back r code out₂ out₃ t₂ n₂ l₂ h e₂ (rw size room)
-          ∙ ap (λ (j : ℕ). record { said = taken (t₂ ∷ n₂ ∷ j ∷ []); bytes = r ++ drop j out₃ }) size
-          ∙ ap₂ (λ (i j : ℕ). record { said = taken (i ∷ j ∷ l ∷ []); bytes = r ++ drop l out₃ }) (k .traces ∙ v .traces) (k .samples ∙ v .samples);
+          ∙ ap (λ (j : ℕ). record { said = taken (t₂ ∷ n₂ ∷ j ∷ 0 ∷ []); bytes = r ++ drop j out₃ }) size
+          ∙ ap₂ (λ (i j : ℕ). record { said = taken (i ∷ j ∷ l ∷ 0 ∷ []); bytes = r ++ drop l out₃ }) (k .traces ∙ v .traces) (k .samples ∙ v .samples);
     }
 
 -- ## Which reels are written
@@ -176,16 +176,16 @@ reel-again s out t n l code out₂ t₂ n₂ l₂ b e e₂ =
 -- THEOREM. "in whichever of the formats holds it": the record of a reel so read is written under every code of 1 to 4 that has a word for
 -- each of the reel's sample values, "wherever the outputs are long enough".
 -- Rules out a writer that declines every record, and one whose T or length is invented.
-pub written-in-each-code : (s out : List ℕ) (t n l : ℕ) (code : ℕ) (out₂ : List ℕ) → Bytes s → readOutcome s out .said ≡ taken (t ∷ n ∷ l ∷ [])
+pub written-in-each-code : (s out : List ℕ) (t n l c : ℕ) (code : ℕ) (out₂ : List ℕ) → Bytes s → readOutcome s out .said ≡ taken (t ∷ n ∷ l ∷ c ∷ [])
     → isCode code ≡ true → Worded code (meaningOf s .traces)
     → 3600 + t * (240 + n * sampleBytes code) ≤ length out₂
     → writeOutcome (take l (readOutcome s out .bytes)) code out₂ .said ≡ taken (t ∷ n ∷ (3600 + t * (240 + n * sampleBytes code)) ∷ [])
-written-in-each-code s out t n l code out₂ b e c f h =
+written-in-each-code s out t n l c code out₂ b e i f h =
     let r = take l (readOutcome s out .bytes) in
-    let v = read-valid s out t n l b e in
+    let v = read-valid s out t n l c b e in
     let size = ap₂ (reelLength code) (v .traces) (v .samples) in
     let words = subst (λ (m : Meaning). Worded code (m .traces)) (sym (v .holds)) f in
-    let w = needs r code out₂ (v .bytes) (v .valid) c words (rw size h) in
+    let w = needs r code out₂ (v .bytes) (v .valid) i words (rw size h) in
     ap (λ (o : Outcome). o .said) (write-taken r code out₂ w) ∙ ap taken (cons-eq (v .traces) (cons-eq (v .samples) (cons-eq size refl)))
 
 -- Each sample of a trace of a reel has its own word, where 9 doesn't apply to it.
@@ -222,16 +222,16 @@ own-size s f =
 -- THEOREM. "in whichever of the formats holds it": the reel's own code has a word for each of the reel's sample values, and its record is
 -- written under that code.
 -- Rules out a writer that declines every record, and one whose T or length is invented.
-pub own-code : (s out : List ℕ) (t n l : ℕ) → Bytes s → readOutcome s out .said ≡ taken (t ∷ n ∷ l ∷ []) → OwnCode s t n (take l (readOutcome s out .bytes))
-own-code s out t n l b e =
-    let f = taken-reel s out (t ∷ n ∷ l ∷ []) e in
-    let x = reading s out t n l b e in
+pub own-code : (s out : List ℕ) (t n l c : ℕ) → Bytes s → readOutcome s out .said ≡ taken (t ∷ n ∷ l ∷ c ∷ []) → OwnCode s t n (take l (readOutcome s out .bytes))
+own-code s out t n l c b e =
+    let f = taken-reel s out (t ∷ n ∷ l ∷ c ∷ []) e in
+    let x = reading s out t n l c b e in
     let k = reel-fine s f .numbers in
-    let c : isCode (codeOf s) ≡ true = rw (le-leb 1 (codeOf s) (k .code-low), le-leb (codeOf s) 4 (k .code-high)) in
+    let i : isCode (codeOf s) ≡ true = rw (le-leb 1 (codeOf s) (k .code-low), le-leb (codeOf s) 4 (k .code-high)) in
     let size : reelLength (codeOf s) t n ≡ length s = ap₂ (reelLength (codeOf s)) (x .traces) (x .samples) ∙ own-size s f in
     record {
-      code-is = c;
+      code-is = i;
       words = reel-words s b f;
       writes = λ out₂ room.
-          written-in-each-code s out t n l (codeOf s) out₂ b e c (reel-words s b f) (rw size room) ∙ ap (λ (j : ℕ). taken (t ∷ n ∷ j ∷ [])) size;
+          written-in-each-code s out t n l c (codeOf s) out₂ b e i (reel-words s b f) (rw size room) ∙ ap (λ (j : ℕ). taken (t ∷ n ∷ j ∷ [])) size;
     }

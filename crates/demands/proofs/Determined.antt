@@ -59,11 +59,11 @@ meant s b f =
 -- Rules out a reader that gives one fixed record, one that writes nothing and says taken, one that converts the first trace and copies it
 -- for the rest, and one whose T or length is invented; two's complement for the IBM fraction, keeping minus zero, and filling field 115
 -- only for the first trace.
-pub read-valid : (s out : List ℕ) (t n l : ℕ) → Bytes s → readOutcome s out .said ≡ taken (t ∷ n ∷ l ∷ [])
+pub read-valid : (s out : List ℕ) (t n l c : ℕ) → Bytes s → readOutcome s out .said ≡ taken (t ∷ n ∷ l ∷ c ∷ [])
     → RecordHolds s t n (take l (readOutcome s out .bytes))
-read-valid s out t n l b e =
-    let k = reading s out t n l b e in
-    let h = meant s b (taken-reel s out (t ∷ n ∷ l ∷ []) e) in
+read-valid s out t n l c b e =
+    let k = reading s out t n l c b e in
+    let h = meant s b (taken-reel s out (t ∷ n ∷ l ∷ c ∷ []) e) in
     rw (k .traces, k .samples, k .content) h
 
 -- ## Valid records

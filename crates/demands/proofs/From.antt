@@ -8,7 +8,7 @@ use lib.ListN.{length, getD, take, drop, length-append, length-drop}
 use lib.Seq.{take-at, drop-at, drop-drop, getD-drop}
 use lib.IntN.{ℤ}
 use lib.Signed.{mag}
-use Rattle.numbers.specs.Walk.{walk, flat, bytesAt}
+use Rattle.numbers.specs.Walk.{walk, flat, sum, bytesAt}
 use Rattle.numbers.specs.BigEndian.{number, bytesOf}
 use Rattle.numbers.specs.TwosComplement.{signedOf, bitsOf}
 use Rattle.numbers.specs.Cause.{firstOf}
@@ -118,3 +118,8 @@ from-numbers {s} {p} start b (w ∷ ws) (z ∷ zs) rest l e h f =
     let g = from-parts x (numberBytes ws zs) rest f in
     cons-eq (rw e (from-signed w z (numberBytes ws zs ++ rest) (h .0) (h .1) g))
     (from-numbers start (b + w) ws zs rest (omega arith) (omega arith) (h .2) (from-next x (numberBytes ws zs ++ rest) w (length-bytes w (bitsOf (8 * w) z)) g))
+
+-- Where each part gives 0, so does their sum.
+pub sum-zeros : {A : Type 0} (l : List A) → sum (map (λ (x : A). 0) l) ≡ 0
+sum-zeros [] = refl
+sum-zeros (x ∷ l) = omega (arith, sum-zeros l)

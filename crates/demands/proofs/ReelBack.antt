@@ -12,7 +12,7 @@ use borrow.Author.Tests.{le-ltb, le-leb, eq-eqb, ne-eqb, eqb-true, leb-true}
 use lib.Dec.{T, eqb, leb, ltb}
 use lib.ListN.{length, getD, take, replicate, length-append}
 use lib.IntN.{ℤ, pos, natAbs}
-use Rattle.numbers.specs.Walk.{pick, walk, flat, bytesAt}
+use Rattle.numbers.specs.Walk.{pick, walk, flat, sum, bytesAt}
 use Rattle.numbers.specs.BigEndian.{number, bytesOf}
 use Rattle.numbers.specs.TwosComplement.{signedOf}
 use Rattle.numbers.specs.Cause.{refuseIf, firstOf}
@@ -27,13 +27,14 @@ use Rattle.value.specs.Pair.{pairOf, isCanonical}
 use Rattle.value.specs.Writing.{wordOf, writePair}
 use Rattle.value.specs.declared.Written.{Written}
 use Rattle.value.specs.declared.Written.the-variants.{Word, Refused}
-use Rattle.sample.specs.Reading.{badGain}
+use Rattle.sample.specs.Reading.{badGain, notNormal}
 use Rattle.sample_theorems.proofs.Pairs.{pair-value}
 use Rattle.sample_theorems.specs.Statements.{Says}
-use Rattle.sample_theorems.proofs.Words.{writing-sound}
+use Rattle.sample_theorems.proofs.Words.{writing-sound, writing-0}
 use Rattle.reel.specs.Layout.{cardBytes, firstTrace, traceHeader, binaryFields, traceFields, fieldNumber, intervalOf, samplesOf, codeOf, sampleBytes, stride, strideOf, wholeIn, overIn, tracesOf}
 use Rattle.reel.specs.Causes.{mostSamples, mostTraces, mostInterval, neither, limitCauses, wordCause, traceCauses, behindCauses, causesOf}
 use Rattle.reel.specs.Meaning.{blank, cardText, otherThan, binaryNumbers, filled, traceNumber, Trace, traceMeaning, Meaning, meaningOf}
+use Rattle.reel.specs.NotNormal.{notNormalIn, notNormalAmong, notNormalOf}
 use Rattle.headers.specs.Header.{recordNumbers, headerBytes, headerSize}
 use Rattle.headers.proofs.TraceLaws.{trace-numbers, countField, intervalField}
 use Rattle.headers.proofs.Listed.{behind-at}
@@ -45,7 +46,7 @@ use Rattle.write_samples.specs.Samples.{wordContent}
 use Rattle.write_reel.specs.Reel.{sampleWritten, traceWritten, reelOf, reelLength}
 use Rattle.demands.proofs.Proper.{ProperTrace, Proper}
 use Rattle.demands.proofs.Fitting.{Fitting}
-use Rattle.demands.proofs.From.{From, from-start, from-at, from-next, from-bytes, from-walk, from-fine}
+use Rattle.demands.proofs.From.{From, from-start, from-at, from-next, from-bytes, from-walk, from-fine, sum-zeros}
 use Rattle.demands.proofs.Headers.{bytes-header, size-zeros, bytes-cards, meaning-eq, size-binary, bytes-binary, binary-again, code-again, samples-again, interval-again, size-header, count-at, interval-at, trace-around, numbers-again, count-again, spacing-again}
 use Rattle.demands.proofs.WrittenSize.{sample-size}
 
@@ -56,16 +57,17 @@ abbrev Writable : ℕ → ℤ → Type 0
 Writable code v = (isUnfit (wordOf code v) ≡ false) × (isCanonical (pairOf v) ≡ true)
 
 -- Its word has the value, and reading takes it.
-word-of : (code : ℕ) (v : ℤ) → isCode code ≡ true → Writable code v → (k : ℕ) × (wordOf code v ≡ Word k) × Says code v k
+word-of : (code : ℕ) (v : ℤ) → isCode code ≡ true → Writable code v → (k : ℕ) × (wordOf code v ≡ Word k) × Says code v k × (notNormal code (bytesOf 4 k) ≡ 0)
 word-of code v c h = go (wordOf code v) refl (h .0)
   where
-    says : (k : ℕ) → wordOf code v ≡ Word k → Says code v k
-    says k e =
-        let w : writePair code (pairOf v) ≡ Word k = rw (c, h .1, pair-value v) e in
-        subst (λ (x : ℤ). Says code x k) (pair-value v) (writing-sound code (pairOf v) k w)
+    written : (k : ℕ) → wordOf code v ≡ Word k → writePair code (pairOf v) ≡ Word k
+    written k e = rw (c, h .1, pair-value v) e
 
-    go : (w : Written) → wordOf code v ≡ w → isUnfit w ≡ false → (k : ℕ) × (wordOf code v ≡ Word k) × Says code v k
-    go (Word k) e q = (k, e, says k e)
+    says : (k : ℕ) → wordOf code v ≡ Word k → Says code v k
+    says k e = subst (λ (x : ℤ). Says code x k) (pair-value v) (writing-sound code (pairOf v) k (written k e))
+
+    go : (w : Written) → wordOf code v ≡ w → isUnfit w ≡ false → (k : ℕ) × (wordOf code v ≡ Word k) × Says code v k × (notNormal code (bytesOf 4 k) ≡ 0)
+    go (Word k) e q = (k, e, says k e, writing-0 code (pairOf v) k (written k e))
     go (Refused number) e q = absurd (subst T q tt)
 
 -- The content of a word is bytes.
@@ -81,14 +83,16 @@ bytes-sample code v = all-take (λ b. b < 256) (sampleBytes code) (wordContent (
 record Read (s : List ℕ) (code : ℕ) (v : ℤ) (at : ℕ) : Type 0 where
   good : badGain code (bytesAt s at 4) ≡ false
   value : exactValue code (bytesAt s at 4) ≡ v
+  count : notNormal code (bytesAt s at 4) ≡ 0
 
 -- Under codes 1, 2 and 4 the word's four bytes stand there.
-read-four : (s : List ℕ) (code : ℕ) (v : ℤ) (at k : ℕ) (rest : List ℕ) → Says code v k → From s at (bytesOf 4 k ++ rest) → Read s code v at
-read-four s code v at k rest h f =
+read-four : (s : List ℕ) (code : ℕ) (v : ℤ) (at k : ℕ) (rest : List ℕ) → Says code v k → notNormal code (bytesOf 4 k) ≡ 0 → From s at (bytesOf 4 k ++ rest) → Read s code v at
+read-four s code v at k rest h z f =
     let e : bytesAt s at 4 ≡ bytesOf 4 k = from-bytes (bytesOf 4 k) rest 4 (length-bytes 4 k) f in
     record {
       good = ap (badGain code) e ∙ h .good;
       value = ap (exactValue code) e ∙ h .value;
+      count = ap (notNormal code) e ∙ z;
     }
 
 -- Under code 3 the first two of them, and no others are read.
@@ -99,19 +103,20 @@ read-two s v at k rest h f =
     record {
       good = refl;
       value = ap (λ (l : List ℕ). wholeValue (signedOf 16 (number l))) e ∙ h .value;
+      count = refl;
     }
 
 -- A sample under a code, at a place.
 read-sample : (s : List ℕ) (code : ℕ) (v : ℤ) (at : ℕ) (rest : List ℕ) → isCode code ≡ true → Writable code v → From s at (sampleWritten code v ++ rest) → Read s code v at
 read-sample s code v at rest c h f =
     let w = word-of code v c h in
-    go (w .0) (w .2) (subst (λ (x : Written). From s at (take (sampleBytes code) (wordContent x) ++ rest)) (w .1) f) (eqb code 3) refl
+    go (w .0) (w .2) (w .3) (subst (λ (x : Written). From s at (take (sampleBytes code) (wordContent x) ++ rest)) (w .1) f) (eqb code 3) refl
   where
-    go : (k : ℕ) → Says code v k → From s at (take (sampleBytes code) (bytesOf 4 k) ++ rest) → (b : Bool) → eqb code 3 ≡ b → Read s code v at
-    go k x f true q =
+    go : (k : ℕ) → Says code v k → notNormal code (bytesOf 4 k) ≡ 0 → From s at (take (sampleBytes code) (bytesOf 4 k) ++ rest) → (b : Bool) → eqb code 3 ≡ b → Read s code v at
+    go k x z f true q =
         let e : code ≡ 3 = eqb-true code 3 q in
         rw e (read-two s v at k rest (rw e at x) (rw e at f))
-    go k x f false q = read-four s code v at k rest x (rw q at f)
+    go k x z f false q = read-four s code v at k rest x z (rw q at f)
 
 -- ## Traces
 
@@ -194,6 +199,16 @@ module _ (code n i : ℕ) (c : isCode code ≡ true) (t : Trace) (h : Ready code
         let scalars = allowed-again s at (t .header) (h .proper .header .scaled) (numbers-again n i t (h .proper) s b at _ from-header) in
         rw (count-again n i t (h .proper) s b at _ from-header, spacing-again n i t (h .proper) s b at _ from-header, neither-same n, neither-same i, scalars .0, scalars .1)
         (ap (λ (k : ℕ). firstOf (walk (wordCause s code) (sampleBytes code) k (at + traceHeader))) (sym (h .proper .size)) ∙ words)
+
+    -- Each of its words is normal.
+    trace-count : notNormalIn s code n (at + traceHeader) ≡ 0
+    unfolding notNormalIn
+    trace-count =
+        ap (λ (k : ℕ). sum (walk (λ p. notNormal code (bytesAt s p 4)) (sampleBytes code) k (at + traceHeader))) (sym (h .proper .size))
+        ∙ ap sum
+        (from-walk s (sampleWritten code) (Writable code) (sampleBytes code) (λ v q. sample-size code v) (λ p. notNormal code (bytesAt s p 4)) (λ v. 0)
+        (λ v p r q e. read-sample s code v p r c q e .count) (t .values) (at + traceHeader) rest (h .writable) from-samples)
+        ∙ sum-zeros (t .values)
 
     -- It means the trace.
     trace-again : traceMeaning s code n i at ≡ t
@@ -346,6 +361,16 @@ module _ (code n i : ℕ) (m : Meaning) (p : Proper n i m) (c : isCode code ≡ 
           (from-walk (reelOf code m) (traceWritten code) (Ready code n i) (stride n (sampleBytes code)) (size-trace code n i c) (traceMeaning (reelOf code m) code n i) (λ (t : Trace). t)
           (λ t at rest h e. trace-again code n i c t h (reelOf code m) reel-bytes at rest e) (m .traces) firstTrace [] ready from-traces
           ∙ map-id (m .traces))
+
+  -- LAW. Each word of the reel is normal.
+  pub reel-count : notNormalOf (reelOf code m) ≡ 0
+  unfolding notNormalAmong
+  reel-count =
+      rw (reel-code, reel-samples, whole)
+      (ap sum
+      (from-walk (reelOf code m) (traceWritten code) (Ready code n i) (stride n (sampleBytes code)) (size-trace code n i c) (λ at. notNormalIn (reelOf code m) code n (at + traceHeader)) (λ (t : Trace). 0)
+      (λ t at rest h e. trace-count code n i c t h (reelOf code m) reel-bytes at rest e) (m .traces) firstTrace [] ready from-traces)
+      ∙ sum-zeros (m .traces))
 
   -- LAW. The headers of the reel's traces are those of the meaning's, one behind the other.
   pub reel-headers : walk (λ at. bytesAt (reelOf code m) at headerSize) (stride n (sampleBytes code)) (length (m .traces)) firstTrace ≡ map (λ (t : Trace). headerBytes (t .header)) (m .traces)

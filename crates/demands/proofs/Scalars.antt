@@ -42,6 +42,7 @@ use Rattle.scalars.proofs.Powers.{power-lt, own-serves, smallest-lt, serves-lea
 use Rattle.scalars.proofs.Laws.{power-scalar, same-refl, same-true}
 use Rattle.scalars.proofs.Meant as meant
 use Rattle.reel.specs.Layout.{Field, elevationScalar, coordinateScalar, fieldNumber, firstTrace, samplesOf, intervalOf, codeOf, sampleBytes, stride, strideOf, tracesOf}
+use Rattle.reel.specs.NotNormal.{notNormalOf}
 use Rattle.reel.specs.Meaning.{elevationFields, coordinateFields, headerOf, Trace, traceMeaning, Meaning, meaningOf}
 use Rattle.headers.specs.Header.{headerSize, headerBytes}
 use Rattle.headers.proofs.HeaderBytes.{elevations-fit, coordinates-fit, bytes-again as header-bytes}
@@ -194,11 +195,11 @@ module _ (s r : List ℕ) (b : Bytes r) (e : heldBy r ≡ meaningOf s) (k : ℕ)
 -- those of the reel's trace at the smallest power, spelled out in `SmallestPower`.
 -- Rules out a power one larger, a search from 4 down, a fit tested on the first number only, the group of 71 by the power of 69, and -2^31
 -- said not to fit.
-pub record-scalars : (s out : List ℕ) (t n l : ℕ) → Bytes s → readOutcome s out .said ≡ taken (t ∷ n ∷ l ∷ []) → (k : ℕ) → k < t
+pub record-scalars : (s out : List ℕ) (t n l c : ℕ) → Bytes s → readOutcome s out .said ≡ taken (t ∷ n ∷ l ∷ c ∷ []) → (k : ℕ) → k < t
     → GroupsHeld s (take l (readOutcome s out .bytes)) k
-record-scalars s out t n l b e k h =
+record-scalars s out t n l c b e k h =
     let r = take l (readOutcome s out .bytes) in
-    let v = read-valid s out t n l b e in
+    let v = read-valid s out t n l c b e in
     let few : k < heldCount r (heldSamples r) = rw (v .traces) h in
     groups-held s r (v .bytes) (v .holds) k few (record-right r (v .valid) .end .until .before k few)
 
@@ -206,11 +207,11 @@ record-scalars s out t n l b e k h =
 -- is taken, and the record is valid and holds what the reel means, each group by its values.
 -- Rules out a reader that declines a reel for its elevations or coordinates.
 pub has-record : (s out : List ℕ) → Bytes s → ((number place : ℕ) → ¬ (ReelRow s number place)) → recordLengthOf s ≤ length out
-    → (readOutcome s out .said ≡ taken (tracesOf s ∷ samplesOf s ∷ recordLengthOf s ∷ []))
+    → (readOutcome s out .said ≡ taken (tracesOf s ∷ samplesOf s ∷ recordLengthOf s ∷ notNormalOf s ∷ []))
     × RecordHolds s (tracesOf s) (samplesOf s) (take (recordLengthOf s) (readOutcome s out .bytes))
 has-record s out b h room =
-    let e : readOutcome s out .said ≡ taken (tracesOf s ∷ samplesOf s ∷ recordLengthOf s ∷ []) = ap (λ (o : Outcome). o .said) (read-taken s out (no-cause s .1 h) room) in
-    (e, read-valid s out (tracesOf s) (samplesOf s) (recordLengthOf s) b e)
+    let e : readOutcome s out .said ≡ taken (tracesOf s ∷ samplesOf s ∷ recordLengthOf s ∷ notNormalOf s ∷ []) = ap (λ (o : Outcome). o .said) (read-taken s out (no-cause s .1 h) room) in
+    (e, read-valid s out (tracesOf s) (samplesOf s) (recordLengthOf s) (notNormalOf s) b e)
 
 -- ## A scalar in a record
 
@@ -231,11 +232,11 @@ scalar-means r b k =
 -- THEOREM. "Reels now count as equal by the scaled values of these fields, exactly; 69 and 71 themselves no longer count": two reels that
 -- agree number by number, `Agree`, however their groups are scaled, have the same record, byte for byte.
 -- Rules out a record that keeps a reel's own scalars.
-pub same-values : (s₁ s₂ out₁ out₂ : List ℕ) (t₁ n₁ l₁ t₂ n₂ l₂ : ℕ) → Bytes s₁ → Bytes s₂
-    → readOutcome s₁ out₁ .said ≡ taken (t₁ ∷ n₁ ∷ l₁ ∷ []) → readOutcome s₂ out₂ .said ≡ taken (t₂ ∷ n₂ ∷ l₂ ∷ [])
+pub same-values : (s₁ s₂ out₁ out₂ : List ℕ) (t₁ n₁ l₁ c₁ t₂ n₂ l₂ c₂ : ℕ) → Bytes s₁ → Bytes s₂
+    → readOutcome s₁ out₁ .said ≡ taken (t₁ ∷ n₁ ∷ l₁ ∷ c₁ ∷ []) → readOutcome s₂ out₂ .said ≡ taken (t₂ ∷ n₂ ∷ l₂ ∷ c₂ ∷ [])
     → Agree s₁ s₂ → take l₁ (readOutcome s₁ out₁ .bytes) ≡ take l₂ (readOutcome s₂ out₂ .bytes)
-same-values s₁ s₂ out₁ out₂ t₁ n₁ l₁ t₂ n₂ l₂ b₁ b₂ e₁ e₂ a =
-    records-equal s₁ s₂ out₁ out₂ t₁ n₁ l₁ t₂ n₂ l₂ b₁ b₂ e₁ e₂ .1 (by-number s₁ s₂ b₁ b₂ .1 a)
+same-values s₁ s₂ out₁ out₂ t₁ n₁ l₁ c₁ t₂ n₂ l₂ c₂ b₁ b₂ e₁ e₂ a =
+    records-equal s₁ s₂ out₁ out₂ t₁ n₁ l₁ c₁ t₂ n₂ l₂ c₂ b₁ b₂ e₁ e₂ .1 (by-number s₁ s₂ b₁ b₂ .1 a)
 
 -- ## A written reel
 

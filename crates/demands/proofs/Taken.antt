@@ -22,6 +22,7 @@ use Rattle.value.specs.Value.{isCode}
 use Rattle.headers.specs.Header.{headerSize, headerBytes}
 use Rattle.reel.specs.Layout.{firstTrace, sampleBytes, stride, intervalOf, samplesOf, codeOf, strideOf, tracesOf}
 use Rattle.reel.specs.Causes.{causesOf}
+use Rattle.reel.specs.NotNormal.{notNormalOf}
 use Rattle.reel.specs.Meaning.{Trace, traceMeaning, Meaning, meaningOf}
 use Rattle.record.specs.Record.{recordOf, reelRecord}
 use Rattle.record.specs.Form.{tracesPlace, heldInterval, heldSamples, heldStride, heldCount, formCauses}
@@ -35,7 +36,7 @@ use Rattle.demands.proofs.Proper.{ProperTrace, Proper}
 use Rattle.demands.proofs.Again.{held-again}
 use Rattle.demands.proofs.ProperLaws.{held-proper}
 use Rattle.demands.proofs.Fitting.{FittingTrace, Fitting, fit-is, fits-is}
-use Rattle.demands.proofs.ReelBack.{reel-bytes, reel-code, reel-samples, reel-traces, reel-no-cause, reel-again, reel-headers}
+use Rattle.demands.proofs.ReelBack.{reel-bytes, reel-code, reel-samples, reel-traces, reel-no-cause, reel-again, reel-count, reel-headers}
 use Rattle.demands.specs.Words.{HasWord, Worded}
 
 -- ## Words for every sample
@@ -173,9 +174,13 @@ module _ (r : List ℕ) (b : Bytes r) (code : ℕ) (out : List ℕ) (w : Writabl
   pub written-length : recordLengthOf (reelOf code (heldBy r)) ≡ length r
   written-length = sym (record-size (reelOf code (heldBy r)) written-bytes written-no-cause) ∙ ap length written-record
 
-  -- Reading it into an output long enough gives the record again, with the record's T and N.
+  -- Each of its words is normal.
+  pub written-count : notNormalOf (reelOf code (heldBy r)) ≡ 0
+  written-count = reel-count code (heldSamples r) (heldInterval r) (heldBy r) proper (w .code-is) fitting
+
+  -- Reading it into an output long enough gives the record again, with the record's T and N and the count 0.
   pub written-read : (out₂ : List ℕ) → length r ≤ length out₂
-      → readOutcome (reelOf code (heldBy r)) out₂ ≡ record { said = taken (heldCount r (heldSamples r) ∷ heldSamples r ∷ length r ∷ []); bytes = r ++ drop (length r) out₂ }
+      → readOutcome (reelOf code (heldBy r)) out₂ ≡ record { said = taken (heldCount r (heldSamples r) ∷ heldSamples r ∷ length r ∷ 0 ∷ []); bytes = r ++ drop (length r) out₂ }
   written-read out₂ h = read-taken s out₂ written-no-cause (rw written-length h) ∙ ap₂ made said bytes
     where
       s : List ℕ
@@ -184,8 +189,8 @@ module _ (r : List ℕ) (b : Bytes r) (code : ℕ) (out : List ℕ) (w : Writabl
       made : Said → List ℕ → Outcome
       made x y = record { said = x; bytes = y }
 
-      said : taken (tracesOf s ∷ samplesOf s ∷ recordLengthOf s ∷ []) ≡ taken (heldCount r (heldSamples r) ∷ heldSamples r ∷ length r ∷ [])
-      said = ap taken (cons-eq written-traces (cons-eq written-samples (cons-eq written-length refl)))
+      said : taken (tracesOf s ∷ samplesOf s ∷ recordLengthOf s ∷ notNormalOf s ∷ []) ≡ taken (heldCount r (heldSamples r) ∷ heldSamples r ∷ length r ∷ 0 ∷ [])
+      said = ap taken (cons-eq written-traces (cons-eq written-samples (cons-eq written-length (cons-eq written-count refl))))
 
       bytes : reelRecord s ++ drop (recordLengthOf s) out₂ ≡ r ++ drop (length r) out₂
       bytes = ap₂ (λ (x : List ℕ) (k : ℕ). x ++ drop k out₂) written-record written-length

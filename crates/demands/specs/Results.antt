@@ -16,6 +16,7 @@ use Rattle.scalars.specs.Scalar.{powerOf}
 use Rattle.reel.specs.Layout.{Field, cardBytes, binaryFields, elevationScalar, coordinateScalar, fieldNumber, samplesOf, codeOf, sampleBytes, tracesOf}
 use Rattle.reel.specs.Causes.{causesOf}
 use Rattle.reel.specs.Meaning.{blank, otherThan, elevationFields, coordinateFields, unscaledFields, meaningOf, MeanTheSame}
+use Rattle.reel.specs.NotNormal.{notNormalOf}
 use Rattle.record.specs.Record.{recordOf, reelRecord}
 use Rattle.record.specs.Form.{heldSamples, heldCount, formCauses}
 use Rattle.record.specs.Held.{heldBy}
@@ -28,12 +29,14 @@ use Rattle.demands.specs.Words.{Worded}
 
 -- ## Reading a reel
 
--- What reading a reel gives, where it returns t, n and the length l.
-pub record RecordRead (s out : List ℕ) (t n l : ℕ) : Type 0 where
+-- What reading a reel gives, where it returns t, n, the length l and the count c.
+pub record RecordRead (s out : List ℕ) (t n l c : ℕ) : Type 0 where
   -- T and N are those of the reel, and the length is that of a record of T traces of N samples.
   pub traces : t ≡ tracesOf s
   pub samples : n ≡ samplesOf s
   pub size : l ≡ 3273 + t * (186 + 6 * n)
+  -- The count is that of the reel's words that are not normal.
+  pub count : c ≡ notNormalOf s
   -- The output's first bytes are the record of what the reel means, and they are all of it.
   pub content : take l (readOutcome s out .bytes) ≡ recordOf (meaningOf s)
   pub whole : length (recordOf (meaningOf s)) ≡ l
@@ -121,8 +124,8 @@ pub record ReelAgain (s : List ℕ) (t n l : ℕ) (r : List ℕ) (code t₂ n₂
   pub means : MeanTheSame s reel
   -- Its record is r,
   pub has : reelRecord reel ≡ r
-  -- and reading it into any output that is long enough returns t, n and l and gives r.
-  pub read : (out : List ℕ) → l ≤ length out → readOutcome reel out ≡ record { said = taken (t ∷ n ∷ l ∷ []); bytes = r ++ drop l out }
+  -- and reading it into any output that is long enough returns t, n, l and the count 0 and gives r.
+  pub read : (out : List ℕ) → l ≤ length out → readOutcome reel out ≡ record { said = taken (t ∷ n ∷ l ∷ 0 ∷ []); bytes = r ++ drop l out }
 
 -- What the reel s, whose reading returned t, n and l and gave the record r, has under its own code.
 pub record OwnCode (s : List ℕ) (t n : ℕ) (r : List ℕ) : Type 0 where

@@ -19,6 +19,7 @@ use Rattle.numbers.proofs.SaidLaws.{says-fine}
 use Rattle.reel.specs.Layout.{samplesOf, tracesOf}
 use Rattle.reel.specs.Causes.{causesOf}
 use Rattle.reel.specs.Meaning.{MeanTheSame}
+use Rattle.reel.specs.NotNormal.{notNormalOf}
 use Rattle.record.specs.Record.{reelRecord}
 use Rattle.read_reel.specs.Reading.{recordLengthOf, readNumbers, readCauses, readEnd, readOutcome}
 use Rattle.reel_theorems.proofs.Same.{record-size, same-records}
@@ -36,32 +37,33 @@ taken-reel s out numbers e = then-fine (causesOf s) _ (taken-fine s out numbers 
 pub taken-outcome : (s out numbers : List ℕ) → readOutcome s out .said ≡ taken numbers → readOutcome s out ≡ readEnd s out Fine
 taken-outcome s out numbers e = ap (readEnd s out) (taken-fine s out numbers e)
 
--- THEOREM. Where the reading of a reel is taken, the numbers returned are T, N and 3273 + T × (186 + 6N).
+-- THEOREM. Where the reading of a reel is taken, the numbers returned are T, N, 3273 + T × (186 + 6N) and how many words of the reel are not
+-- normal.
 pub taken-numbers : (s out numbers : List ℕ) → readOutcome s out .said ≡ taken numbers
-    → readOutcome s out .said ≡ taken (tracesOf s ∷ samplesOf s ∷ (3273 + tracesOf s * (186 + 6 * samplesOf s)) ∷ [])
+    → readOutcome s out .said ≡ taken (tracesOf s ∷ samplesOf s ∷ (3273 + tracesOf s * (186 + 6 * samplesOf s)) ∷ notNormalOf s ∷ [])
 taken-numbers s out numbers e = ap (λ (o : Outcome). o .said) (taken-outcome s out numbers e)
 
 -- the length returned is that of the reel's record
-pub taken-length : (s out : List ℕ) (t n l : ℕ) → readOutcome s out .said ≡ taken (t ∷ n ∷ l ∷ []) → recordLengthOf s ≡ l
-taken-length s out t n l e =
-    let same : taken (readNumbers s) ≡ taken (t ∷ n ∷ l ∷ []) = sym (taken-numbers s out (t ∷ n ∷ l ∷ []) e) ∙ e in
+pub taken-length : (s out : List ℕ) (t n l c : ℕ) → readOutcome s out .said ≡ taken (t ∷ n ∷ l ∷ c ∷ []) → recordLengthOf s ≡ l
+taken-length s out t n l c e =
+    let same : taken (readNumbers s) ≡ taken (t ∷ n ∷ l ∷ c ∷ []) = sym (taken-numbers s out (t ∷ n ∷ l ∷ c ∷ []) e) ∙ e in
     cc
 
--- THEOREM. Where the reading of a reel is taken, with T, N and a length returned, the output's first bytes, as many as that length, are
+-- THEOREM. Where the reading of a reel is taken, with T, N, a length and a count returned, the output's first bytes, as many as that length, are
 -- the reel's record.
-pub output-record : (s out : List ℕ) (t n l : ℕ) → Bytes s → readOutcome s out .said ≡ taken (t ∷ n ∷ l ∷ [])
+pub output-record : (s out : List ℕ) (t n l c : ℕ) → Bytes s → readOutcome s out .said ≡ taken (t ∷ n ∷ l ∷ c ∷ [])
     → take l (readOutcome s out .bytes) ≡ reelRecord s
-output-record s out t n l b e =
-    let size : length (reelRecord s) ≡ l = record-size s b (taken-reel s out (t ∷ n ∷ l ∷ []) e) ∙ taken-length s out t n l e in
-    ap (λ (o : Outcome). take l (o .bytes)) (taken-outcome s out (t ∷ n ∷ l ∷ []) e) ∙ take-at (reelRecord s) (drop (recordLengthOf s) out) l size
+output-record s out t n l c b e =
+    let size : length (reelRecord s) ≡ l = record-size s b (taken-reel s out (t ∷ n ∷ l ∷ c ∷ []) e) ∙ taken-length s out t n l c e in
+    ap (λ (o : Outcome). take l (o .bytes)) (taken-outcome s out (t ∷ n ∷ l ∷ c ∷ []) e) ∙ take-at (reelRecord s) (drop (recordLengthOf s) out) l size
 
 -- LAW. Where the readings of two reels, each in any code and each into any output, are both taken, the first bytes of the two outputs,
 -- as many as the length returned each time, are equal exactly when the reels mean the same: `records-equal`, of `demands`.
-pub same-outputs : (s₁ s₂ out₁ out₂ : List ℕ) (t₁ n₁ l₁ t₂ n₂ l₂ : ℕ) → Bytes s₁ → Bytes s₂
-    → readOutcome s₁ out₁ .said ≡ taken (t₁ ∷ n₁ ∷ l₁ ∷ []) → readOutcome s₂ out₂ .said ≡ taken (t₂ ∷ n₂ ∷ l₂ ∷ [])
+pub same-outputs : (s₁ s₂ out₁ out₂ : List ℕ) (t₁ n₁ l₁ c₁ t₂ n₂ l₂ c₂ : ℕ) → Bytes s₁ → Bytes s₂
+    → readOutcome s₁ out₁ .said ≡ taken (t₁ ∷ n₁ ∷ l₁ ∷ c₁ ∷ []) → readOutcome s₂ out₂ .said ≡ taken (t₂ ∷ n₂ ∷ l₂ ∷ c₂ ∷ [])
     → Iff (take l₁ (readOutcome s₁ out₁ .bytes) ≡ take l₂ (readOutcome s₂ out₂ .bytes)) (MeanTheSame s₁ s₂)
-same-outputs s₁ s₂ out₁ out₂ t₁ n₁ l₁ t₂ n₂ l₂ b₁ b₂ e₁ e₂ =
-    let p₁ = output-record s₁ out₁ t₁ n₁ l₁ b₁ e₁ in
-    let p₂ = output-record s₂ out₂ t₂ n₂ l₂ b₂ e₂ in
-    let same = same-records s₁ s₂ b₁ b₂ (taken-reel s₁ out₁ (t₁ ∷ n₁ ∷ l₁ ∷ []) e₁) (taken-reel s₂ out₂ (t₂ ∷ n₂ ∷ l₂ ∷ []) e₂) in
+same-outputs s₁ s₂ out₁ out₂ t₁ n₁ l₁ c₁ t₂ n₂ l₂ c₂ b₁ b₂ e₁ e₂ =
+    let p₁ = output-record s₁ out₁ t₁ n₁ l₁ c₁ b₁ e₁ in
+    let p₂ = output-record s₂ out₂ t₂ n₂ l₂ c₂ b₂ e₂ in
+    let same = same-records s₁ s₂ b₁ b₂ (taken-reel s₁ out₁ (t₁ ∷ n₁ ∷ l₁ ∷ c₁ ∷ []) e₁) (taken-reel s₂ out₂ (t₂ ∷ n₂ ∷ l₂ ∷ c₂ ∷ []) e₂) in
     (λ e. same .0 (sym p₁ ∙ e ∙ p₂), λ m. p₁ ∙ same .1 m ∙ sym p₂)
