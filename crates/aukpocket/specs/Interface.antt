@@ -14,6 +14,10 @@ pub data Handed (A : Type 0) : Type 0 where
   handed : A → Handed A
   lost : Handed A
 
+-- A refused call on a whole reel or record, in numbers: the number of the cause and what stands beside it; the other members are 0.
+abbrev pub refusedAnswer : ℕ → ℕ → ReelAnswer
+refusedAnswer number beside = record { number = number; traces = 0; samples = 0; length = 0; beside = beside; «not_normal» = 0 }
+
 -- What a call that gives a reel or a record says, in numbers: number 0 and T, N and the length where it is taken; else the number of the
 -- cause and what stands beside it in the table. The other members are 0.
 abbrev pub reelAnswer : Said → Handed ReelAnswer
@@ -22,7 +26,7 @@ reelAnswer (taken (t ∷ [])) = lost
 reelAnswer (taken (t ∷ n ∷ [])) = lost
 reelAnswer (taken (t ∷ n ∷ l ∷ [])) = handed (record { number = 0; traces = t; samples = n; length = l; beside = 0; «not_normal» = 0 })
 reelAnswer (taken (t ∷ n ∷ l ∷ more ∷ rest)) = lost
-reelAnswer (refused number beside) = handed (record { number = number; traces = 0; samples = 0; length = 0; beside = beside; «not_normal» = 0 })
+reelAnswer (refused number beside) = handed (refusedAnswer number beside)
 
 -- What reading a reel says, in numbers: the count of its words that are not normal besides.
 abbrev pub countedAnswer : Said → Handed ReelAnswer
@@ -32,7 +36,7 @@ countedAnswer (taken (t ∷ n ∷ [])) = lost
 countedAnswer (taken (t ∷ n ∷ l ∷ [])) = lost
 countedAnswer (taken (t ∷ n ∷ l ∷ c ∷ [])) = handed (record { number = 0; traces = t; samples = n; length = l; beside = 0; «not_normal» = c })
 countedAnswer (taken (t ∷ n ∷ l ∷ c ∷ more ∷ rest)) = lost
-countedAnswer (refused number beside) = handed (record { number = number; traces = 0; samples = 0; length = 0; beside = beside; «not_normal» = 0 })
+countedAnswer (refused number beside) = handed (refusedAnswer number beside)
 
 -- The structure and the output's bytes.
 pub record ReelHanded : Type 0 where
@@ -54,7 +58,7 @@ abbrev pub listingAnswer : Said → Handed ReelAnswer
 listingAnswer (taken []) = lost
 listingAnswer (taken (l ∷ [])) = handed (record { number = 0; traces = 0; samples = 0; length = l; beside = 0; «not_normal» = 0 })
 listingAnswer (taken (l ∷ more ∷ rest)) = lost
-listingAnswer (refused number beside) = handed (record { number = number; traces = 0; samples = 0; length = 0; beside = beside; «not_normal» = 0 })
+listingAnswer (refused number beside) = handed (refusedAnswer number beside)
 
 abbrev pub listingHanded : Outcome → ReelHanded
 listingHanded o = record { answer = listingAnswer (o .said); bytes = o .bytes }

@@ -1,6 +1,7 @@
 // The C interface: an exported function for each public call. A slice is a pointer and a length; an answer is a structure of numbers,
 // whose `number` is 0 where the call was taken, else the number of the cause.
 ghost use mathlib.Core.Path.{_≡_};
+ghost use Rattle.numbers.specs.Places.{placeNo};
 ghost use Rattle.sample.specs.Calls as single;
 ghost use Rattle.record.specs.Answer.{saidBy, countedBy};
 ghost use Rattle.read_reel.specs.Reading.{readOutcome};
@@ -8,9 +9,10 @@ ghost use Rattle.write_reel.specs.Writing.{writeOutcome};
 ghost use Rattle.look_up.specs.LookUp.{lookUpOutcome};
 ghost use Rattle.code_page.specs.Page.{latin};
 ghost use Rattle.listing.specs.Calls as calls;
-ghost use Rattle.aukpocket.specs.Interface.{handed, reelAnswer, reelIn, reelHanded, countedAnswer, countedHanded, listingAnswer, listingHanded, fieldHanded, sampleAnswer, wordAnswer, sampleIn, sampleHanded, wordHanded};
+ghost use Rattle.aukpocket.specs.Interface.{handed, refusedAnswer, reelAnswer, reelIn, reelHanded, countedAnswer, countedHanded, listingAnswer, listingHanded, fieldHanded, sampleAnswer, wordAnswer, sampleIn, sampleHanded, wordHanded};
 use listing::Listed;
 use numbers::ByteNo;
+use numbers::Place;
 use record::Answer;
 use record::Counted;
 use sample::WordAnswer;
@@ -43,6 +45,23 @@ pub struct SampleAnswer {
     pub not_normal: u64,
 }
 
+// Beside a refusal no word is counted.
+const NONE_COUNTED: u64 = 0;
+
+// What a refused call on a whole reel or record answers, in numbers.
+fn refused_answer(number: u8, place: Place) -> ReelAnswer
+    ensures { λ r. ⌜ r ≡ refusedAnswer number (placeNo place) ⌝ }
+{
+    ReelAnswer {
+        number: number as u64,
+        traces: 0,
+        samples: 0,
+        length: 0,
+        beside: place.0 as u64,
+        not_normal: NONE_COUNTED,
+    }
+}
+
 // An answer in numbers.
 fn reel_answer(answer: Answer) -> ReelAnswer
     ensures { λ r. ⌜ handed r ≡ reelAnswer (saidBy answer) ⌝ }
@@ -60,14 +79,7 @@ fn reel_answer(answer: Answer) -> ReelAnswer
             beside: 0,
             not_normal: 0,
         },
-        Answer::Refused { number, place } => ReelAnswer {
-            number: number as u64,
-            traces: 0,
-            samples: 0,
-            length: 0,
-            beside: place.0 as u64,
-            not_normal: 0,
-        },
+        Answer::Refused { number, place } => refused_answer(number, place),
     }
 }
 
@@ -89,14 +101,7 @@ fn counted_answer(answer: Counted) -> ReelAnswer
             beside: 0,
             not_normal: count as u64,
         },
-        Counted::Refused { number, place } => ReelAnswer {
-            number: number as u64,
-            traces: 0,
-            samples: 0,
-            length: 0,
-            beside: place.0 as u64,
-            not_normal: 0,
-        },
+        Counted::Refused { number, place } => refused_answer(number, place),
     }
 }
 
@@ -129,14 +134,7 @@ fn listing_answer(answer: Listed) -> ReelAnswer
             beside: 0,
             not_normal: 0,
         },
-        Listed::Refused { number, place } => ReelAnswer {
-            number: number as u64,
-            traces: 0,
-            samples: 0,
-            length: 0,
-            beside: place.0 as u64,
-            not_normal: 0,
-        },
+        Listed::Refused { number, place } => refused_answer(number, place),
     }
 }
 

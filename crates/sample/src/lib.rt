@@ -5,6 +5,7 @@ ghost use Prim.Native.Nat.{_+_, _*_, _/_, _%_, _^_, _<_, _≤_};
 ghost use lib.Dec.{eqb};
 ghost use lib.IntN.{pos, natAbs, subℕ};
 ghost use Rattle.numbers.specs.Walk.{pick};
+ghost use Rattle.numbers.specs.Places.{placeNo};
 ghost use Rattle.numbers.specs.TwosComplement.{signedOf};
 ghost use Rattle.value.specs.Value.{denominatorPower, signMagnitude, fraction, ibmValue, wholeValue, gainValue};
 ghost use Rattle.value.specs.Pair.{pairBytes};
@@ -178,6 +179,13 @@ pub fn read(code: u32, word: [u8; 4]) -> Sample
     }
 }
 
+// The place beside the refusal of a single sample: 0.
+fn no_place() -> Place
+    ensures { λ r. ⌜ placeNo r ≡ 0 ⌝ }
+{
+    Place(0)
+}
+
 // The six bytes of a pair.
 fn pair_bytes(e: i16, m: i32) -> [u8; 6]
     ensures { λ r. ⌜ r ≡ pairBytes e m ⌝ }
@@ -229,7 +237,7 @@ pub fn read_word(code: u32, word: [u8; 4]) -> WordRead
         Sample::Refused { number } => WordRead {
             answer: WordAnswer::Refused {
                 number,
-                place: Place(0),
+                place: no_place(),
             },
             pair: [0; 6],
         },
@@ -250,7 +258,7 @@ pub fn write_pair(code: u32, pair: [u8; 6]) -> PairWritten
         Written::Refused { number } => PairWritten {
             answer: Answer::Refused {
                 number,
-                place: Place(0),
+                place: no_place(),
             },
             word: [0; 4],
         },

@@ -10,8 +10,8 @@ returns : tie.Need-returns
 returns c = ap (λ x. listingAnswer (saidBy x)) (sym (c .before .answer .given .1))
 
 returns-2 : tie.Need-returns-2
-returns-2 c = ap (λ x. listingAnswer (saidBy x)) (sym (c .before .answer2 .given .1))
+returns-2 c = rw (c .refused-answer .ensures) (ap (λ x. listingAnswer (saidBy x)) (sym (c .before .before .answer2 .given .1)))
 
 pub listing-answer-spec : {M : Type 1} → statement M
 listing-answer-spec =
-    tie.close (tie.spec (λ c. search needs) (λ c. search needs) (λ c. search needs) returns returns-2)
+    tie.close (tie.spec (λ c. search needs) (λ c. search needs) (λ c κs. search needs) returns returns-2)

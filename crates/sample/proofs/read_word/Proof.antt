@@ -20,11 +20,19 @@ returns c =
 
 returns-2 : tie.Need-returns-2
 returns-2 c =
-    let r = c .before .before .before in
+    let r = c .before .before .before .before in
     let a = r .before .args in
-    ap (readSaid (notNormal (a .code) (a .word))) (sym (c .before .number .given .1) ∙ r .read .ensures)
+    rw (c .no-place .ensures) (ap (readSaid (notNormal (a .code) (a .word))) (sym (c .before .before .number .given .1) ∙ r .read .ensures))
 
 pub read-word-spec : {M : Type 1} → statement M
 read-word-spec =
     tie.close
-    (tie.spec (λ c κs. search needs) (λ c. search needs) (λ c κs. search needs) (λ c κs. search needs) (λ c. search needs) returns returns-2)
+    (tie.spec
+    (λ c κs. search needs)
+    (λ c. search needs)
+    (λ c κs. search needs)
+    (λ c κs. search needs)
+    (λ c. search needs)
+    (λ c κs. search needs)
+    returns
+    returns-2)

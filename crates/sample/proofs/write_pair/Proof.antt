@@ -13,8 +13,8 @@ returns c =
 
 returns-2 : tie.Need-returns-2
 returns-2 c =
-    let w = c .before .before .before in
-    ap writeSaid (sym (c .before .number .given .1) ∙ w .write .ensures ∙ ap (writePair (w .before .before .args .code)) (w .before .pair-in .ensures))
+    let w = c .before .before .before .before in
+    rw (c .no-place .ensures) (ap writeSaid (sym (c .before .before .number .given .1) ∙ w .write .ensures ∙ ap (writePair (w .before .before .args .code)) (w .before .pair-in .ensures)))
 
 pub write-pair-spec : {M : Type 1} → statement M
 write-pair-spec =
@@ -25,5 +25,6 @@ write-pair-spec =
     (λ c. search needs)
     (λ c κs. search needs)
     (λ c. search needs)
+    (λ c κs. search needs)
     returns
     returns-2)
