@@ -8,7 +8,7 @@ use Rattle.aukpocket.specs.declared.ReelAnswer.{ReelAnswer}
 use Rattle.aukpocket.specs.declared.FieldAnswer.{FieldAnswer}
 use Rattle.aukpocket.specs.declared.SampleAnswer.{SampleAnswer}
 
--- What a call says, handed over in a structure; or lost, where it returns not just as many values as the structure takes from that call. A
+-- What a call says, handed over in a structure; or lost, where it returns more or fewer values than the structure takes from that call. A
 -- function hands over a structure, so none of the values can be lost.
 pub data Handed (A : Type 0) : Type 0 where
   handed : A → Handed A
@@ -28,7 +28,7 @@ reelAnswer (taken (t ∷ n ∷ l ∷ [])) = handed (record { number = 0; traces 
 reelAnswer (taken (t ∷ n ∷ l ∷ more ∷ rest)) = lost
 reelAnswer (refused number beside) = handed (refusedAnswer number beside)
 
--- What reading a reel says, in numbers: the count of its words that are not normal besides.
+-- What reading a reel says, in numbers: number 0, T, N, the length and the count of its words that are not normal.
 abbrev pub countedAnswer : Said → Handed ReelAnswer
 countedAnswer (taken []) = lost
 countedAnswer (taken (t ∷ [])) = lost
@@ -73,12 +73,13 @@ fieldAnswer (refused number beside) z = handed (record { number = number; value 
 abbrev pub fieldHanded : NumberOutcome → Handed FieldAnswer
 fieldHanded o = fieldAnswer (o .said) (o .value)
 
--- What writing a pair says, in numbers; and what reading a word says, with 1 for an IBM word that isn't normal, else 0.
+-- What writing a pair says, in numbers: number 0 where it is taken; else the number of the cause and what stands beside it.
 abbrev pub sampleAnswer : Said → Handed SampleAnswer
 sampleAnswer (taken []) = handed (record { number = 0; beside = 0; «not_normal» = 0 })
 sampleAnswer (taken (more ∷ rest)) = lost
 sampleAnswer (refused number beside) = handed (record { number = number; beside = beside; «not_normal» = 0 })
 
+-- What reading a word says, in numbers: also 1 for an IBM word that isn't normal, else 0.
 abbrev pub wordAnswer : Said → Handed SampleAnswer
 wordAnswer (taken []) = lost
 wordAnswer (taken (c ∷ [])) = handed (record { number = 0; beside = 0; «not_normal» = c })

@@ -22,7 +22,7 @@ use Rattle.reel.specs.Layout.{sampleBytes}
 use Rattle.reel.specs.Causes.{mostSamples}
 use Rattle.reel.specs.NotNormal.{notNormalIn}
 use Rattle.count_words.specs.Counted.{wordsFit, wordsCounted}
-use Rattle.count_words.specs.Parts.{lowFirst, lowDigit, mayCount, counts, tested, passing}
+use Rattle.count_words.specs.Parts.{lowFirst, zeroDigit, mayCount, counts, tested, passing}
 
 -- ## One word
 

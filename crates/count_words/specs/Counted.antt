@@ -13,6 +13,6 @@ use Rattle.reel.specs.NotNormal.{notNormalIn}
 abbrev pub wordsFit : List ℕ → ℕ → ℕ → ℕ → Bool
 wordsFit s code n at = leb n mostSamples && leb (at + n * sampleBytes code) (length s)
 
--- How many of n words from a place on are not normal; 0 where they aren't all there.
+-- How many of n words from a place on are not normal; 0 where they aren't all there, or are more than a trace has.
 unfoldable pub wordsCounted : List ℕ → ℕ → ℕ → ℕ → ℕ
 wordsCounted s code n at = pick (wordsFit s code n at) (notNormalIn s code n at) 0

@@ -11,18 +11,18 @@ use Rattle.numbers.specs.BigEndian.{number}
 abbrev pub lowFirst : List ℕ → ℕ → ℕ
 lowFirst s at = number (getD s (at + 3) 0 ∷ getD s (at + 2) 0 ∷ getD s (at + 1) 0 ∷ getD s at 0 ∷ [])
 
--- 1 where the first digit of F is 0 in such a number and another number, of S and C, isn't.
-abbrev pub lowDigit : ℕ → ℕ → ℕ
-lowDigit x b = pick (eqb (x / 2 ^ 12 % 16) 0 && not (eqb b 0)) 1 0
+-- 1 where the first digit of F in such a number x is 0, and b, which is S and C or C alone, isn't.
+abbrev pub zeroDigit : ℕ → ℕ → ℕ
+zeroDigit x b = pick (eqb (x / 2 ^ 12 % 16) 0 && not (eqb b 0)) 1 0
 
 -- 1 where the word may be one that isn't normal: the first digit of F is 0, and S and C aren't both. Of the normal words that holds only of
 -- those with S 1 and C 0.
 abbrev pub mayCount : ℕ → ℕ
-mayCount x = lowDigit x (x % 2 ^ 8)
+mayCount x = zeroDigit x (x % 2 ^ 8)
 
 -- 1 where the word isn't normal: the first digit of F is 0 and C isn't, or it is 80000000.
 abbrev pub counts : ℕ → ℕ
-counts x = lowDigit x (x % 2 ^ 7) + pick (eqb x 0x80) 1 0
+counts x = zeroDigit x (x % 2 ^ 7) + pick (eqb x 0x80) 1 0
 
 -- The one or the other.
 abbrev pub tested : Bool → ℕ → ℕ

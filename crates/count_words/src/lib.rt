@@ -8,7 +8,7 @@ ghost use Rattle.numbers.specs.Walk.{pick};
 ghost use Rattle.numbers.specs.Places.{placeNo};
 ghost use Rattle.reel.specs.Causes.{mostSamples};
 ghost use Rattle.count_words.specs.Counted.{wordsCounted};
-ghost use Rattle.count_words.specs.Parts.{lowFirst, lowDigit, tested, passing};
+ghost use Rattle.count_words.specs.Parts.{lowFirst, zeroDigit, tested, passing};
 use numbers::Place;
 
 // The most samples of a trace.
@@ -23,9 +23,9 @@ fn low_first_at(reel: &[u8], at: usize) -> u32
 }
 
 // 1 where the first digit of F is 0 and b isn't. 15 less the digit stands over b, so that one comparison is enough.
-fn low_digit(x: u32, b: u32) -> u32
+fn zero_digit(x: u32, b: u32) -> u32
     requires { ⌜ b < 2 ^ 8 ⌝ }
-    ensures { λ r. ⌜ (r ≡ lowDigit x b) × (r ≤ 1) ⌝ }
+    ensures { λ r. ⌜ (r ≡ zeroDigit x b) × (r ≤ 1) ⌝ }
 {
     if 0xF000 < (15 - x / 0x1000 % 16) * 0x1000 + b {
         1
@@ -46,9 +46,9 @@ fn tested_word(exact: bool, x: u32) -> u32
     ensures { λ r. ⌜ (r ≡ tested exact x) × (r ≤ 2) ⌝ }
 {
     if exact {
-        low_digit(x, x % 0x80) + minus_zero(x)
+        zero_digit(x, x % 0x80) + minus_zero(x)
     } else {
-        low_digit(x, x % 0x100)
+        zero_digit(x, x % 0x100)
     }
 }
 
@@ -66,8 +66,8 @@ fn count_passing(exact: bool, reel: &[u8], n: usize, start: usize) -> u32
     count
 }
 
-// How many of n words from a place on are not normal; 0 where they aren't all there. Most traces have none that could be: only one that has
-// is counted.
+// How many of n words from a place on are not normal; 0 where they aren't all there, or are more than a trace has. Most traces have no word
+// that may count: only one that has some is counted exactly.
 pub fn count_words(reel: &[u8], code: usize, n: usize, start: Place) -> usize
     ensures { λ r. ⌜ r ≡ wordsCounted (now (reel .entry)) code n (placeNo start) ⌝ }
 {

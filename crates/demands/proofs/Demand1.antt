@@ -12,7 +12,7 @@
 -- What is left of the demand is shown here for each call of document 01, over the outcome that its contract gives: what it says, and each
 -- byte that it hands out or leaves in its output. The contracts:
 --
--- - `read_reel`: outcome answer (output after) ≡ readOutcome reel (output before)
+-- - `read_reel`: countedOutcome answer (output after) ≡ readOutcome reel (output before)
 -- - `write_reel`: outcome answer (output after) ≡ writeOutcome record code (output before)
 -- - `look_up`: lookedUp answer ≡ lookUpOutcome reel (trace number) (byte number)
 -- - `read_word`: wordRead answer ≡ wordOutcome code word, for a single word
@@ -75,7 +75,7 @@ use Rattle.demands.proofs.WriteRefusals.{exact-writing}
 use Rattle.demands.proofs.WrittenSize.{reel-size}
 use Rattle.demands.specs.Words.{HasWord}
 use Rattle.demands.specs.Tables.{WriteRow, ReadRow, LookUpRow, no-trace, no-field, WordRow, bad-code, bad-gain, PairRow}
-use Rattle.demands.specs.Results.{example, AssignedNumber}
+use Rattle.demands.specs.Results.{exampleWith, example, AssignedNumber}
 
 -- ## Reading a reel
 
@@ -105,7 +105,7 @@ module _ (s out : List ℕ) where
   readChecks = readCauses s (length out)
 
   -- THEOREM. "Every call comes to a defined end on every input: no access outside the lent buffers and no number that loses bits": reading
-  -- is taken with T, N and the record's length, or refused by a number with a place. The rest of the clause Rattle proves of each function.
+  -- is taken with T, N, the record's length and the count, or refused by a number with a place. The rest of the clause Rattle proves of each function.
   -- Alone it rules out none of the list.
   pub read-ends : (readOutcome s out .said ≡ taken (readNumbers s)) ⊎ ((number : ℕ) × (place : ℕ) × (readOutcome s out .said ≡ refused number place))
   read-ends = says-either readSays (readNumbers s) refl (λ n p. refl) readChecks
@@ -117,7 +117,7 @@ module _ (s out : List ℕ) where
   pub read-refused : (number place : ℕ) → Iff (readOutcome s out .said ≡ refused number place) (ReadRow s (length out) number place)
   read-refused = refused-by readSays (readNumbers s) refl (λ n p. refl) (ReadRow s (length out)) readChecks (read-exact s (length out))
 
-  -- THEOREM. "in just the cases set there": it is taken, with T, N and the record's length, exactly when no row applies.
+  -- THEOREM. "in just the cases set there": it is taken, with T, N, the record's length and the count, exactly when no row applies.
   -- Rules out a reader that declines every reel, and one whose T or length is invented.
   pub read-taken : Iff (readOutcome s out .said ≡ taken (readNumbers s)) ((number place : ℕ) → ¬ (ReadRow s (length out) number place))
   read-taken = taken-by readSays (readNumbers s) refl (λ n p. refl) (ReadRow s (length out)) readChecks (read-exact s (length out))
@@ -147,6 +147,12 @@ module _ (s out : List ℕ) where
 pub example-taken : readOutcome example (replicate 3471 0) .said ≡ taken (1 ∷ 2 ∷ 3471 ∷ 0 ∷ [])
 unfolding causesOf behindCauses traceCauses bytesAt notNormalAmong notNormalIn isNormal
 example-taken = refl
+
+-- THEOREM. The same reel with the words 42010000 and 80000000, neither of which is normal, is taken with the count 2.
+-- Rules out a count of 0 for every reel.
+pub example-counted : readOutcome (exampleWith (0x42 ∷ 0x01 ∷ 0 ∷ 0 ∷ 0x80 ∷ 0 ∷ 0 ∷ 0 ∷ [])) (replicate 3471 0) .said ≡ taken (1 ∷ 2 ∷ 3471 ∷ 2 ∷ [])
+unfolding causesOf behindCauses traceCauses bytesAt notNormalAmong notNormalIn isNormal
+example-counted = refl
 
 -- ## Writing a reel
 

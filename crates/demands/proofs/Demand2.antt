@@ -118,8 +118,8 @@ written r code out t n l e =
 
 -- ## Reading the reel that was written
 
--- THEOREM. "and reading that reel, again into an output long enough, gives the record again": byte for byte and with the same T and N. No
--- word of that reel is one that isn't normal.
+-- THEOREM. "and reading that reel, again into an output long enough, gives the record again": byte for byte and with the same T and N,
+-- and the count 0: under code 1 each word of that reel is normal.
 -- Rules out a fixed record or reel, writing nothing and saying taken, copying the first trace for the rest, and an invented length. That T
 -- and N are the record's own, and not merely the same both times, is `reading` and `written`.
 pub read-back : (r : List ℕ) (code : ℕ) (out out₂ : List ℕ) (t n l : ℕ) → Bytes r → writeOutcome r code out .said ≡ taken (t ∷ n ∷ l ∷ []) → length r ≤ length out₂

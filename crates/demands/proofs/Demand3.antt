@@ -22,7 +22,7 @@
 --   coordinates are compared by value.
 -- - `reel-again`: where the reading of a reel is taken, and the writing of its record under any code is taken, the writing returns the same
 --   T and N and the length of such a reel; no cause of 1 to 9 and 18 applies to the reel that was written, it is in that code, it means the same
---   as the first reel and has the same record; and reading it into an output long enough is taken with the same T, N and length, and gives
+--   as the first reel and has the same record; and reading it into an output long enough is taken with the same T, N and length and the count 0, and gives
 --   that record.
 -- - `written-in-each-code`: so that `reel-again` is no empty promise, the record of a reel whose reading is taken is written under every
 --   code of 1 to 4 that has a word for each of the reel's sample values, into every output that is long enough.

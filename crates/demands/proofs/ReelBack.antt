@@ -200,7 +200,7 @@ module _ (code n i : ℕ) (c : isCode code ≡ true) (t : Trace) (h : Ready code
         rw (count-again n i t (h .proper) s b at _ from-header, spacing-again n i t (h .proper) s b at _ from-header, neither-same n, neither-same i, scalars .0, scalars .1)
         (ap (λ (k : ℕ). firstOf (walk (wordCause s code) (sampleBytes code) k (at + traceHeader))) (sym (h .proper .size)) ∙ words)
 
-    -- Each of its words is normal.
+    -- None of its words counts: under code 1 each is normal.
     trace-count : notNormalIn s code n (at + traceHeader) ≡ 0
     unfolding notNormalIn
     trace-count =
@@ -362,7 +362,7 @@ module _ (code n i : ℕ) (m : Meaning) (p : Proper n i m) (c : isCode code ≡ 
           (λ t at rest h e. trace-again code n i c t h (reelOf code m) reel-bytes at rest e) (m .traces) firstTrace [] ready from-traces
           ∙ map-id (m .traces))
 
-  -- LAW. Each word of the reel is normal.
+  -- LAW. None of the reel's words counts: under code 1 each is normal.
   pub reel-count : notNormalOf (reelOf code m) ≡ 0
   unfolding notNormalAmong
   reel-count =

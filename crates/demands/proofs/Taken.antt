@@ -174,7 +174,7 @@ module _ (r : List ℕ) (b : Bytes r) (code : ℕ) (out : List ℕ) (w : Writabl
   pub written-length : recordLengthOf (reelOf code (heldBy r)) ≡ length r
   written-length = sym (record-size (reelOf code (heldBy r)) written-bytes written-no-cause) ∙ ap length written-record
 
-  -- Each of its words is normal.
+  -- None of its words counts: under code 1 each is normal.
   pub written-count : notNormalOf (reelOf code (heldBy r)) ≡ 0
   written-count = reel-count code (heldSamples r) (heldInterval r) (heldBy r) proper (w .code-is) fitting
 

@@ -75,16 +75,19 @@ pub record Agree (s₁ s₂ : List ℕ) : Type 0 where
   pub coordinates : (k : ℕ) → k < tracesOf s₁ → All (λ f. scaledValue s₁ k coordinateScalar f ≡ scaledValue s₂ k coordinateScalar f) coordinateFields
   pub values : (k j : ℕ) → k < tracesOf s₁ → j < samplesOf s₁ → sampleValue s₁ k j ≡ sampleValue s₂ k j
 
--- Document 01's example: 3,200 bytes 40, a binary header all 0 but interval 2000, N 2, code 1, and one trace with a zero header and words
--- 41100000 C276A000.
-abbrev pub example : List ℕ
-example =
+-- A reel of 3,200 bytes 40, a binary header all 0 but interval 2000, N 2, code 1, and one trace with a zero header and the eight bytes of two
+-- words.
+abbrev pub exampleWith : List ℕ → List ℕ
+exampleWith words =
     replicate 3200 0x40
     ++ (replicate 16 0
     ++ (0x07 ∷ 0xD0 ∷ 0 ∷ 0 ∷ 0 ∷ 2 ∷ 0 ∷ 0 ∷ 0 ∷ 1
     ∷ (replicate 374 0
-    ++ (replicate 240 0
-    ++ (0x41 ∷ 0x10 ∷ 0 ∷ 0 ∷ 0xC2 ∷ 0x76 ∷ 0xA0 ∷ 0 ∷ [])))))
+    ++ (replicate 240 0 ++ words))))
+
+-- Document 01's example, whose words are 41100000 C276A000.
+abbrev pub example : List ℕ
+example = exampleWith (0x41 ∷ 0x10 ∷ 0 ∷ 0 ∷ 0xC2 ∷ 0x76 ∷ 0xA0 ∷ 0 ∷ [])
 
 -- ## Writing a record
 
@@ -110,7 +113,7 @@ pub record ReelWritten (r : List ℕ) (code : ℕ) (out : List ℕ) (t n l : ℕ
 
 -- ## Writing the record of a reel
 
--- What a reel is that was written, under a code, from the record r of the reel s, where the reading returned t, n and l and the writing
+-- What a reel is that was written, under a code, from the record r of the reel s, where the reading returned t, n, l and a count and the writing
 -- returned t₂, n₂ and l₂.
 pub record ReelAgain (s : List ℕ) (t n l : ℕ) (r : List ℕ) (code t₂ n₂ l₂ : ℕ) (reel : List ℕ) : Type 0 where
   -- The writing returned the same T and N, and the length of a reel of T traces of N samples under the code.
@@ -127,7 +130,7 @@ pub record ReelAgain (s : List ℕ) (t n l : ℕ) (r : List ℕ) (code t₂ n₂
   -- and reading it into any output that is long enough returns t, n, l and the count 0 and gives r.
   pub read : (out : List ℕ) → l ≤ length out → readOutcome reel out ≡ record { said = taken (t ∷ n ∷ l ∷ 0 ∷ []); bytes = r ++ drop l out }
 
--- What the reel s, whose reading returned t, n and l and gave the record r, has under its own code.
+-- What the reel s, whose reading returned t, n, l and a count and gave the record r, has under its own code.
 pub record OwnCode (s : List ℕ) (t n : ℕ) (r : List ℕ) : Type 0 where
   -- The code is one of the four, and each sample value has a word under it.
   pub code-is : isCode (codeOf s) ≡ true

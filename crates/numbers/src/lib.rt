@@ -1,4 +1,4 @@
-// What every layer uses: the types of places, byte numbers and checks, big-endian numbers, two's complement.
+// What every layer uses: the types of places, byte numbers and checks, numbers of bytes in either order, two's complement.
 ghost use mathlib.Core.Path.{_≡_};
 ghost use mathlib.Core.List.{[], _∷_};
 ghost use Rattle.numbers.specs.BigEndian.{number, bytesOf};

@@ -66,7 +66,7 @@ fn word16_at(reel: &[u8], at: usize) -> u16
 
 // The number in the four bytes at a place with the first lowest, as the loop of code 1 fetches them: it then takes the sign and the
 // characteristic from the lowest byte, and tells whether the fraction is 0, without waiting for the bytes to be swapped.
-fn little_at(reel: &[u8], at: usize) -> u32
+fn low_first_at(reel: &[u8], at: usize) -> u32
     requires { ⌜ at + 4 ≤ length (now reel) ⌝ }
     ensures { λ r. ⌜ WordAt (now (reel .entry)) at (reversed r) ⌝ }
 {
@@ -86,7 +86,7 @@ fn fetched(reel: &[u8], code: u32, at: usize) -> u32
     ensures { λ r. ⌜ WordAt (now (reel .entry)) at (wordHeld code r) ⌝ }
 {
     if code < 2 {
-        return little_at(reel, at);
+        return low_first_at(reel, at);
     }
     word32_at(reel, at)
 }
@@ -99,7 +99,7 @@ fn put_ibm_word(reel: &[u8], word: u32, next: usize, out: &mut [u8]) -> u32
 {
     let pair = sample::ibm_parts((word % 256) as u8, swapped(word));
     put_exponent(pair, &mut out[0..2]);
-    let w = little_at(reel, next);
+    let w = low_first_at(reel, next);
     put_mantissa(pair, &mut out[2..6]);
     w
 }

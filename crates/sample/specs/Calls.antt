@@ -19,12 +19,12 @@ use Rattle.sample.specs.declared.WordAnswer.the-variants as word
 use Rattle.sample.specs.declared.WordRead.{WordRead}
 use Rattle.sample.specs.declared.PairWritten.{PairWritten}
 
--- Document 01's number and place for each case of an answer; what reading a word says has one value, which is 1 for an IBM word that isn't
--- normal, else 0.
+-- Document 01's number and place for each case of the answer of writing a pair.
 abbrev pub saidBy : Answer → Said
 saidBy answer.Taken = taken []
 saidBy (answer.Refused number place) = refused number (placeNo place)
 
+-- The same of reading a word, which is taken with one value, document 02's 1 or 0.
 abbrev pub wordSaid : WordAnswer → Said
 wordSaid (word.Taken c) = taken (c ∷ [])
 wordSaid (word.Refused number place) = refused number (placeNo place)

@@ -52,8 +52,8 @@ read-write code w e m b t =
 again : (code : ℕ) (p : Pair) (n : ℕ) → writePair code p ≡ Word n → wordOutcome code (bytesOf 4 n) ≡ readSaid 0 (Taken (p .e) (p .m))
 again code p n h = ap₂ readSaid (writing-0 code p n h) (write-read code p n h)
 
--- THEOREM. Six bytes that are written, and the word read under the same code, give the six bytes again, and 0: the word is no other than the
--- normal one.
+-- THEOREM. Six bytes that are written, and the word read under the same code, give the six bytes again, and 0: under
+-- code 1 the word is the normal one.
 pub calls-write-read : (code : ℕ) (b : List ℕ) → length b ≡ 6 → Bytes b → pairOutcome code b .said ≡ taken []
     → wordOutcome code (pairOutcome code b .bytes) ≡ record { said = taken (0 ∷ []); bytes = b }
 calls-write-read code b k h t = go (writePair code (pairIn b)) refl t

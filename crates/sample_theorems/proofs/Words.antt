@@ -106,11 +106,11 @@ writing-complete code p w h c b e =
 
 -- ## The word that document 01 names
 
--- What it is to be normal, as a statement: for zero the word is 00000000; otherwise the first hexadecimal digit of F isn't 0, unless C is 0.
+-- THEOREM. What it is to be normal, as a statement: for zero the word is 00000000; otherwise the first hexadecimal digit of F isn't 0, unless C is 0.
 pub normal-is : (n : ℕ) → Iff (isNormal n ≡ true) ((ibmValue n ≡ pos 0 → n ≡ 0) × ((ibmValue n ≡ pos 0 → ⊥) → (firstDigit n ≡ 0 → ⊥) ⊎ (characteristic n ≡ 0)))
 normal-is n = normal-means n
 
--- THEOREM. Code 1: a normal word is the word that is written of its value.
+-- THEOREM. Code 1: a word is normal exactly when it is the word that is written of its value.
 pub normal-word : (n : ℕ) → n < 2 ^ 32 → Iff (isNormal n ≡ true) (ibmWord (ibmValue n) ≡ Word n)
 normal-word n h = (normal-again n h, λ e. normal-written (ibmValue n) n e .normal)
 
@@ -134,7 +134,9 @@ writing-only p n k h b t e =
 word-fits : (w : List ℕ) → Bytes w → number (bytesAt w 0 4) < 2 ^ 32
 word-fits w b = number-at w b 0 4
 
--- THEOREM. Reading gives 0 for the normal word of its value, and 1 for any other IBM word.
+-- What reading a word gives is `notNormal`, which `word-taken` of `demands` says of the call.
+
+-- THEOREM. It gives 0 exactly for the normal word of its value,
 pub normal-0 : (w : List ℕ) → Bytes w → Iff (notNormal 1 w ≡ 0) (ibmWord (exactValue 1 w) ≡ Word (number (bytesAt w 0 4)))
 normal-0 w b = (λ e. there (isNormal n) refl e, λ e. rw (normal-word n h .1 e))
   where
@@ -148,6 +150,7 @@ normal-0 w b = (λ e. there (isNormal n) refl e, λ e. rw (normal-word n h .1 e)
     there true q e = normal-word n h .0 q
     there false q e = absurd (let z : _≡_ {A = ℕ} 1 0 = e in omega (arith, z))
 
+-- THEOREM. and 1 exactly for any other IBM word.
 pub other-1 : (w : List ℕ) → Bytes w → Iff (notNormal 1 w ≡ 1) (ibmWord (exactValue 1 w) ≡ Word (number (bytesAt w 0 4)) → ⊥)
 other-1 w b = (λ e f. differ (sym e ∙ normal-0 w b .1 f), λ f. there (isNormal n) refl f)
   where
@@ -165,7 +168,7 @@ other-1 w b = (λ e f. differ (sym e ∙ normal-0 w b .1 f), λ f. there (isNorm
 pub other-codes : (code : ℕ) (w : List ℕ) → (code ≡ 1 → ⊥) → notNormal code w ≡ 0
 other-codes code w h = rw (ne-eqb code 1 h)
 
--- THEOREM. A word that is written is one for which reading gives 0, under every code.
+-- THEOREM. For a word that is written it gives 0, under every code.
 pub writing-0 : (code : ℕ) (p : Pair) (n : ℕ) → writePair code p ≡ Word n → notNormal code (bytesOf 4 n) ≡ 0
 writing-0 code p n h = go (eqb code 1) refl
   where

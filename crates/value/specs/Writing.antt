@@ -33,8 +33,8 @@ ibmBits s c f = pick s (2 ^ 31) 0 + c * 2 ^ 24 + f
 abbrev pub firstDigit : ℕ → ℕ
 firstDigit n = fraction n / 16 ^ 5
 
--- The normal word, document 01's own term, of a word as a number of 32 bits: for zero it is 00000000; otherwise the first hexadecimal
--- digit of F isn't 0, unless C is 0. So 80000000 and 7F000000 are not normal: they are zero too.
+-- A word, as a number of 32 bits, is normal, document 01's own term: for zero it is 00000000; otherwise the first hexadecimal digit of F
+-- isn't 0, unless C is 0. So 80000000 and 7F000000 are not normal: they are zero too.
 unfoldable pub isNormal : ℕ → Bool
 isNormal n =
     pick (eqb (natAbs (ibmValue n)) 0) (eqb n 0) (not (eqb (firstDigit n) 0) || eqb (characteristic n) 0)

@@ -6,12 +6,12 @@ use Rattle.count_words.proofs.tested_word.Tie as tie
 
 returns : tie.Need-returns
 returns c =
-    let d = c .before .low-digit .ensures in
+    let d = c .before .zero-digit .ensures in
     let m = c .minus-zero .ensures in
     (rw (c .before .before .if1 .taken, d .0, m .0), omega (arith, d .1, m .1))
 
 returns-2 : tie.Need-returns-2
-returns-2 c = (rw (c .before .if1 .left) (c .low-digit2 .ensures .0), omega (arith, c .low-digit2 .ensures .1))
+returns-2 c = (rw (c .before .if1 .left) (c .zero-digit2 .ensures .0), omega (arith, c .zero-digit2 .ensures .1))
 
 pub tested-word-spec : {M : Type 1} → statement M
 tested-word-spec =

@@ -7,7 +7,7 @@ use Rattle.read_samples.proofs.fetched.Tie as tie
 
 returns : tie.Need-returns
 returns c =
-    rw (held-reversed (c .before .before .before .args .code) (c .little-at .result) (omega (arith, c .before .if1 .taken))) (c .little-at .ensures)
+    rw (held-reversed (c .before .before .before .args .code) (c .low-first-at .result) (omega (arith, c .before .if1 .taken))) (c .low-first-at .ensures)
 
 returns-2 : tie.Need-returns-2
 returns-2 c =

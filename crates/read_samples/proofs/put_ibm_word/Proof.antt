@@ -16,8 +16,8 @@ part-put-exponent-end c = omega (arith, c .before .before .before .before .pre .
 put-exponent-requires : tie.Need-put-exponent-requires
 put-exponent-requires c κs = c .put-exponent-arg .given .2
 
-little-at-requires : tie.Need-little-at-requires
-little-at-requires c κs = c .before .before .before .before .before .before .before .before .pre .0
+low-first-at-requires : tie.Need-low-first-at-requires
+low-first-at-requires c κs = c .before .before .before .before .before .before .before .before .pre .0
 
 part-put-mantissa-end : tie.Need-part-put-mantissa-end
 part-put-mantissa-end c = omega (arith, c .before .before .before .before .before .before .before .before .before .pre .1, c .before .before .out .given .1)
@@ -32,7 +32,7 @@ returns c =
     let s = p .before .before .before .before in
     let x = p .before .swapped in
     let whole = reversed-parts (s .args .word) (x .result) (s .fits .word .fits) (x .ensures) in (
-      c .before .before .before .before .little-at .ensures,
+      c .before .before .before .before .low-first-at .ensures,
       parts-put (s .args .out .now) (p .ibm-parts .result) (s .pre .1) (m .put-exponent .ensures) (c .before .before .put-mantissa .ensures)
           ∙ ap sampleContent (p .ibm-parts .ensures ∙ ap (λ (n : ℕ). pairTaken (ibmValue n)) whole),
     )
@@ -48,7 +48,7 @@ put-ibm-word-spec =
     (λ c. omega arith)
     part-put-exponent-end
     put-exponent-requires
-    little-at-requires
+    low-first-at-requires
     (λ c. omega arith)
     (λ c. omega arith)
     part-put-mantissa-end

@@ -1,4 +1,4 @@
--- `read_samples::little_at` meets its contract. Assumes nothing.
+-- `read_samples::low_first_at` meets its contract. Assumes nothing.
 use Rattle.numbers.proofs.WalkLaws.{four-bytes}
 use Rattle.read_samples.proofs.SampleLaws.{turned, word-at}
 use Rattle.read_samples.specs.Parts.{reversed}
@@ -7,8 +7,8 @@ use lib.ListN.{getD}
 use Prim.Native.Nat.{ℕ, _+_, _<_}
 use mathlib.Core.Path.{sym, ap, _∙_}
 use borrow.Author.Needs.{needs}
-use Rattle.read_samples.proofs.little_at.Statement.{statement}
-use Rattle.read_samples.proofs.little_at.Tie as tie
+use Rattle.read_samples.proofs.low_first_at.Statement.{statement}
+use Rattle.read_samples.proofs.low_first_at.Tie as tie
 
 returns : tie.Need-returns
 returns c =
@@ -19,8 +19,8 @@ returns c =
     let is = ap reversed (c .le32 .ensures) ∙ turned (getD r (a .at) 0) (getD r (a .at + 1) 0) (getD r (a .at + 2) 0) (getD r (a .at + 3) 0) (known (a .at) .fits) (byte 1) (byte 2) (byte 3) in
     word-at r (a .at) (reversed (c .le32 .result)) (is ∙ ap number (sym (four-bytes r (a .at)))) (byte 2) (byte 3)
 
-pub little-at-spec : {M : Type 1} → statement M
-little-at-spec =
+pub low-first-at-spec : {M : Type 1} → statement M
+low-first-at-spec =
     tie.close
     (tie.spec
     (λ c. search needs)
