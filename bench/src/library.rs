@@ -1,25 +1,37 @@
 //! The two calls of the library that are measured, through the safe module over its C interface.
+//! Their answers are given in the terms that all contenders share.
 
-use independent::{Refused, Taken};
+use independent::{ReelRead, Refused, Taken};
 
-pub fn read_reel(reel: &[u8], out: &mut [u8]) -> Result<Taken, Refused> {
-    told(aukpocket::read_reel(reel, out))
+pub fn read_reel(reel: &[u8], out: &mut [u8]) -> Result<ReelRead, Refused> {
+    let aukpocket::ReelRead {
+        traces,
+        samples,
+        length,
+        not_normal,
+    } = aukpocket::read_reel(reel, out).map_err(refused)?;
+    Ok(ReelRead {
+        traces,
+        samples,
+        length: length as u64,
+        not_normal,
+    })
 }
 
 pub fn write_reel(record: &[u8], code: u32, out: &mut [u8]) -> Result<Taken, Refused> {
-    told(aukpocket::write_reel(record, code, out))
+    let aukpocket::Taken {
+        traces,
+        samples,
+        length,
+    } = aukpocket::write_reel(record, code, out).map_err(refused)?;
+    Ok(Taken {
+        traces,
+        samples,
+        length: length as u64,
+    })
 }
 
-/// An answer in the terms that all contenders share.
-fn told(answer: Result<aukpocket::Taken, aukpocket::Refusal>) -> Result<Taken, Refused> {
-    answer
-        .map(|taken| Taken {
-            traces: taken.traces,
-            samples: taken.samples,
-            length: taken.length as u64,
-        })
-        .map_err(|refusal| Refused {
-            number: refusal.number,
-            beside: refusal.beside,
-        })
+fn refused(refusal: aukpocket::Refusal) -> Refused {
+    let aukpocket::Refusal { number, beside } = refusal;
+    Refused { number, beside }
 }

@@ -10,7 +10,7 @@ mod tables;
 mod tests;
 mod tuned;
 
-use independent::{Refused, Taken};
+use independent::{ReelRead, Refused, Taken};
 use segyio::Segyio;
 use std::hint::black_box;
 use std::path::PathBuf;
@@ -20,7 +20,7 @@ use tables::{Call, Row};
 
 const USAGE: &str = "usage: bench [--mb SIZE] [--runs COUNT] [--codes 1,2,3,4] [--segyio PYTHON]
        bench growth [--mb MOST] [--runs COUNT]
-       bench one read|write CODE [--mb SIZE] [--who library|same|tuned|independent]";
+       bench one read|write CODE [--not-normal] [--mb SIZE] [--who library|same|tuned|independent]";
 
 /// N of the reels that are compared.
 const SAMPLES: u16 = 2_000;
@@ -34,7 +34,8 @@ const MEGABYTE: usize = 1_000_000;
 const SIZE: usize = 256;
 const SIZES: [usize; 6] = [1, 4, 16, 64, 256, 1_000];
 
-type Answer = Result<Taken, Refused>;
+/// What reading answers, and writing, which counts nothing and has 0 there.
+type Answer = Result<ReelRead, Refused>;
 
 /// Who is measured, in the order of the tables.
 #[derive(Clone, Copy, PartialEq)]
@@ -63,6 +64,7 @@ struct Options {
     megabytes: Option<usize>,
     runs: usize,
     codes: Vec<u32>,
+    not_normal: bool,
     who: Who,
     python: Option<String>,
 }
@@ -81,7 +83,11 @@ fn main() {
                 "write" => Call::Write,
                 _ => usage(),
             };
-            one(&options, call, code_of(code).unwrap_or_else(|| usage()));
+            let code = code_of(code).unwrap_or_else(|| usage());
+            if options.not_normal && code != 1 {
+                usage();
+            }
+            one(&options, call, code);
         }
         _ => usage(),
     }
@@ -98,6 +104,7 @@ fn options() -> Option<Options> {
         megabytes: None,
         runs: 7,
         codes: vec![1, 2, 3, 4],
+        not_normal: false,
         who: Who::Library,
         python: None,
     };
@@ -113,6 +120,7 @@ fn options() -> Option<Options> {
                     .map(code_of)
                     .collect::<Option<_>>()?
             }
+            "--not-normal" => options.not_normal = true,
             "--segyio" => options.python = Some(arguments.next()?),
             "--who" => {
                 options.who = match arguments.next()?.as_str() {
@@ -142,15 +150,29 @@ fn code_of(text: &str) -> Option<u32> {
 fn call(who: Who, call: Call, code: u32, input: &[u8], out: &mut [u8]) -> Answer {
     match (who, call) {
         (Who::Library, Call::Read) => library::read_reel(input, out),
-        (Who::Library, Call::Write) => library::write_reel(input, code, out),
+        (Who::Library, Call::Write) => written(library::write_reel(input, code, out)),
         (Who::Same, Call::Read) => same::read_reel(input, out),
-        (Who::Same, Call::Write) => same::write_reel(input, code, out),
+        (Who::Same, Call::Write) => written(same::write_reel(input, code, out)),
         (Who::Tuned, Call::Read) => tuned::read_reel(input, out),
-        (Who::Tuned, Call::Write) => tuned::write_reel(input, code, out),
+        (Who::Tuned, Call::Write) => written(tuned::write_reel(input, code, out)),
         (Who::Independent, Call::Read) => independent::read_reel(input, out),
-        (Who::Independent, Call::Write) => independent::write_reel(input, code, out),
+        (Who::Independent, Call::Write) => written(independent::write_reel(input, code, out)),
         _ => unreachable!("it has no such call"),
     }
+}
+
+fn written(answer: Result<Taken, Refused>) -> Answer {
+    let Taken {
+        traces,
+        samples,
+        length,
+    } = answer?;
+    Ok(ReelRead {
+        traces,
+        samples,
+        length,
+        not_normal: 0,
+    })
 }
 
 /// The seconds of a call that is taken.
@@ -176,6 +198,16 @@ fn record_length(reel: &[u8], code: u32) -> usize {
     3_273 + traces * (186 + 6 * samples)
 }
 
+/// A reel to compare by, or to count by.
+fn reel_of(code: u32, not_normal: bool, megabytes: usize) -> Vec<u8> {
+    let bytes = megabytes * MEGABYTE;
+    if not_normal {
+        reels::make_not_normal(SAMPLES, bytes, reels::ONE_IN)
+    } else {
+        reels::make(code, SAMPLES, bytes)
+    }
+}
+
 /// Every contender on every code, all in turn in each run; the best run counts.
 fn compare(options: &Options) {
     let mut segyio = options.python.as_deref().map(Segyio::start);
@@ -185,12 +217,16 @@ fn compare(options: &Options) {
 
     let mut rows = Vec::new();
     let mut untouched = Vec::new();
-    for &code in &options.codes {
-        let reel = reels::make(code, SAMPLES, megabytes * MEGABYTE);
+    let kinds = options.codes.iter().flat_map(|&code| match code {
+        1 => vec![(code, false), (code, true)],
+        _ => vec![(code, false)],
+    });
+    for (code, not_normal) in kinds {
+        let reel = reel_of(code, not_normal, megabytes);
         let mut record = vec![1; record_length(&reel, code)];
         let file = segyio
             .as_mut()
-            .filter(|_| code <= 3)
+            .filter(|_| code <= 3 && !not_normal)
             .map(|segyio| File::new(segyio, code, &reel));
         let mut asked = file.map(|file| (segyio.as_mut().expect("it was started"), file));
 
@@ -199,6 +235,7 @@ fn compare(options: &Options) {
         rows.push(Row {
             call: Call::Read,
             code,
+            not_normal,
             bytes: reel.len(),
             seconds: best(options.runs, |who| match (who, &mut asked) {
                 (Who::Memcpy, _) => Some(timed_copy(&reel, &mut out)),
@@ -209,12 +246,17 @@ fn compare(options: &Options) {
             }),
         });
 
+        // Writing gives normal words whatever was read, so that such a reel is only read.
+        if not_normal {
+            continue;
+        }
         let mut written = vec![1; reel.len()];
         let mut out = vec![1; reel.len()];
         agree(Call::Write, code, &record, &mut written, &mut out);
         rows.push(Row {
             call: Call::Write,
             code,
+            not_normal,
             bytes: reel.len(),
             seconds: best(options.runs, |who| match (who, &mut asked) {
                 (Who::Memcpy, _) => Some(timed_copy(&reel, &mut out)),
@@ -234,6 +276,7 @@ fn compare(options: &Options) {
                 untouched.push(Row {
                     call: what,
                     code,
+                    not_normal,
                     bytes: reel.len(),
                     seconds: best(options.runs, |who| match who {
                         // A buffer of that size comes with no page of it in memory yet.
@@ -348,7 +391,7 @@ struct Grown {
 /// implementation, so that the library is called for nothing else.
 fn one(options: &Options, what: Call, code: u32) {
     let megabytes = options.megabytes.unwrap_or(SIZE);
-    let reel = reels::make(code, SAMPLES, megabytes * MEGABYTE);
+    let reel = reel_of(code, options.not_normal, megabytes);
     let mut record = vec![1; record_length(&reel, code)];
     let answer = match what {
         Call::Read => call(
@@ -372,10 +415,11 @@ fn one(options: &Options, what: Call, code: u32) {
     };
     let taken = answer.expect("a call that is taken");
     println!(
-        "{}: {} traces of {} samples, {} bytes of reel",
+        "{}: {} traces of {} samples, {} bytes of reel, {} words not normal",
         tables::name(options.who, what),
         taken.traces,
         taken.samples,
-        reel.len()
+        reel.len(),
+        taken.not_normal
     );
 }

@@ -1,7 +1,7 @@
 //! The library's two passes in plain Rust, the first over all causes, the second writing into the
 //! lent buffer, around what is done for each group of a trace header and for each sample.
 
-use independent::{Refused, Taken};
+use independent::{ReelRead, Refused, Taken};
 
 const CARD_BYTES: usize = 3_200;
 const REEL_HEADERS: usize = 3_600;
@@ -52,6 +52,9 @@ pub trait Steps {
     /// The first gain word that is refused.
     fn refused_gain(words: &[u8]) -> Option<usize>;
 
+    /// How many words are not normal: 0 but for code 1.
+    fn count_words(code: u32, words: &[u8]) -> u64;
+
     fn put_pairs(code: u32, words: &[u8], pairs: &mut [u8]);
 
     /// The first pair that is refused, by the number of the cause and the count of those before it.
@@ -91,7 +94,7 @@ fn held_stride(samples: usize) -> usize {
 // ## Reading
 
 #[inline(always)]
-pub fn read_reel<S: Steps>(reel: &[u8], out: &mut [u8]) -> Result<Taken, Refused> {
+pub fn read_reel<S: Steps>(reel: &[u8], out: &mut [u8]) -> Result<ReelRead, Refused> {
     let numbers = check_reel::<S>(reel)?;
     let ReelNumbers {
         samples, traces, ..
@@ -100,11 +103,12 @@ pub fn read_reel<S: Steps>(reel: &[u8], out: &mut [u8]) -> Result<Taken, Refused
     if out.len() < length {
         return refused(10, length);
     }
-    put_record::<S>(reel, &numbers, &mut out[..length]);
-    Ok(Taken {
+    let not_normal = put_record::<S>(reel, &numbers, &mut out[..length]);
+    Ok(ReelRead {
         traces: traces as u64,
         samples: samples as u64,
         length: length as u64,
+        not_normal,
     })
 }
 
@@ -178,7 +182,8 @@ fn check_reel<S: Steps>(reel: &[u8]) -> Result<ReelNumbers, Refused> {
     })
 }
 
-fn put_record<S: Steps>(reel: &[u8], numbers: &ReelNumbers, out: &mut [u8]) {
+/// Puts the record, and says how many words are not normal.
+fn put_record<S: Steps>(reel: &[u8], numbers: &ReelNumbers, out: &mut [u8]) -> u64 {
     let (headers, behind) = reel.split_at(REEL_HEADERS);
     let (cards, binary) = headers.split_at(CARD_BYTES);
     let (front, rest) = out.split_at_mut(RECORD_HEAD);
@@ -192,6 +197,7 @@ fn put_record<S: Steps>(reel: &[u8], numbers: &ReelNumbers, out: &mut [u8]) {
     fields.copy_from_slice(&binary[..BINARY_FIELDS]);
     fields[CODE..CODE + 2].fill(0);
 
+    let mut not_normal = 0;
     for (trace, held) in behind
         .chunks_exact(numbers.stride)
         .zip(held.chunks_exact_mut(held_stride(numbers.samples)))
@@ -204,9 +210,12 @@ fn put_record<S: Steps>(reel: &[u8], numbers: &ReelNumbers, out: &mut [u8]) {
         fill_in(fields, TRACE_COUNT, numbers.samples as u16);
         fill_in(fields, TRACE_INTERVAL, numbers.interval);
 
-        S::put_pairs(numbers.code, words, put_head(samples_field, 4));
+        let pairs = put_head(samples_field, 4);
+        not_normal += S::count_words(numbers.code, words);
+        S::put_pairs(numbers.code, words, pairs);
     }
     put_head(end, 5).copy_from_slice(&(numbers.traces as u32).to_be_bytes());
+    not_normal
 }
 
 /// Puts the tag and the length of a field that fills the slice, and gives its content.

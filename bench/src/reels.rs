@@ -12,6 +12,11 @@ pub const SAMPLES: [&str; 4] = [
     "gain words, gains 0 to 15, 16-bit numbers of both signs; 1 in 64 is zero",
 ];
 
+/// Of the reel that is compared for its words that aren't normal: one word in so many, and what those are.
+pub const ONE_IN: u32 = 16;
+pub const NOT_NORMAL: &str =
+    "1 in 16 not normal: of these 6 in 8 have 1 to 5 zeros in front of their fraction, 1 in 8 is zero with a characteristic, 1 in 8 is 80000000";
+
 /// What the trace headers are: the elevations and the coordinates. Either scalar is drawn anew for each
 /// trace, which is harder than a reel that has one.
 pub const HEADERS: &str =
@@ -77,16 +82,33 @@ impl Random {
         }
     }
 
+    /// The first byte of a normal IBM word other than zero, and its fraction.
+    fn ibm(&mut self) -> (u32, u32) {
+        let characteristic = 58 + self.below(5) + self.below(5) + self.below(5);
+        let fraction = 0x10_0000 + self.below(0xF0_0000);
+        let sign = self.next() >> 31;
+        (sign << 7 | characteristic, fraction)
+    }
+
+    /// An IBM word that isn't normal.
+    pub fn not_normal(&mut self) -> [u8; 4] {
+        let (first, fraction) = self.ibm();
+        let word = match self.below(8) {
+            0 => 0x8000_0000,
+            1 => first << 24,
+            _ => first << 24 | fraction >> (4 + 4 * self.below(5)),
+        };
+        word.to_be_bytes()
+    }
+
     fn word(&mut self, code: u32) -> [u8; 4] {
         if self.below(64) == 0 {
             return [0; 4];
         }
         match code {
             1 => {
-                let characteristic = 58 + self.below(5) + self.below(5) + self.below(5);
-                let fraction = 0x10_0000 + self.below(0xF0_0000);
-                let sign = self.next() & 0x8000_0000;
-                (sign | characteristic << 24 | fraction).to_be_bytes()
+                let (first, fraction) = self.ibm();
+                (first << 24 | fraction).to_be_bytes()
             }
             2 => {
                 let number = self.next() as i32;
@@ -104,7 +126,22 @@ impl Random {
     }
 }
 
-/// A reel of a code, of about so many bytes.
+/// A reel of code 1 of about so many bytes, in which one word in so many isn't normal.
+pub fn make_not_normal(samples: u16, bytes: usize, one_in: u32) -> Vec<u8> {
+    let mut reel = make(1, samples, bytes);
+    let mut random = Random(u64::from(one_in));
+    let stride = TRACE_HEADER + 4 * usize::from(samples);
+    for trace in reel[REEL_HEADERS..].chunks_exact_mut(stride) {
+        for word in trace[TRACE_HEADER..].chunks_exact_mut(4) {
+            if random.below(one_in) == 0 {
+                word.copy_from_slice(&random.not_normal());
+            }
+        }
+    }
+    reel
+}
+
+/// A reel of a code, of about so many bytes. All words of code 1 are normal.
 pub fn make(code: u32, samples: u16, bytes: usize) -> Vec<u8> {
     let width = if code == 3 { 2 } else { 4 };
     let stride = TRACE_HEADER + usize::from(samples) * width;

@@ -4,7 +4,7 @@
 
 use crate::passes::{self, Steps, NOT_CANONICAL, PAIR_BYTES, UNFIT};
 use crate::passes::{COORDINATES, COORDINATE_SCALAR, ELEVATIONS, ELEVATION_SCALAR};
-use independent::{Refused, Taken};
+use independent::{ReelRead, Refused, Taken};
 use std::array;
 
 const DENOMINATOR_POWER: u32 = 280;
@@ -14,7 +14,7 @@ const BAD_GAIN: u64 = 9;
 struct Same;
 
 #[inline(never)]
-pub fn read_reel(reel: &[u8], out: &mut [u8]) -> Result<Taken, Refused> {
+pub fn read_reel(reel: &[u8], out: &mut [u8]) -> Result<ReelRead, Refused> {
     passes::read_reel::<Same>(reel, out)
 }
 
@@ -71,9 +71,20 @@ impl Steps for Same {
     }
 
     #[inline(always)]
+    fn count_words(code: u32, words: &[u8]) -> u64 {
+        if code != 1 {
+            return 0;
+        }
+        if count_passing(words, may_count) == 0 {
+            return 0;
+        }
+        u64::from(count_passing(words, counts))
+    }
+
+    #[inline(always)]
     fn put_pairs(code: u32, words: &[u8], pairs: &mut [u8]) {
         match code {
-            1 => put_pairs(words, pairs, |word| ibm(u32::from_be_bytes(word))),
+            1 => put_pairs(words, pairs, ibm),
             2 => put_pairs(words, pairs, |word| whole32(i32::from_be_bytes(word))),
             3 => put_pairs(words, pairs, |word| whole16(i16::from_be_bytes(word))),
             _ => put_pairs(words, pairs, gain_or_zero),
@@ -221,6 +232,31 @@ fn scalar_of(power: u32) -> i16 {
     }
 }
 
+// ## Counting
+
+/// How many words pass a test. It takes a word with its first byte lowest, as the library's does.
+fn count_passing(words: &[u8], test: impl Fn(u32) -> u32) -> u32 {
+    words
+        .chunks_exact(4)
+        .map(|word| test(u32::from_le_bytes(word.try_into().unwrap())))
+        .sum()
+}
+
+/// 1 where the first digit of F is 0 and the first byte, under a mask, isn't.
+fn low_digit(word: u32, mask: u32) -> u32 {
+    u32::from(word & 0xF000 == 0 && word & mask != 0)
+}
+
+/// 1 where a word may be one that isn't normal.
+fn may_count(word: u32) -> u32 {
+    low_digit(word, 0xFF)
+}
+
+/// 1 only where it is one.
+fn counts(word: u32) -> u32 {
+    low_digit(word, 0x7F) + u32::from(word == 0x80)
+}
+
 // ## Reading
 
 fn put_pairs<const W: usize>(words: &[u8], pairs: &mut [u8], pair_of: impl Fn([u8; W]) -> Pair) {
@@ -254,8 +290,10 @@ fn canonical(negative: bool, magnitude: u32, power: u32) -> Pair {
 }
 
 #[inline(always)]
-fn ibm(word: u32) -> Pair {
-    canonical(word >> 31 != 0, word & 0xFF_FFFF, (word >> 24 & 0x7F) * 4)
+fn ibm(word: [u8; 4]) -> Pair {
+    let first = word[0];
+    let fraction = u32::from_be_bytes(word) & 0xFF_FFFF;
+    canonical(first >= 0x80, fraction, u32::from(first) * 4 % 512)
 }
 
 #[inline(always)]

@@ -12,6 +12,7 @@ pub enum Call {
 pub struct Row {
     pub call: Call,
     pub code: u32,
+    pub not_normal: bool,
     pub bytes: usize,
     pub seconds: [Option<f64>; ALL.len()],
 }
@@ -45,6 +46,7 @@ pub fn preface(megabytes: usize, runs: usize, segyio: Option<String>) {
     for (code, samples) in (1..).zip(reels::SAMPLES) {
         println!("- Code {code}: {samples}.");
     }
+    println!("- Code 1 once more, in reading: {}.", reels::NOT_NORMAL);
     println!("- Trace headers: {}.", reels::HEADERS);
 }
 
@@ -53,12 +55,12 @@ pub fn comparison(rows: &[Row]) {
         println!("\n{title}, MB of reel a second:\n");
         head(&ALL.map(|who| name(who, call)));
         for row in rows.iter().filter(|row| row.call == call) {
-            line(row.code, &row.speeds(), |speed| format!("{speed:.0}"));
+            line(row, &row.speeds(), |speed| format!("{speed:.0}"));
         }
         println!("\n{title}, the library's speed over that of the others:\n");
         head(&ALL.map(|who| name(who, call))[1..]);
         for row in rows.iter().filter(|row| row.call == call) {
-            line(row.code, &row.ratios()[1..], |ratio| format!("{ratio:.2}"));
+            line(row, &row.ratios()[1..], |ratio| format!("{ratio:.2}"));
         }
     }
 }
@@ -113,10 +115,15 @@ fn head(names: &[&str]) {
     println!("|---{}|", "|---".repeat(names.len()));
 }
 
-fn line(code: u32, numbers: &[Option<f64>], text: impl Fn(f64) -> String) {
+fn line(row: &Row, numbers: &[Option<f64>], text: impl Fn(f64) -> String) {
     let cells: Vec<String> = numbers
         .iter()
         .map(|number| number.map_or("-".into(), &text))
         .collect();
-    println!("| {code} | {} |", cells.join(" | "));
+    let kind = if row.not_normal {
+        format!(", 1 in {} not normal", reels::ONE_IN)
+    } else {
+        String::new()
+    };
+    println!("| {}{kind} | {} |", row.code, cells.join(" | "));
 }

@@ -58,15 +58,77 @@ fn reading_damaged_reels() {
     let mut random = Random(1);
     let mut causes = [0; CAUSES];
     for code in 1..=4 {
-        let reel = reels::make(code, SAMPLES, BYTES);
-        for _ in 0..DAMAGES {
-            let reel = damaged(&mut random, &reel);
-            let room = 7_000 - random.below(3_000) as usize;
-            causes[agreed(Call::Read, code, &reel, room)] += 1;
+        let mut whole = vec![reels::make(code, SAMPLES, BYTES)];
+        if code == 1 {
+            whole.push(reels::make_not_normal(SAMPLES, BYTES, 2));
+        }
+        for reel in whole {
+            for _ in 0..DAMAGES {
+                let reel = damaged(&mut random, &reel);
+                let room = 7_000 - random.below(3_000) as usize;
+                causes[agreed(Call::Read, code, &reel, room)] += 1;
+            }
         }
     }
     for number in [0, 1, 2, 3, 4, 5, 7, 8, 9, 10, 18] {
         assert!(causes[number] > 50, "{causes:?}");
+    }
+}
+
+/// How many words of a reel aren't normal, on which all agree.
+fn counted(reel: &[u8]) -> u64 {
+    let code = u32::from(reel[3_225]);
+    let mut record = vec![0; crate::record_length(reel, code)];
+    assert_eq!(agreed(Call::Read, code, reel, record.len()), 0);
+    let read = independent::read_reel(reel, &mut record).expect("a valid reel");
+    read.not_normal
+}
+
+/// Every first and second byte, the rest of the word zero or not; and the same words under code 2,
+/// which has none to count.
+#[test]
+fn counting_every_kind_of_word() {
+    let mut words = Vec::new();
+    for last in [0, 1] {
+        for front in 0..=u16::MAX {
+            let [first, second] = front.to_be_bytes();
+            words.push([first, second, 0, last]);
+        }
+    }
+    const N: usize = 512;
+    let stride = 240 + 4 * N;
+    let mut reel = reels::make(1, N as u16, 3_600 + words.len() / N * stride);
+    let mut traces = reel[3_600..].chunks_exact_mut(stride);
+    for words in words.chunks_exact(N) {
+        let trace = traces.next().expect("a trace for as many words");
+        trace[240..].copy_from_slice(words.as_flattened());
+    }
+    assert!(traces.next().is_none());
+    // Where F is 0, all but 00000000. Where only its first digit is, those with a characteristic.
+    assert_eq!(counted(&reel), 255 + 254 * (15 + 16));
+    reel[3_225] = 2;
+    assert_eq!(counted(&reel), 0);
+}
+
+/// One word of a trace of any length, at any place, in the first trace or the second.
+#[test]
+fn counting_one_word_at_any_place() {
+    let mut random = Random(4);
+    for samples in 1..=70 {
+        let stride = 240 + 4 * usize::from(samples);
+        let reel = reels::make(1, samples, 3_600 + 2 * stride);
+        assert_eq!(counted(&reel), 0);
+        for trace in [0, 1] {
+            for k in 0..usize::from(samples) {
+                let mut reel = reel.clone();
+                let place = 3_600 + trace * stride + 240 + 4 * k;
+                reel[place..place + 4].copy_from_slice(&random.not_normal());
+                assert_eq!(counted(&reel), 1);
+                // It may be one, and isn't.
+                reel[place..place + 4].copy_from_slice(&[0x80, 0, 0, 1]);
+                assert_eq!(counted(&reel), 0);
+            }
+        }
     }
 }
 

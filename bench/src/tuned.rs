@@ -1,10 +1,11 @@
 //! The library's passes in plain Rust, tuned by what measured faster: signed numbers in place of
 //! sign and magnitude, no branch on a sign, and no test for a canonical pair in the second pass, for
-//! which the first has looked. A group of a trace header is raised by tables, without a loop.
+//! which the first has looked. IBM words are looked at with their first byte lowest. A group of a trace
+//! header is raised by tables, without a loop.
 
 use crate::passes::{self, Steps, NOT_CANONICAL, PAIR_BYTES, UNFIT};
 use crate::passes::{COORDINATES, COORDINATE_SCALAR, ELEVATIONS, ELEVATION_SCALAR};
-use independent::{Refused, Taken};
+use independent::{ReelRead, Refused, Taken};
 use std::array;
 
 const DENOMINATOR_POWER: i32 = 280;
@@ -14,7 +15,7 @@ const MOST_EXPONENT: i16 = 251;
 struct Tuned;
 
 #[inline(never)]
-pub fn read_reel(reel: &[u8], out: &mut [u8]) -> Result<Taken, Refused> {
+pub fn read_reel(reel: &[u8], out: &mut [u8]) -> Result<ReelRead, Refused> {
     passes::read_reel::<Tuned>(reel, out)
 }
 
@@ -52,9 +53,25 @@ impl Steps for Tuned {
     }
 
     #[inline(always)]
+    fn count_words(code: u32, words: &[u8]) -> u64 {
+        let words = words
+            .as_chunks()
+            .0
+            .iter()
+            .map(|&word| u32::from_le_bytes(word));
+        if code != 1 || !words.clone().fold(false, |any, word| any | may_count(word)) {
+            return 0;
+        }
+        words
+            .map(|word| u32::from(counts(word)))
+            .sum::<u32>()
+            .into()
+    }
+
+    #[inline(always)]
     fn put_pairs(code: u32, words: &[u8], pairs: &mut [u8]) {
         match code {
-            1 => put_pairs(words, pairs, |word| ibm(u32::from_be_bytes(word))),
+            1 => put_pairs(words, pairs, ibm),
             2 => put_pairs(words, pairs, |word| whole32(i32::from_be_bytes(word))),
             3 => put_pairs(words, pairs, |word| whole16(i16::from_be_bytes(word))),
             _ => put_pairs(words, pairs, gain),
@@ -166,6 +183,25 @@ fn is_smallest<const K: usize>(fields: &[u8], at: usize, scalar: usize) -> bool 
     }
 }
 
+// ## Counting
+
+/// Whether the first digit of F is 0 and the first byte, under a mask, isn't. The word has
+/// its first byte lowest; 15 less the digit stands over that byte, so that one comparison is enough.
+#[inline(always)]
+fn is_low(word: u32, mask: u32) -> bool {
+    (word & (0xF000 | mask) ^ 0xF000) as i32 > 0xF000
+}
+
+#[inline(always)]
+fn may_count(word: u32) -> bool {
+    is_low(word, 0xFF)
+}
+
+#[inline(always)]
+fn counts(word: u32) -> bool {
+    is_low(word, 0x7F) | (word == 0x80)
+}
+
 // ## Reading
 
 fn put_pairs<const W: usize>(words: &[u8], pairs: &mut [u8], pair_of: impl Fn([u8; W]) -> Pair) {
@@ -197,16 +233,13 @@ fn canonical(number: i32, exponent: i32) -> Pair {
     }
 }
 
-/// Sign and magnitude.
+/// Sign and magnitude. The first byte is taken before the bytes are swapped.
 #[inline(always)]
-fn ibm(word: u32) -> Pair {
-    let magnitude = (word & 0xFF_FFFF) as i32;
-    let number = if word >> 31 == 0 {
-        magnitude
-    } else {
-        -magnitude
-    };
-    canonical(number, (word >> 24 & 0x7F) as i32 * 4 - DENOMINATOR_POWER)
+fn ibm(word: [u8; 4]) -> Pair {
+    let first = word[0];
+    let magnitude = (u32::from_be_bytes(word) & 0xFF_FFFF) as i32;
+    let number = if first < 0x80 { magnitude } else { -magnitude };
+    canonical(number, i32::from(first) * 4 % 512 - DENOMINATOR_POWER)
 }
 
 #[inline(always)]
