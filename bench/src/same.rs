@@ -1,6 +1,7 @@
 //! The library's own algorithm in plain Rust: its two passes, with its steps and its tests for each
 //! group of a trace header and for each sample, one for one. It is what the proved code would be if a
-//! Rust programmer had written it, and nothing in it was chosen by measuring.
+//! Rust programmer had written it, and nothing in it was chosen by measuring but how far it follows the
+//! library in code 1: there it takes a word's first byte before the bytes are swapped, as the library does.
 
 use crate::passes::{self, Steps, NOT_CANONICAL, PAIR_BYTES, UNFIT};
 use crate::passes::{COORDINATES, COORDINATE_SCALAR, ELEVATIONS, ELEVATION_SCALAR};
