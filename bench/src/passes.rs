@@ -211,8 +211,8 @@ fn put_record<S: Steps>(reel: &[u8], numbers: &ReelNumbers, out: &mut [u8]) -> u
         fill_in(fields, TRACE_INTERVAL, numbers.interval);
 
         let pairs = put_head(samples_field, 4);
-        not_normal += S::count_words(numbers.code, words);
         S::put_pairs(numbers.code, words, pairs);
+        not_normal += S::count_words(numbers.code, words);
     }
     put_head(end, 5).copy_from_slice(&(numbers.traces as u32).to_be_bytes());
     not_normal

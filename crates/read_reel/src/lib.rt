@@ -63,7 +63,8 @@ fn put_over(n: u16, at: Place, out: &mut [u8])
     slices::put16(n, &mut out[p..p + 2]);
 }
 
-// A trace: its header and its samples, each behind its tag. Says how many of its words are not normal.
+// A trace: its header and its samples, each behind its tag. Says how many of its words are not normal, which are counted behind their
+// reading, when the cache has them.
 fn put_trace(reel: &[u8], code: usize, n: u16, i: u16, at: usize, out: &mut [u8]) -> usize
     requires { ⌜ (isCode code ≡ true) × (n ≤ mostSamples) × (at + stride n (sampleBytes code) ≤ length (now reel)) × (length (now out) ≡ heldStride n) ⌝ }
     ensures { λ r. ⌜ (r ≡ notNormalIn (now (reel .entry)) code n (at + traceHeader)) × (now (out .exit) ≡ recordTraceCopied (now (reel .entry)) code n i at) ⌝ }
@@ -73,9 +74,8 @@ fn put_trace(reel: &[u8], code: usize, n: u16, i: u16, at: usize, out: &mut [u8]
     put_tag(3, 180, &mut out[0..3]);
     headers::read_header(reel, n, i, Place(at), &mut out[3..183]);
     put_tag(4, size, &mut out[183..186]);
-    let count = count_words::count_words(reel, code, n as usize, Place(at + 240));
     read_samples::read_samples(reel, code, n as usize, Place(at + 240), &mut out[186..e]);
-    count
+    count_words::count_words(reel, code, n as usize, Place(at + 240))
 }
 
 // The traces, one behind the other, and how many of their words are not normal. The last has a call of its own: with one call in all, the compiler makes one function of this loop and

@@ -42,17 +42,14 @@ part-put-tag-end-2 c = omega (arith, c .before .before .before .before .before .
 put-tag-requires-2 : tie.Need-put-tag-requires-2
 put-tag-requires-2 c κs = c .put-tag-arg2 .given .2
 
-add-t22 : tie.Need-add-t22
-add-t22 c = let s = c .before .before .before .before .before .before .before .before .before .before .before .before .before .before in omega (arith, s .pre .2, s .good .0)
-
-add-t22-2 : tie.Need-add-t22-2
-add-t22-2 c = let s = c .before .before .before .before .before .before .before .before .before .before .before .before .before .before .before in omega (arith, s .pre .2, s .good .0)
+add-t21 : tie.Need-add-t21
+add-t21 c = omega (arith, c .before .before .before .before .before .before .before .before .before .before .before .before .before .before .pre .2, c .before .before .before .before .before .before .before .before .before .before .before .before .before .before .good .0)
 
 part-read-samples-end : tie.Need-part-read-samples-end
-part-read-samples-end c =
-    let o = c .before .before in
-    let p = o .before .before .before .before in
-    omega (arith, p .before .before .before .before .before .before .before .before .before .pre .3, p .before .before .before .before .out .given .1, p .out2 .given .1, o .out3 .given .1)
+part-read-samples-end c = omega (arith, c .before .before .before .before .before .before .before .before .before .before .before .before .before .before .pre .3, c .before .before .before .before .before .before .before .before .before .out .given .1, c .before .before .before .before .before .out2 .given .1, c .before .out3 .given .1)
+
+add-t23 : tie.Need-add-t23
+add-t23 c = let s = c .before .before .before .before .before .before .before .before .before .before .before .before .before .before .before .before .before .before in omega (arith, s .pre .2, s .good .0)
 
 returns : tie.Need-returns
 unfolding recordTraceCopied
@@ -66,9 +63,9 @@ returns c =
     let w₁ = lend (tagBytes 3 180) (y ++ (tagBytes 4 (6 * a .n) ++ z)) 3 w₀ (omega arith) refl (c .before .before .before .before .before .before .before .before .before .before .before .before .before .before .before .put-tag .ensures) in
     let w₂ = lend y (tagBytes 4 (6 * a .n) ++ z) 183 w₁ (omega arith) (size-header (traceNumber s (a .n) (a .i) (a .at))) (c .before .before .before .before .before .before .before .before .before .before .before .read-header .ensures ∙ header-read s (a .n) (a .i) (a .at) _ (omega (arith, b .pre .2)) (c .before .before .before .before .before .before .before .before .before .before .before .before .read-header-arg .given .2)) in
     let w₃ = lend (tagBytes 4 (6 * a .n)) z 186 w₂ (omega arith) refl (c .before .before .before .before .before .before .before .put-tag2 .ensures) in
-    let filled = close z (186 + 6 * a .n) w₃ (omega arith) (size-samples s (a .code) (a .n) (a .at + traceHeader) ∙ omega arith) (c .before .before .read-samples .ensures ∙ samples-read s (a .code) (a .n) (a .at + traceHeader) _ (b .pre .0) (omega (arith, b .pre .2)) (c .before .before .before .read-samples-arg .given .2 ∙ omega arith)) in
+    let filled = close z (186 + 6 * a .n) w₃ (omega arith) (size-samples s (a .code) (a .n) (a .at + traceHeader) ∙ omega arith) (c .before .before .before .read-samples .ensures ∙ samples-read s (a .code) (a .n) (a .at + traceHeader) _ (b .pre .0) (omega (arith, b .pre .2)) (c .before .before .before .before .read-samples-arg .given .2 ∙ omega arith)) in
     let room : a .at + traceHeader + a .n * sampleBytes (a .code) ≤ length s = omega (arith, b .pre .2) in
-    (c .before .before .before .before .count-words .ensures ∙ fit-counted s (a .code) (a .n) (a .at + traceHeader) (b .pre .1) room, filled)
+    (c .count-words .ensures ∙ fit-counted s (a .code) (a .n) (a .at + traceHeader) (b .pre .1) room, filled)
 
 same-length : tie.Need-same-length
 same-length c =
@@ -94,12 +91,12 @@ put-trace-spec =
     (λ c. omega arith)
     part-put-tag-end-2
     put-tag-requires-2
-    add-t22
-    (λ c κs. tt)
-    add-t22-2
+    add-t21
     (λ c. omega arith)
     (λ c. omega arith)
     part-read-samples-end
+    (λ c κs. tt)
+    add-t23
     (λ c κs. tt)
     same-length
     returns)
