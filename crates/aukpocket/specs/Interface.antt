@@ -14,6 +14,10 @@ pub data Handed (A : Type 0) : Type 0 where
   handed : A → Handed A
   lost : Handed A
 
+-- A taken call on a whole reel or record, in numbers: number 0, T, N, the length and the count.
+abbrev pub takenAnswer : ℕ → ℕ → ℕ → ℕ → ReelAnswer
+takenAnswer t n l c = record { number = 0; traces = t; samples = n; length = l; beside = 0; «not_normal» = c }
+
 -- A refused call on a whole reel or record, in numbers: the number of the cause and what stands beside it; the other members are 0.
 abbrev pub refusedAnswer : ℕ → ℕ → ReelAnswer
 refusedAnswer number beside = record { number = number; traces = 0; samples = 0; length = 0; beside = beside; «not_normal» = 0 }
@@ -24,7 +28,7 @@ abbrev pub reelAnswer : Said → Handed ReelAnswer
 reelAnswer (taken []) = lost
 reelAnswer (taken (t ∷ [])) = lost
 reelAnswer (taken (t ∷ n ∷ [])) = lost
-reelAnswer (taken (t ∷ n ∷ l ∷ [])) = handed (record { number = 0; traces = t; samples = n; length = l; beside = 0; «not_normal» = 0 })
+reelAnswer (taken (t ∷ n ∷ l ∷ [])) = handed (takenAnswer t n l 0)
 reelAnswer (taken (t ∷ n ∷ l ∷ more ∷ rest)) = lost
 reelAnswer (refused number beside) = handed (refusedAnswer number beside)
 
@@ -34,7 +38,7 @@ countedAnswer (taken []) = lost
 countedAnswer (taken (t ∷ [])) = lost
 countedAnswer (taken (t ∷ n ∷ [])) = lost
 countedAnswer (taken (t ∷ n ∷ l ∷ [])) = lost
-countedAnswer (taken (t ∷ n ∷ l ∷ c ∷ [])) = handed (record { number = 0; traces = t; samples = n; length = l; beside = 0; «not_normal» = c })
+countedAnswer (taken (t ∷ n ∷ l ∷ c ∷ [])) = handed (takenAnswer t n l c)
 countedAnswer (taken (t ∷ n ∷ l ∷ c ∷ more ∷ rest)) = lost
 countedAnswer (refused number beside) = handed (refusedAnswer number beside)
 
@@ -56,7 +60,7 @@ countedHanded o = record { answer = countedAnswer (o .said); bytes = o .bytes }
 -- stands beside it. The other members are 0.
 abbrev pub listingAnswer : Said → Handed ReelAnswer
 listingAnswer (taken []) = lost
-listingAnswer (taken (l ∷ [])) = handed (record { number = 0; traces = 0; samples = 0; length = l; beside = 0; «not_normal» = 0 })
+listingAnswer (taken (l ∷ [])) = handed (takenAnswer 0 0 l 0)
 listingAnswer (taken (l ∷ more ∷ rest)) = lost
 listingAnswer (refused number beside) = handed (refusedAnswer number beside)
 

@@ -9,7 +9,7 @@ ghost use Rattle.write_reel.specs.Writing.{writeOutcome};
 ghost use Rattle.look_up.specs.LookUp.{lookUpOutcome};
 ghost use Rattle.code_page.specs.Page.{latin};
 ghost use Rattle.listing.specs.Calls as calls;
-ghost use Rattle.aukpocket.specs.Interface.{handed, refusedAnswer, reelAnswer, reelIn, reelHanded, countedAnswer, countedHanded, listingAnswer, listingHanded, fieldHanded, sampleAnswer, wordAnswer, sampleIn, sampleHanded, wordHanded};
+ghost use Rattle.aukpocket.specs.Interface.{handed, takenAnswer, refusedAnswer, reelAnswer, reelIn, reelHanded, countedAnswer, countedHanded, listingAnswer, listingHanded, fieldHanded, sampleAnswer, wordAnswer, sampleIn, sampleHanded, wordHanded};
 use listing::Listed;
 use numbers::ByteNo;
 use numbers::Place;
@@ -62,6 +62,20 @@ fn refused_answer(number: u8, place: Place) -> ReelAnswer
     }
 }
 
+// What a taken call on a whole reel or record answers, in numbers: T, N, the length and the count.
+fn taken_answer(traces: usize, samples: usize, length: usize, count: usize) -> ReelAnswer
+    ensures { λ r. ⌜ r ≡ takenAnswer traces samples length count ⌝ }
+{
+    ReelAnswer {
+        number: 0,
+        traces: traces as u64,
+        samples: samples as u64,
+        length: length as u64,
+        beside: 0,
+        not_normal: count as u64,
+    }
+}
+
 // An answer in numbers.
 fn reel_answer(answer: Answer) -> ReelAnswer
     ensures { λ r. ⌜ handed r ≡ reelAnswer (saidBy answer) ⌝ }
@@ -71,14 +85,7 @@ fn reel_answer(answer: Answer) -> ReelAnswer
             traces,
             samples,
             length,
-        } => ReelAnswer {
-            number: 0,
-            traces: traces as u64,
-            samples: samples as u64,
-            length: length as u64,
-            beside: 0,
-            not_normal: 0,
-        },
+        } => taken_answer(traces, samples, length, 0),
         Answer::Refused { number, place } => refused_answer(number, place),
     }
 }
@@ -93,14 +100,7 @@ fn counted_answer(answer: Counted) -> ReelAnswer
             samples,
             length,
             count,
-        } => ReelAnswer {
-            number: 0,
-            traces: traces as u64,
-            samples: samples as u64,
-            length: length as u64,
-            beside: 0,
-            not_normal: count as u64,
-        },
+        } => taken_answer(traces, samples, length, count),
         Counted::Refused { number, place } => refused_answer(number, place),
     }
 }
@@ -126,14 +126,7 @@ fn listing_answer(answer: Listed) -> ReelAnswer
     ensures { λ r. ⌜ handed r ≡ listingAnswer (calls.saidBy answer) ⌝ }
 {
     match answer {
-        Listed::Taken { length } => ReelAnswer {
-            number: 0,
-            traces: 0,
-            samples: 0,
-            length: length as u64,
-            beside: 0,
-            not_normal: 0,
-        },
+        Listed::Taken { length } => taken_answer(0, 0, length, 0),
         Listed::Refused { number, place } => refused_answer(number, place),
     }
 }

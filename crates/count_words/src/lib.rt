@@ -1,5 +1,5 @@
 // How many IBM words of a trace are not normal. They are counted in a loop of their own, which the compiler turns into one over several
-// words at once: in the loop that reads them, it would take a third of the time that reading takes.
+// words at once: in the loop that reads them, it would cost three tenths of the speed.
 ghost use mathlib.Core.Path.{_≡_};
 ghost use Prim.Native.Nat.{_+_, _*_, _^_, _≤_, _<_};
 ghost use lib.Dec.{eqb};

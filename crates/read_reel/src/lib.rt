@@ -78,8 +78,8 @@ fn put_trace(reel: &[u8], code: usize, n: u16, i: u16, at: usize, out: &mut [u8]
     count_words::count_words(reel, code, n as usize, Place(at + 240))
 }
 
-// The traces, one behind the other, and how many of their words are not normal. The last has a call of its own: with one call in all, the compiler makes one function of this loop and
-// of what it does with a trace, and reads code 3 by a tenth slower.
+// The traces, one behind the other, and how many of their words are not normal. The last has a call of its own: with one call in all, the
+// compiler makes one function of this loop and of what it does with a trace, and reads code 3 by a tenth slower.
 fn put_traces(
     reel: &[u8],
     code: usize,

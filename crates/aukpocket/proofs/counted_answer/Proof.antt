@@ -7,11 +7,11 @@ use Rattle.aukpocket.proofs.counted_answer.Statement.{statement}
 use Rattle.aukpocket.proofs.counted_answer.Tie as tie
 
 returns : tie.Need-returns
-returns c = ap (λ x. countedAnswer (countedBy x)) (sym (c .before .answer .given .1))
+returns c = rw (c .taken-answer .ensures) (ap (λ x. countedAnswer (countedBy x)) (sym (c .before .before .answer .given .1)))
 
 returns-2 : tie.Need-returns-2
 returns-2 c = rw (c .refused-answer .ensures) (ap (λ x. countedAnswer (countedBy x)) (sym (c .before .before .answer2 .given .1)))
 
 pub counted-answer-spec : {M : Type 1} → statement M
 counted-answer-spec =
-    tie.close (tie.spec (λ c. search needs) (λ c. search needs) (λ c κs. search needs) returns returns-2)
+    tie.close (tie.spec (λ c. search needs) (λ c κs. search needs) (λ c. search needs) (λ c κs. search needs) returns returns-2)
