@@ -9,10 +9,10 @@ use Rattle.reel.specs.Layout.{firstTrace, traceHeader, samplesOf, codeOf
 unfoldable pub notNormalIn : List ℕ → ℕ → ℕ → ℕ → ℕ
 notNormalIn s code n at = sum (walk (λ p. notNormal code (bytesAt s p 4)) (sampleBytes code) n at)
 
--- How many words of t traces of w bytes, n words each, from a place on.
+-- How many words of t traces of w bytes, n words each, from a place on, are not normal.
 unfoldable pub notNormalAmong : List ℕ → ℕ → ℕ → ℕ → ℕ → ℕ → ℕ
 notNormalAmong s code n w t at = sum (walk (λ p. notNormalIn s code n (p + traceHeader)) w t at)
 
--- How many words of a reel, by its own numbers.
+-- How many words of a reel, by its own numbers, are not normal.
 abbrev pub notNormalOf : List ℕ → ℕ
 notNormalOf s = notNormalAmong s (codeOf s) (samplesOf s) (strideOf s) (tracesOf s) firstTrace
