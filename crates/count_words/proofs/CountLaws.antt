@@ -14,11 +14,11 @@ use Rattle.numbers.specs.Iff.{Iff}
 use Rattle.numbers.proofs.WalkLaws.{walk-same, sum-under, sum-zero, four-bytes}
 use Rattle.numbers.proofs.SignLaws.{below-or}
 use Rattle.numbers.proofs.BoolLaws.{and-true}
-use Rattle.value.specs.Value.{characteristic, fraction}
-use Rattle.value.specs.Writing.{firstDigit, isNormal}
+use Rattle.formats.specs.Value.{characteristic, fraction}
+use Rattle.formats.specs.Words.{firstDigit, isNormal}
 use Rattle.value.proofs.NormalWords.{normal-tests}
 use Rattle.sample.specs.Reading.{notNormal}
-use Rattle.reel.specs.Layout.{sampleBytes}
+use Rattle.formats.specs.Codes.{sampleBytes}
 use Rattle.reel.specs.Causes.{mostSamples}
 use Rattle.reel.specs.NotNormal.{notNormalIn}
 use Rattle.count_words.specs.Counted.{wordsFit, wordsCounted}

@@ -5,7 +5,7 @@ use mathlib.Core.List.{List}
 use lib.ListN.{length}
 use lib.Dec.{leb}
 use Rattle.numbers.specs.Walk.{pick}
-use Rattle.reel.specs.Layout.{sampleBytes}
+use Rattle.formats.specs.Codes.{sampleBytes}
 use Rattle.reel.specs.Causes.{mostSamples}
 use Rattle.reel.specs.NotNormal.{notNormalIn}
 

@@ -13,9 +13,10 @@ use Rattle.numbers.specs.Walk.{pick, walk, bytesAt}
 use Rattle.numbers.specs.Terms.{All, Bytes}
 use Rattle.numbers.proofs.WalkLaws.{cons-eq, size-walk, walk-each, walk-same, map-walk}
 use Rattle.numbers.proofs.AllLaws.{map-same}
-use Rattle.value.specs.Value.{exactValue}
+use Rattle.formats.specs.Value.{exactValue}
 use Rattle.scalars.specs.Scalar.{powerOf, scaledValues}
-use Rattle.reel.specs.Layout.{Field, cardBytes, firstTrace, traceHeader, binaryFields, elevationScalar, coordinateScalar, fieldNumber, intervalOf, samplesOf, codeOf, sampleBytes, strideOf, tracesOf}
+use Rattle.reel.specs.Layout.{Field, cardBytes, firstTrace, traceHeader, binaryFields, elevationScalar, coordinateScalar, fieldNumber, intervalOf, samplesOf, codeOf, strideOf, tracesOf}
+use Rattle.formats.specs.Codes.{sampleBytes}
 use Rattle.reel.specs.Meaning.{blank, cardText, otherThan, binaryNumbers, traceNumber, elevationFields, coordinateFields, unscaledFields, headerOf, Trace, traceMeaning, meaningOf, MeanTheSame}
 use Rattle.look_up.specs.LookUp.{headerNumber}
 use Rattle.reel_theorems.proofs.Same.{samples-same}

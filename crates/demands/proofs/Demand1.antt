@@ -47,12 +47,14 @@ use Rattle.numbers.proofs.CauseLaws.{passed, then-fine, at-most}
 use Rattle.numbers.proofs.BoolLaws.{and-true, and-both}
 use Rattle.numbers.proofs.RowLaws.{Tests, apart, refused-where, row-where, then-row, then-first, then-second, test-between, test-room, test-by, not-enough, too-short, test-flag, not-no, fine-then, refused-then, row-then, no-row}
 use Rattle.numbers.proofs.SaidLaws.{not-taken, iff-trans, says-refused, says-fine, says-either, refused-by, taken-by, keeps-rest}
-use Rattle.value.specs.Value.{isCode, exactValue}
+use Rattle.formats.specs.Codes.{isCode}
+use Rattle.formats.specs.Value.{exactValue}
 use Rattle.value.specs.Pair.{valueOf, isCanonical, pairIn}
-use Rattle.value.specs.Writing.{isNormal, wordOf, writePair}
+use Rattle.formats.specs.Words.{isNormal, wordOf}
+use Rattle.value.specs.Writing.{writePair}
 use Rattle.value.proofs.WrittenLaws.{Only14, only-14}
-use Rattle.value.specs.declared.Written.{Written}
-use Rattle.value.specs.declared.Written.the-variants as written
+use Rattle.formats.specs.declared.Written.{Written}
+use Rattle.formats.specs.declared.Written.the-variants as written
 use Rattle.sample.specs.Reading.{badGain, notNormal, pairTaken, readWord}
 use Rattle.sample.specs.Calls as calls
 use Rattle.sample.specs.declared.Sample.{Sample}

@@ -30,7 +30,7 @@ use Rattle.numbers.specs.Outcome.{taken, Outcome}
 use Rattle.numbers.specs.declared.Check.the-variants.{Fine}
 use Rattle.numbers.specs.Terms.{Bytes}
 use Rattle.numbers.specs.Iff.{Iff}
-use Rattle.reel.specs.Layout.{sampleBytes}
+use Rattle.formats.specs.Codes.{sampleBytes}
 use Rattle.reel.specs.Meaning.{meaningOf}
 use Rattle.record.specs.Record.{recordOf}
 use Rattle.record.specs.Form.{heldInterval, heldSamples, heldCount, formCauses}

@@ -15,11 +15,12 @@ use Rattle.numbers.specs.Terms.{All}
 use Rattle.numbers.specs.Iff.{Iff}
 use Rattle.numbers.proofs.CauseLaws.{passed, first-all, all-first}
 use Rattle.numbers.proofs.ByteLaws.{bytes-of}
-use Rattle.value.specs.Value.{isCode}
+use Rattle.formats.specs.Codes.{isCode}
 use Rattle.value.specs.Pair.{pairOf, isCanonical, pairLength}
-use Rattle.value.specs.Writing.{wordOf, writePair, Writes}
-use Rattle.value.specs.declared.Written.{Written}
-use Rattle.value.specs.declared.Written.the-variants.{Word, Refused}
+use Rattle.formats.specs.Words.{wordOf, Writes}
+use Rattle.value.specs.Writing.{writePair}
+use Rattle.formats.specs.declared.Written.{Written}
+use Rattle.formats.specs.declared.Written.the-variants.{Word, Refused}
 use Rattle.sample_theorems.proofs.Pairs.{pair-value}
 use Rattle.value.proofs.WrittenLaws.{written-is}
 use Rattle.sample_theorems.proofs.Words.{writing-sound, writing-complete}

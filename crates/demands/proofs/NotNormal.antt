@@ -28,12 +28,13 @@ use Rattle.numbers.specs.Outcome.{taken, refused, Outcome}
 use Rattle.numbers.specs.Terms.{Bytes}
 use Rattle.numbers.proofs.WalkLaws.{walk-same, four-bytes, sum-zero, zero-each}
 use Rattle.numbers.proofs.ByteLaws.{number-at, bytes-again}
-use Rattle.value.specs.Value.{ibmValue, exactValue}
-use Rattle.value.specs.Writing.{isNormal}
+use Rattle.formats.specs.Value.{ibmValue, exactValue}
+use Rattle.formats.specs.Words.{isNormal}
 use Rattle.value.proofs.NormalWords.{normal-same}
 use Rattle.sample.specs.Reading.{notNormal}
 use Rattle.sample.specs.Calls.{wordOutcome}
-use Rattle.reel.specs.Layout.{firstTrace, traceHeader, samplesOf, codeOf, sampleBytes, stride, strideOf, tracesOf}
+use Rattle.reel.specs.Layout.{firstTrace, traceHeader, samplesOf, codeOf, stride, strideOf, tracesOf}
+use Rattle.formats.specs.Codes.{sampleBytes}
 use Rattle.reel.specs.NotNormal.{notNormalIn, notNormalAmong, notNormalOf}
 use Rattle.reel_theorems.specs.ReelTable.{traceAt, sampleAt}
 use Rattle.read_reel.specs.Reading.{readOutcome}

@@ -22,16 +22,18 @@ use Rattle.numbers.proofs.WalkLaws.{all-take, cons-eq, flat-size, all-both}
 use Rattle.numbers.proofs.BoolLaws.{and-true}
 use Rattle.numbers.proofs.ByteLaws.{length-bytes, bytes-of}
 use Rattle.numbers.proofs.AllLaws.{all-append, bytes-zeros, all-flat}
-use Rattle.value.specs.Value.{wholeValue, isCode, exactValue}
+use Rattle.formats.specs.Value.{wholeValue, exactValue}
+use Rattle.formats.specs.Codes.{isCode, sampleBytes}
 use Rattle.value.specs.Pair.{pairOf, isCanonical}
-use Rattle.value.specs.Writing.{wordOf, writePair}
-use Rattle.value.specs.declared.Written.{Written}
-use Rattle.value.specs.declared.Written.the-variants.{Word, Refused}
+use Rattle.formats.specs.Words.{wordOf}
+use Rattle.value.specs.Writing.{writePair}
+use Rattle.formats.specs.declared.Written.{Written}
+use Rattle.formats.specs.declared.Written.the-variants.{Word, Refused}
 use Rattle.sample.specs.Reading.{badGain, notNormal}
 use Rattle.sample_theorems.proofs.Pairs.{pair-value}
 use Rattle.sample_theorems.specs.Statements.{Says}
 use Rattle.sample_theorems.proofs.Words.{writing-sound, writing-0}
-use Rattle.reel.specs.Layout.{cardBytes, firstTrace, traceHeader, binaryFields, traceFields, fieldNumber, intervalOf, samplesOf, codeOf, sampleBytes, stride, strideOf, wholeIn, overIn, tracesOf}
+use Rattle.reel.specs.Layout.{cardBytes, firstTrace, traceHeader, binaryFields, traceFields, fieldNumber, intervalOf, samplesOf, codeOf, stride, strideOf, wholeIn, overIn, tracesOf}
 use Rattle.reel.specs.Causes.{mostSamples, mostTraces, mostInterval, neither, limitCauses, wordCause, traceCauses, behindCauses, causesOf}
 use Rattle.reel.specs.Meaning.{blank, cardText, otherThan, binaryNumbers, filled, traceNumber, Trace, traceMeaning, Meaning, meaningOf}
 use Rattle.reel.specs.NotNormal.{notNormalIn, notNormalAmong, notNormalOf}

@@ -31,17 +31,17 @@ use Rattle.numbers.specs.Outcome.{taken, Outcome}
 use Rattle.numbers.specs.Terms.{All, Bytes}
 use Rattle.numbers.proofs.FirstLaws.{first-at, found}
 use Rattle.numbers.proofs.WalkLaws.{walk-each}
-use Rattle.value.specs.Value.{signMagnitude}
-use Rattle.value.specs.Writing.{isNegative, inBits}
-use Rattle.value.proofs.Magnitudes.{signed-mul}
-use Rattle.value.proofs.Held.{in-mag, mag-in}
+use Rattle.numbers.specs.SignMagnitude.{signMagnitude, isNegative, inBits}
+use Rattle.numbers.proofs.Magnitudes.{signed-mul}
+use Rattle.numbers.proofs.Multiples.{in-mag, mag-in}
 use Rattle.scalars.specs.Scalar.{powers, isAllowed, powerOf, scalarOf, scaledBy, scaledValues, serves, smallest, groupScalar, isSmallest}
 use Rattle.scalars.specs.Parts.{Fit32}
 use Rattle.scalars.proofs.Quotients.{signed-times}
 use Rattle.scalars.proofs.Powers.{power-lt, own-serves, smallest-lt, serves-leaves, leaves-serves}
 use Rattle.scalars.proofs.Laws.{power-scalar, same-refl, same-true}
 use Rattle.scalars.proofs.Meant as meant
-use Rattle.reel.specs.Layout.{Field, elevationScalar, coordinateScalar, fieldNumber, firstTrace, samplesOf, intervalOf, codeOf, sampleBytes, stride, strideOf, tracesOf}
+use Rattle.reel.specs.Layout.{Field, elevationScalar, coordinateScalar, fieldNumber, firstTrace, samplesOf, intervalOf, codeOf, stride, strideOf, tracesOf}
+use Rattle.formats.specs.Codes.{sampleBytes}
 use Rattle.reel.specs.NotNormal.{notNormalOf}
 use Rattle.reel.specs.Meaning.{elevationFields, coordinateFields, headerOf, Trace, traceMeaning, Meaning, meaningOf}
 use Rattle.headers.specs.Header.{headerSize, headerBytes}

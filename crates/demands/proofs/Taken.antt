@@ -18,9 +18,9 @@ use Rattle.numbers.proofs.WalkLaws.{cons-eq, size-walk, map-walk}
 use Rattle.numbers.proofs.CauseLaws.{passed, then-fine, at-most}
 use Rattle.numbers.proofs.SaidLaws.{says-fine}
 use Rattle.numbers.proofs.AllLaws.{all-with}
-use Rattle.value.specs.Value.{isCode}
+use Rattle.formats.specs.Codes.{isCode, sampleBytes}
 use Rattle.headers.specs.Header.{headerSize, headerBytes}
-use Rattle.reel.specs.Layout.{firstTrace, sampleBytes, stride, intervalOf, samplesOf, codeOf, strideOf, tracesOf}
+use Rattle.reel.specs.Layout.{firstTrace, stride, intervalOf, samplesOf, codeOf, strideOf, tracesOf}
 use Rattle.reel.specs.Causes.{causesOf}
 use Rattle.reel.specs.NotNormal.{notNormalOf}
 use Rattle.reel.specs.Meaning.{Trace, traceMeaning, Meaning, meaningOf}

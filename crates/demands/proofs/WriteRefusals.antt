@@ -21,9 +21,9 @@ use Rattle.numbers.specs.Terms.{atPlace, Between}
 use Rattle.numbers.proofs.CauseLaws.{then-fine}
 use Rattle.numbers.proofs.RowLaws.{Tests, apart, refused-where, row-where, then-row, then-first, then-second, fine-then, refused-then, holds-then, row-then, test-between, test-room, not-enough, too-short, first-is, first-of, none-is, none-of, walk-fine, walk-holds, walk-refused, walk-row, fine-none}
 use Rattle.numbers.proofs.BoolLaws.{and-both}
-use Rattle.value.specs.Value.{isCode}
+use Rattle.formats.specs.Codes.{isCode}
 use Rattle.value.specs.Pair.{pairLength}
-use Rattle.value.specs.Writing.{wordOf}
+use Rattle.formats.specs.Words.{wordOf}
 use Rattle.record.specs.Form.{heldSamples, tracesPlace, heldStride, formCauses}
 use Rattle.record.specs.Held.{heldValue}
 use Rattle.fit.specs.Target.{isUnfit, fitCause, traceFit, fitCauses, targetCauses}

@@ -8,8 +8,9 @@ use lib.IntN.{ℤ}
 use Rattle.numbers.specs.Walk.{walk, flat, bytesAt}
 use Rattle.numbers.proofs.WalkLaws.{flat-length, size-bytes}
 use Rattle.value.specs.Pair.{pairLength}
-use Rattle.value.specs.Writing.{wordOf}
-use Rattle.reel.specs.Layout.{binaryWidths, binaryFields, cardBytes, fieldNumber, sampleBytes, stride}
+use Rattle.formats.specs.Words.{wordOf}
+use Rattle.reel.specs.Layout.{binaryWidths, binaryFields, cardBytes, fieldNumber, stride}
+use Rattle.formats.specs.Codes.{sampleBytes}
 use Rattle.reel.specs.Meaning.{otherThan, headerOf}
 use Rattle.headers.specs.Header.{headerBytes}
 use Rattle.headers.proofs.Ranges.{numbers-size}

@@ -5,7 +5,7 @@ use lib.Dec.{eqb}
 use Rattle.numbers.specs.Outcome.{Said, taken, refused}
 use Rattle.numbers.specs.Walk.{pick, walk, flat, sum, bytesAt}
 use Rattle.numbers.specs.BigEndian.{number}
-use Rattle.value.specs.Writing.{isNormal}
+use Rattle.formats.specs.Words.{isNormal}
 use Rattle.reel.specs.Layout.{samplesOf, tracesOf}
 
 -- The place of word j of trace k, both counted from 0, in a reel of code 1 with n samples a trace.

@@ -11,9 +11,10 @@ use Rattle.numbers.specs.Outcome.{taken}
 use Rattle.numbers.specs.Terms.{All, Bytes}
 use Rattle.numbers.specs.declared.ByteNo.{ByteNo}
 use Rattle.numbers.specs.declared.Check.the-variants.{Fine}
-use Rattle.value.specs.Value.{isCode, exactValue}
+use Rattle.formats.specs.Codes.{isCode, sampleBytes}
+use Rattle.formats.specs.Value.{exactValue}
 use Rattle.scalars.specs.Scalar.{powerOf}
-use Rattle.reel.specs.Layout.{Field, cardBytes, binaryFields, elevationScalar, coordinateScalar, fieldNumber, samplesOf, codeOf, sampleBytes, tracesOf}
+use Rattle.reel.specs.Layout.{Field, cardBytes, binaryFields, elevationScalar, coordinateScalar, fieldNumber, samplesOf, codeOf, tracesOf}
 use Rattle.reel.specs.Causes.{causesOf}
 use Rattle.reel.specs.Meaning.{blank, otherThan, elevationFields, coordinateFields, unscaledFields, meaningOf, MeanTheSame}
 use Rattle.reel.specs.NotNormal.{notNormalOf}

@@ -7,7 +7,7 @@ use Prim.Native.Nat.{ℕ, suc, _-_, _^_, _<_}
 use lib.ListN.{length, getD}
 use lib.IntN.{ℤ, pos, _*ℤ_}
 use Rattle.numbers.specs.Terms.{All}
-use Rattle.value.specs.Writing.{inBits}
+use Rattle.numbers.specs.SignMagnitude.{inBits}
 use Rattle.scalars.specs.Scalar.{powers, powerOf, scalarOf, scaledBy, serves}
 use Rattle.reel.specs.Layout.{Field, elevationScalar, coordinateScalar, fieldNumber}
 use Rattle.reel.specs.Meaning.{elevationFields, coordinateFields}

@@ -7,7 +7,7 @@ use Prim.Native.Nat.{ℕ}
 use lib.ListN.{length}
 use lib.IntN.{ℤ}
 use Rattle.numbers.specs.Terms.{All, Bytes}
-use Rattle.value.specs.Value.{exactValue}
+use Rattle.formats.specs.Value.{exactValue}
 use Rattle.sample.specs.Reading.{badGain}
 use Rattle.reel.specs.Meaning.{Trace}
 

@@ -11,13 +11,13 @@ use Rattle.numbers.specs.declared.Place.{Place}
 use Rattle.numbers.specs.declared.Check.{Check}
 use Rattle.numbers.specs.declared.Check.the-variants.{Fine, Refused}
 use Rattle.numbers.proofs.CauseLaws.{not-fine, passed, then-fine}
-use Rattle.value.specs.Value.{isCode}
+use Rattle.formats.specs.Codes.{isCode}
 use Rattle.value.specs.Pair.{valueOf, isCanonical, pairLength, pairIn}
-use Rattle.value.specs.Writing.{wordOf}
+use Rattle.formats.specs.Words.{wordOf}
 use Rattle.value.proofs.WrittenLaws.{Only14, only-14}
 use Rattle.value.specs.declared.Pair.{Pair}
-use Rattle.value.specs.declared.Written.{Written}
-use Rattle.value.specs.declared.Written.the-variants as written
+use Rattle.formats.specs.declared.Written.{Written}
+use Rattle.formats.specs.declared.Written.the-variants as written
 use Rattle.reel.specs.Causes.{mostTraces}
 use Rattle.record.specs.Form.{cardsCauses, heldSamples, heldInterval, binaryCauses, tracesPlace, heldStride, pairCause, traceForm, heldCount, formCauses}
 use Rattle.record.specs.Held.{heldValue}

@@ -5,11 +5,11 @@ use mathlib.Core.Bool.{Bool, true, false, not}
 use Rattle.numbers.specs.Walk.{walk}
 use Rattle.numbers.specs.Cause.{refuseIf, then, firstOf}
 use Rattle.numbers.specs.declared.Check.{Check}
-use Rattle.value.specs.Value.{isCode}
+use Rattle.formats.specs.Codes.{isCode}
 use Rattle.value.specs.Pair.{pairLength}
-use Rattle.value.specs.Writing.{wordOf}
-use Rattle.value.specs.declared.Written.{Written}
-use Rattle.value.specs.declared.Written.the-variants as written
+use Rattle.formats.specs.Words.{wordOf}
+use Rattle.formats.specs.declared.Written.{Written}
+use Rattle.formats.specs.declared.Written.the-variants as written
 use Rattle.record.specs.Form.{toPairs, heldSamples, heldStride, heldCount, tracesPlace, formCauses, recordFound}
 use Rattle.record.specs.Held.{heldValue}
 use Rattle.record.specs.declared.Judged.{Judged}

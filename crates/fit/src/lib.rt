@@ -3,7 +3,7 @@ ghost use mathlib.Core.Path.{_≡_};
 ghost use mathlib.Core.Bool.{true};
 ghost use Prim.Native.Nat.{_-_};
 ghost use Rattle.numbers.specs.Cause.{then};
-ghost use Rattle.value.specs.Value.{isCode};
+ghost use Rattle.formats.specs.Codes.{isCode};
 ghost use Rattle.reel.specs.Causes.{mostTraces};
 ghost use Rattle.record.specs.Form.{tracesPlace};
 ghost use Rattle.record.specs.Parts.{formFrom};

@@ -21,10 +21,9 @@ use Rattle.numbers.proofs.Filling.{over-part}
 use Rattle.scalars.specs.Scalar.{powerOf, scaledValues, groupNumbers, groupScalar}
 use Rattle.scalars.proofs.Laws.{length-held}
 use Rattle.reel.specs.Layout.{fieldsFrom, traceWidths, traceFields, fieldNumber, number16}
-use Rattle.reel.specs.Meaning.{filled, traceNumber}
+use Rattle.reel.specs.Meaning.{filled, traceNumber, elevationFields, coordinateFields, unscaledFields, headerOf}
 use Rattle.headers.proofs.NumberLaws.{fields-again, numbers-append}
 use Rattle.headers.proofs.TraceLaws.{trace-back, countField, intervalField}
-use Rattle.reel.specs.Meaning.{elevationFields, coordinateFields, unscaledFields, headerOf}
 use Rattle.headers.specs.Header.{numberBytes, recordNumbers, headerBytes, headerSize, headerRead}
 use Rattle.headers.specs.Parts.{number2, numbersIn, groupBytes, elevationsAt, coordinatesAt, elevationsCopied, coordinatesCopied, ownOr, groupsCopied, headerCopied}
 use Rattle.headers.proofs.GroupLaws.{elevations-in, coordinates-in, size-in, size-elevations, size-coordinates}

@@ -8,6 +8,8 @@ pub mod SaidLaws
 pub mod Filling
 pub mod ByteLaws
 pub mod SignLaws
+pub mod Magnitudes
+pub mod Multiples
 pub mod FirstLaws
 pub mod PlaceLaws
 pub mod TableLaws

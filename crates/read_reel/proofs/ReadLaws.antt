@@ -11,12 +11,12 @@ use Rattle.numbers.specs.Terms.{Bytes}
 use Rattle.numbers.specs.Outcome.{taken, Outcome}
 use Rattle.numbers.specs.declared.Place.{Place}
 use Rattle.numbers.specs.declared.Check.the-variants as check
-use Rattle.reel.specs.Layout.{firstTrace, samplesOf, intervalOf, codeOf, sampleBytes, stride, strideOf, tracesOf}
+use Rattle.reel.specs.Layout.{firstTrace, samplesOf, intervalOf, codeOf, stride, strideOf, tracesOf}
+use Rattle.formats.specs.Codes.{sampleBytes, isCode}
 use Rattle.reel.specs.Causes.{mostSamples, mostTraces, causesOf}
 use Rattle.reel.specs.NotNormal.{notNormalAmong, notNormalOf}
 use Rattle.reel.proofs.CheckLaws.{Numbers, reel-fine, inside}
 use Rattle.reel.proofs.JudgedLaws.{Own}
-use Rattle.value.specs.Value.{isCode}
 use Rattle.record.specs.Form.{heldStride}
 use Rattle.record.specs.Record.{reelRecord, recordLength}
 use Rattle.record.specs.Answer.{countedOutcome}

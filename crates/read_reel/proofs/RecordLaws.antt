@@ -14,9 +14,10 @@ use Rattle.numbers.specs.BigEndian.{bytesOf}
 use Rattle.numbers.specs.declared.Check.the-variants.{Fine}
 use Rattle.numbers.proofs.WalkLaws.{size-walk}
 use Rattle.numbers.proofs.CauseLaws.{passed, then-fine}
-use Rattle.value.specs.Value.{isCode, exactValue}
+use Rattle.formats.specs.Codes.{isCode, sampleBytes}
+use Rattle.formats.specs.Value.{exactValue}
 use Rattle.sample.specs.Reading.{badGain}
-use Rattle.reel.specs.Layout.{cardBytes, firstTrace, traceHeader, samplesOf, intervalOf, codeOf, sampleBytes, strideOf, tracesOf}
+use Rattle.reel.specs.Layout.{cardBytes, firstTrace, traceHeader, samplesOf, intervalOf, codeOf, strideOf, tracesOf}
 use Rattle.reel.specs.Causes.{wordCause, traceCauses, causesOf}
 use Rattle.reel.specs.Meaning.{cardText, binaryNumbers, traceNumber, headerOf, traceMeaning, meaningOf}
 use Rattle.reel.proofs.CheckLaws.{words-fine, Numbers, reel-fine}

@@ -16,11 +16,11 @@ use Rattle.numbers.specs.TwosComplement.{signedOf}
 use Rattle.numbers.proofs.WalkLaws.{flat-length, flat-none, four-bytes}
 use Rattle.numbers.proofs.BoolLaws.{and-true}
 use Rattle.numbers.proofs.Filling.{in-turn}
-use Rattle.value.specs.Value.{denominatorPower, ibmValue, wholeValue, gainValue, isCode}
+use Rattle.formats.specs.Value.{denominatorPower, ibmValue, wholeValue, gainValue}
+use Rattle.formats.specs.Codes.{isCode, sampleBytes}
 use Rattle.sample.specs.Reading.{pairTaken, readWord}
 use Rattle.sample.specs.declared.Sample.{Sample}
 use Rattle.sample.specs.declared.Sample.the-variants.{Taken, Refused}
-use Rattle.reel.specs.Layout.{sampleBytes}
 use Rattle.read_samples.specs.Samples.{sampleContent, sampleCopied, samplePairs, samplesFit, samplesRead}
 use Rattle.read_samples.specs.Parts.{exponentContent, mantissaContent, gainOrZero, reversed, wordHeld, WordAt}
 

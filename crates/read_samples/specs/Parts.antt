@@ -8,7 +8,7 @@ use lib.IntN.{pos}
 use Rattle.numbers.specs.Walk.{pick, bytesAt}
 use Rattle.numbers.specs.BigEndian.{number, bytesOf}
 use Rattle.numbers.specs.TwosComplement.{signedOf, bitsOf}
-use Rattle.value.specs.Value.{gainValue}
+use Rattle.formats.specs.Value.{gainValue}
 use Rattle.value.specs.Pair.{mantissaBits}
 use Rattle.sample.specs.Reading.{pairTaken}
 use Rattle.sample.specs.declared.Sample.{Sample}

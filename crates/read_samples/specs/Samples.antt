@@ -5,12 +5,11 @@ use mathlib.Core.List.{List, map}
 use lib.ListN.{length, replicate}
 use lib.Dec.{leb, eqb}
 use Rattle.numbers.specs.Walk.{pick, walk, flat, bytesAt}
-use Rattle.value.specs.Value.{isCode}
+use Rattle.formats.specs.Codes.{isCode, sampleBytes}
 use Rattle.value.specs.Pair.{pairLength, pairBytes}
 use Rattle.sample.specs.Reading.{readWord}
 use Rattle.sample.specs.declared.Sample.{Sample}
 use Rattle.sample.specs.declared.Sample.the-variants.{Taken, Refused}
-use Rattle.reel.specs.Layout.{sampleBytes}
 
 -- What reading a word gives, as six bytes; zero for a word that is refused, which a reel has only where 2 or 9 applies.
 abbrev pub sampleContent : Sample → List ℕ

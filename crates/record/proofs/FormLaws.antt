@@ -17,7 +17,7 @@ use Rattle.numbers.specs.declared.Check.{Check}
 use Rattle.numbers.specs.declared.Check.the-variants.{Fine, Refused}
 use Rattle.numbers.proofs.CauseLaws.{then-assoc, passed, then-fine}
 use Rattle.value.specs.Pair.{pairLength}
-use Rattle.value.specs.declared.Written.the-variants as written
+use Rattle.formats.specs.declared.Written.the-variants as written
 use Rattle.reel.specs.Layout.{number16}
 use Rattle.reel.specs.Causes.{mostSamples, mostTraces, mostInterval, within}
 use Rattle.reel.proofs.CheckLaws.{both-true, in-limits}

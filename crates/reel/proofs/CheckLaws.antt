@@ -13,10 +13,11 @@ use Rattle.numbers.specs.Cause.{refuseIf, then, firstOf}
 use Rattle.numbers.specs.Places.{bytePlace}
 use Rattle.numbers.specs.declared.Check.the-variants.{Fine, Refused}
 use Rattle.numbers.proofs.CauseLaws.{then-assoc, passed, then-fine}
-use Rattle.value.specs.Value.{isCode, exactValue}
+use Rattle.formats.specs.Codes.{isCode, sampleBytes}
+use Rattle.formats.specs.Value.{exactValue}
 use Rattle.sample.specs.Reading.{badGain, readWord, pairTaken}
 use Rattle.sample.specs.declared.Sample.the-variants as sample
-use Rattle.reel.specs.Layout.{firstTrace, traceHeader, elevationScalar, coordinateScalar, number16, samplesOf, codeOf, intervalOf, sampleBytes, stride, strideOf, overIn, tracesOf}
+use Rattle.reel.specs.Layout.{firstTrace, traceHeader, elevationScalar, coordinateScalar, number16, samplesOf, codeOf, intervalOf, stride, strideOf, overIn, tracesOf}
 use Rattle.reel.specs.Parts.{wordRefused, traceHeaderCauses}
 use Rattle.reel.specs.Causes.{mostSamples, mostTraces, within, neither, limitCauses, sizeCauses, scalarCause, wordCause, traceCauses, behindCauses, causesOf}
 

@@ -6,7 +6,8 @@ use native.Mathlib.Omega.{arith}
 use Rattle.numbers.specs.declared.Place.{Place}
 use Rattle.numbers.specs.declared.Check.{Check}
 use Rattle.numbers.specs.declared.Check.the-variants as check
-use Rattle.reel.specs.Layout.{samplesOf, intervalOf, codeOf, sampleBytes, strideOf, tracesOf}
+use Rattle.reel.specs.Layout.{samplesOf, intervalOf, codeOf, strideOf, tracesOf}
+use Rattle.formats.specs.Codes.{sampleBytes}
 use Rattle.reel.specs.Causes.{causesOf, reelFound, reelJudged}
 use Rattle.reel.specs.declared.Judged.the-variants as judged
 

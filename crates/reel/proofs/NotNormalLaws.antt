@@ -10,9 +10,10 @@ use lib.ListN.{length}
 use Rattle.numbers.specs.Walk.{pick, bytesAt}
 use Rattle.numbers.specs.BigEndian.{number}
 use Rattle.numbers.proofs.WalkLaws.{sum-none, sum-more, sum-most}
-use Rattle.value.specs.Writing.{isNormal}
+use Rattle.formats.specs.Words.{isNormal}
 use Rattle.sample.specs.Reading.{notNormal}
-use Rattle.reel.specs.Layout.{firstTrace, traceHeader, sampleBytes, stride}
+use Rattle.reel.specs.Layout.{firstTrace, traceHeader, stride}
+use Rattle.formats.specs.Codes.{sampleBytes}
 use Rattle.reel.specs.NotNormal.{notNormalIn, notNormalAmong}
 
 one-most : (code : ℕ) (w : List ℕ) → notNormal code w ≤ 1

@@ -12,10 +12,10 @@ use Rattle.numbers.specs.declared.Check.{Check}
 use Rattle.numbers.specs.declared.Check.the-variants.{Fine, Refused}
 use Rattle.reel.specs.declared.Judged.{Judged}
 use Rattle.reel.specs.declared.Judged.the-variants as variant
-use Rattle.value.specs.Value.{isCode}
+use Rattle.formats.specs.Codes.{isCode, sampleBytes}
 use Rattle.scalars.specs.Scalar.{isAllowed}
 use Rattle.sample.specs.Reading.{badGain}
-use Rattle.reel.specs.Layout.{Field, firstTrace, traceHeader, elevationScalar, coordinateScalar, fieldNumber, number16, intervalOf, samplesOf, codeOf, sampleBytes, strideOf, wholeIn, overIn, tracesOf}
+use Rattle.reel.specs.Layout.{Field, firstTrace, traceHeader, elevationScalar, coordinateScalar, fieldNumber, number16, intervalOf, samplesOf, codeOf, strideOf, wholeIn, overIn, tracesOf}
 
 -- The most samples of a trace, and the most traces of a reel.
 abbrev pub mostSamples : ℕ

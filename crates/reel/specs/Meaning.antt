@@ -6,9 +6,10 @@ use lib.Dec.{eqb}
 use lib.IntN.{ℤ, pos, natAbs}
 use lib.ListN.{length}
 use Rattle.numbers.specs.Walk.{pick, walk, bytesAt}
-use Rattle.value.specs.Value.{exactValue}
+use Rattle.formats.specs.Value.{exactValue}
 use Rattle.scalars.specs.Scalar.{scaledValues}
-use Rattle.reel.specs.Layout.{Field, cardBytes, firstTrace, traceHeader, binaryFields, traceFields, elevationScalar, coordinateScalar, fieldNumber, intervalOf, samplesOf, codeOf, sampleBytes, strideOf, tracesOf}
+use Rattle.reel.specs.Layout.{Field, cardBytes, firstTrace, traceHeader, binaryFields, traceFields, elevationScalar, coordinateScalar, fieldNumber, intervalOf, samplesOf, codeOf, strideOf, tracesOf}
+use Rattle.formats.specs.Codes.{sampleBytes}
 use Rattle.reel.specs.Causes.{within}
 
 -- A card byte 00 is taken as the EBCDIC blank 40, which is 64.

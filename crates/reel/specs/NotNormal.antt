@@ -3,7 +3,8 @@ use Prim.Native.Nat.{ℕ, _+_}
 use mathlib.Core.List.{List}
 use Rattle.numbers.specs.Walk.{walk, sum, bytesAt}
 use Rattle.sample.specs.Reading.{notNormal}
-use Rattle.reel.specs.Layout.{firstTrace, traceHeader, samplesOf, codeOf, sampleBytes, strideOf, tracesOf}
+use Rattle.reel.specs.Layout.{firstTrace, traceHeader, samplesOf, codeOf, strideOf, tracesOf}
+use Rattle.formats.specs.Codes.{sampleBytes}
 
 -- How many of n words from a place on are not normal.
 unfoldable pub notNormalIn : List ℕ → ℕ → ℕ → ℕ → ℕ

@@ -21,10 +21,10 @@ use Rattle.numbers.specs.declared.Check.the-variants.{Fine, Refused}
 use Rattle.numbers.specs.Iff.{Iff}
 use Rattle.numbers.specs.Terms.{atPlace, Between, ZeroOr}
 use Rattle.numbers.proofs.RowLaws.{Tests, test-by, then-row, then-first, then-second, fine-then, refused-then, holds-then, row-then, no-row, test-between, test-either, test-room, not-enough, too-short, first-is, first-of, walk-fine, walk-holds, walk-refused, walk-row, fine-none}
-use Rattle.value.specs.Value.{isCode}
+use Rattle.formats.specs.Codes.{isCode, sampleBytes}
 use Rattle.numbers.proofs.BoolLaws.{or-true}
 use Rattle.scalars.specs.Scalar.{isAmong, isAllowed}
-use Rattle.reel.specs.Layout.{Field, elevationScalar, coordinateScalar, fieldNumber, firstTrace, traceHeader, number16, samplesOf, intervalOf, codeOf, sampleBytes, strideOf, overIn, tracesOf}
+use Rattle.reel.specs.Layout.{Field, elevationScalar, coordinateScalar, fieldNumber, firstTrace, traceHeader, number16, samplesOf, intervalOf, codeOf, strideOf, overIn, tracesOf}
 use Rattle.reel.specs.Causes.{mostSamples, mostTraces, mostInterval, within, neither, limitCauses, sizeCauses, scalarCause, wordCause, traceCauses, behindCauses, causesOf}
 use Rattle.reel_theorems.specs.ReelTable.{traceAt, sampleAt, Headed, Whole, OwnNumbers, Among, Allowed, Passed, Until, ReelRow, short-reel, bad-code, bad-samples, bad-interval, left-over, many, bad-115, bad-117, bad-69, bad-71, bad-gain}
 

@@ -21,10 +21,11 @@ use Rattle.numbers.specs.Iff.{Iff}
 use Rattle.numbers.proofs.WalkLaws.{all-at, split, cons-eq, flat-size, flat-inj, size-walk}
 use Rattle.numbers.proofs.ByteLaws.{bytes-at, number-at}
 use Rattle.numbers.proofs.SignLaws.{bits-signed}
-use Rattle.value.specs.Value.{exactValue}
+use Rattle.formats.specs.Value.{exactValue}
 use Rattle.value.specs.Pair.{pairOf, valueOf, isCanonical, pairIn}
 use Rattle.sample_theorems.proofs.Pairs.{pair-value, bytes-pair, value-canonical}
-use Rattle.reel.specs.Layout.{fieldsFrom, binaryWidths, binaryFields, traceWidths, traceFields, fieldNumber, firstTrace, traceHeader, samplesOf, intervalOf, codeOf, sampleBytes, strideOf, tracesOf}
+use Rattle.reel.specs.Layout.{fieldsFrom, binaryWidths, binaryFields, traceWidths, traceFields, fieldNumber, firstTrace, traceHeader, samplesOf, intervalOf, codeOf, strideOf, tracesOf}
+use Rattle.formats.specs.Codes.{sampleBytes}
 use Rattle.reel.specs.Causes.{causesOf}
 use Rattle.reel.specs.Meaning.{cardText, binaryNumbers, filled, traceNumber, Header, headerOf, Trace, traceMeaning, meaningOf, MeanTheSame}
 use Rattle.reel.proofs.CheckLaws.{reel-fine}

@@ -9,7 +9,8 @@ use lib.ListN.{length, getD}
 use Rattle.numbers.specs.Places.{bytePlace}
 use Rattle.numbers.specs.Terms.{Between, ZeroOr}
 use lib.IntN.{natAbs}
-use Rattle.reel.specs.Layout.{Field, elevationScalar, coordinateScalar, fieldNumber, number16, samplesOf, intervalOf, codeOf, sampleBytes, strideOf, tracesOf}
+use Rattle.reel.specs.Layout.{Field, elevationScalar, coordinateScalar, fieldNumber, number16, samplesOf, intervalOf, codeOf, strideOf, tracesOf}
+use Rattle.formats.specs.Codes.{sampleBytes}
 
 -- ## The terms of the table
 

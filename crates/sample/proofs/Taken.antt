@@ -10,7 +10,8 @@ use lib.Dec.{eqb, lit<}
 use lib.Pow.{pow-add}
 use lib.IntN.{pos, subℕ}
 use Rattle.numbers.specs.Walk.{pick}
-use Rattle.value.specs.Value.{denominatorPower, signMagnitude}
+use Rattle.formats.specs.Value.{denominatorPower}
+use Rattle.numbers.specs.SignMagnitude.{signMagnitude}
 use Rattle.value.proofs.Twos.{split, trailing-lt}
 use Rattle.value.proofs.Pairs.{pair-at}
 use Rattle.sample.specs.Reading.{pairTaken}

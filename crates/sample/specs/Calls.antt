@@ -7,8 +7,8 @@ use Rattle.numbers.specs.Places.{placeNo}
 use Rattle.numbers.specs.Outcome.{Said, taken, refused, Outcome}
 use Rattle.value.specs.Pair.{pairLength, pairBytes, pairIn}
 use Rattle.value.specs.Writing.{writePair}
-use Rattle.value.specs.declared.Written.{Written}
-use Rattle.value.specs.declared.Written.the-variants as written
+use Rattle.formats.specs.declared.Written.{Written}
+use Rattle.formats.specs.declared.Written.the-variants as written
 use Rattle.sample.specs.Reading.{notNormal, readWord}
 use Rattle.sample.specs.declared.Sample.{Sample}
 use Rattle.sample.specs.declared.Sample.the-variants as sample

@@ -7,9 +7,10 @@ use lib.Dec.{eqb}
 use lib.IntN.{ℤ}
 use Rattle.numbers.specs.Walk.{pick, bytesAt}
 use Rattle.numbers.specs.BigEndian.{number}
-use Rattle.value.specs.Value.{isCode, exactValue}
+use Rattle.formats.specs.Codes.{isCode}
+use Rattle.formats.specs.Value.{exactValue}
 use Rattle.value.specs.Pair.{pairOf}
-use Rattle.value.specs.Writing.{isNormal}
+use Rattle.formats.specs.Words.{isNormal}
 use Rattle.sample.specs.declared.Sample.{Sample}
 use Rattle.sample.specs.declared.Sample.the-variants.{Taken, Refused}
 

@@ -9,8 +9,9 @@ use lib.Dec.{lit<, lit≤}
 use Rattle.numbers.specs.Walk.{bytesAt}
 use Rattle.numbers.specs.First.{first}
 use Rattle.value.specs.Pair.{twosIn, twos, oddPart, isCanonical}
-use Rattle.value.specs.Writing.{isNormal, writePair}
-use Rattle.value.specs.declared.Written.the-variants.{Word, Refused}
+use Rattle.formats.specs.Words.{isNormal}
+use Rattle.value.specs.Writing.{writePair}
+use Rattle.formats.specs.declared.Written.the-variants.{Word, Refused}
 use Rattle.sample.specs.Reading.{notNormal}
 use Rattle.sample_theorems.specs.Starred.{Starred, beyond}
 

@@ -8,12 +8,12 @@ use lib.IntN.{ℤ}
 use Rattle.numbers.specs.Terms.{Bytes}
 use Rattle.numbers.specs.BigEndian.{bytesOf}
 use Rattle.numbers.specs.Outcome.{taken, Outcome}
-use Rattle.value.specs.Value.{exactValue}
+use Rattle.formats.specs.Value.{exactValue}
 use Rattle.value.specs.Pair.{pairOf, pairIn}
 use Rattle.value.specs.Writing.{writePair}
 use Rattle.value.specs.declared.Pair.{Pair}
-use Rattle.value.specs.declared.Written.{Written}
-use Rattle.value.specs.declared.Written.the-variants.{Word, Refused}
+use Rattle.formats.specs.declared.Written.{Written}
+use Rattle.formats.specs.declared.Written.the-variants.{Word, Refused}
 use Rattle.value.proofs.WrittenLaws.{written-is}
 use Rattle.sample.specs.Reading.{notNormal, readWord}
 use Rattle.sample.specs.Calls.{readSaid, wordOutcome, writeSaid, pairOutcome}

@@ -20,15 +20,18 @@ use Rattle.numbers.specs.BigEndian.{number, bytesOf}
 use Rattle.numbers.specs.TwosComplement.{signedOf, bitsOf}
 use Rattle.numbers.proofs.ByteLaws.{byte-at, number-at}
 use Rattle.numbers.proofs.SignLaws.{below-or}
-use Rattle.value.specs.Value.{denominatorPower, characteristic, ibmValue, wholeValue, gainValue, isCode, exactValue}
+use Rattle.formats.specs.Value.{denominatorPower, characteristic, ibmValue, wholeValue, gainValue, exactValue}
+use Rattle.formats.specs.Codes.{isCode}
 use Rattle.value.specs.Pair.{valueOf, isCanonical}
-use Rattle.value.specs.Writing.{numberOf, ibmWord, wholeWord, gainFits, gainWord, wordOf, writePair, firstDigit, isNormal, Writes}
+use Rattle.numbers.specs.SignMagnitude.{numberOf}
+use Rattle.formats.specs.Words.{ibmWord, wholeWord, gainFits, gainWord, wordOf, firstDigit, isNormal, Writes}
+use Rattle.value.specs.Writing.{writePair}
 use Rattle.value.specs.declared.Pair.{Pair}
-use Rattle.value.specs.declared.Written.the-variants.{Word}
+use Rattle.formats.specs.declared.Written.the-variants.{Word}
 use Rattle.sample.specs.Reading.{notNormal}
 use Rattle.sample_theorems.specs.Statements.{Says}
 use Rattle.value.proofs.Codes.{code-is}
-use Rattle.value.proofs.Held.{held-sound, held-lt, held-only}
+use Rattle.numbers.proofs.Multiples.{held-sound, held-lt, held-only}
 use Rattle.value.proofs.NormalWords.{normal-means, normal-again, normal-written, normal-same, ibm-complete}
 use Rattle.value.proofs.WrittenLaws.{written-is, whole-is, whole-complete, gain-is, gain-held, gain-complete}
 use Rattle.value.proofs.WordBytes.{word-number, half-bytes, first-half, gain-first, gain-byte, gain-half}

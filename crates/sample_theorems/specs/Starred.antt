@@ -4,12 +4,12 @@ use mathlib.Core.Path.{_≡_}
 use mathlib.Core.List.{[], _∷_}
 use lib.IntN.{ℤ, pos, negsuc, negℤ}
 use Rattle.numbers.specs.Outcome.{taken}
-use Rattle.value.specs.Value.{wholeValue}
+use Rattle.formats.specs.Value.{wholeValue}
 use Rattle.value.specs.Pair.{pairOf}
 use Rattle.value.specs.Writing.{writePair}
 use Rattle.value.specs.declared.Pair.{Pair}
-use Rattle.value.specs.declared.Written.{Written}
-use Rattle.value.specs.declared.Written.the-variants.{Word, Refused}
+use Rattle.formats.specs.declared.Written.{Written}
+use Rattle.formats.specs.declared.Written.the-variants.{Word, Refused}
 use Rattle.sample.specs.Reading.{readWord}
 use Rattle.sample.specs.Calls.{wordOutcome, pairOutcome}
 use Rattle.sample.specs.declared.Sample.{Sample}

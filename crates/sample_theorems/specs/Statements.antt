@@ -5,10 +5,11 @@ use mathlib.Core.Bool.{true, false}
 use mathlib.Core.List.{List}
 use lib.IntN.{ℤ}
 use Rattle.numbers.specs.BigEndian.{bytesOf}
-use Rattle.value.specs.Value.{exactValue}
-use Rattle.value.specs.Writing.{isNormal, writePair}
+use Rattle.formats.specs.Value.{exactValue}
+use Rattle.formats.specs.Words.{isNormal}
+use Rattle.value.specs.Writing.{writePair}
 use Rattle.value.specs.declared.Pair.{Pair}
-use Rattle.value.specs.declared.Written.the-variants.{Word}
+use Rattle.formats.specs.declared.Written.the-variants.{Word}
 use Rattle.sample.specs.Reading.{badGain}
 
 -- The number n of 32 bits is, in four bytes, a word that reading takes under the code, and has the value v.

@@ -13,15 +13,14 @@ use lib.ListN.{length, length-map, replicate}
 use lib.Signed.{mag}
 use Rattle.numbers.proofs.WalkLaws.{cons-eq}
 use Rattle.numbers.specs.First.{first}
-use Rattle.value.specs.Writing.{isNegative, isMultiple, holds, numberOf, inBits}
+use Rattle.numbers.specs.SignMagnitude.{isNegative, isMultiple, holds, numberOf, inBits}
 use Rattle.numbers.proofs.FirstLaws.{found}
-use Rattle.value.proofs.Magnitudes.{in-bits}
+use Rattle.numbers.proofs.Magnitudes.{in-bits}
 use Rattle.scalars.specs.Scalar.{powers, isAllowed, powerOf, scalarOf, scaledBy, scaledValues, serves, smallest, numbersAt, groupNumbers, groupScalar, sameNumber, isSmallest}
-use Rattle.scalars.specs.Parts.{largest}
+use Rattle.scalars.specs.Parts.{largest, Fit32}
 use Rattle.scalars.proofs.Fit32.{largest-fits}
-use Rattle.scalars.specs.Parts.{Fit32}
 use Rattle.numbers.proofs.BoolLaws.{and-true}
-use Rattle.value.proofs.Held.{in-mag, quot-mul, mul-quot}
+use Rattle.numbers.proofs.Multiples.{in-mag, quot-mul, mul-quot}
 use Rattle.scalars.proofs.Quotients.{signed-times}
 use Rattle.scalars.proofs.Powers.{ten-pos, edge, both-within, power-lt, serves-is, smallest-is, smallest-below, smallest-le}
 

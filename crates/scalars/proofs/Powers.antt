@@ -17,15 +17,13 @@ use Rattle.numbers.specs.Walk.{pick}
 use Rattle.numbers.proofs.BoolLaws.{and-false}
 use Rattle.numbers.proofs.SignLaws.{below-or}
 use Rattle.numbers.proofs.WalkLaws.{cons-eq}
-use Rattle.value.specs.Writing.{isNegative, isMultiple, numberOf, holds, inBits}
-use Rattle.value.proofs.Magnitudes.{signed-mul}
-use Rattle.value.proofs.Held.{mul-multiple}
-use Rattle.value.specs.Value.{signMagnitude}
+use Rattle.numbers.specs.SignMagnitude.{isNegative, isMultiple, numberOf, holds, inBits, signMagnitude}
+use Rattle.numbers.proofs.Magnitudes.{signed-mul}
+use Rattle.numbers.proofs.Multiples.{mul-multiple}
 use Rattle.numbers.proofs.FirstLaws.{first-at, found}
 use Rattle.scalars.specs.Scalar.{zerosIn, powerOf, powers, scaledBy, serves, smallest, numbersAt, groupNumbers}
-use Rattle.scalars.specs.Parts.{largest, Raised}
+use Rattle.scalars.specs.Parts.{largest, Raised, Fit32}
 use Rattle.scalars.proofs.Fit32.{largest-fits}
-use Rattle.scalars.specs.Parts.{Fit32}
 use Rattle.scalars.proofs.Quotients.{signed-times, quot-signed, holds-signed}
 
 one-of-two : (t : Bool) (x y m : ℕ) → x ≤ m → y ≤ m → pick t x y ≤ m

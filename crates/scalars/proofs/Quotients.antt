@@ -6,9 +6,8 @@ use native.Mathlib.Nat.{mul-div-cancel, mul-mod-left}
 use lib.Dec.{ltb}
 use lib.IntN.{ℤ, pos, natAbs, _*ℤ_}
 use Rattle.numbers.specs.Walk.{pick}
-use Rattle.value.specs.Value.{signMagnitude}
-use Rattle.value.specs.Writing.{isNegative, numberOf, holds}
-use Rattle.value.proofs.Magnitudes.{abs-signed, signed-back, signed-mul, signed-quot, in-bits}
+use Rattle.numbers.specs.SignMagnitude.{signMagnitude, isNegative, numberOf, holds}
+use Rattle.numbers.proofs.Magnitudes.{abs-signed, signed-back, signed-mul, signed-quot, in-bits}
 
 -- a number times p, by its sign and magnitude
 pub signed-times : (p : ℕ) (n : ℤ) → n *ℤ pos p ≡ signMagnitude (isNegative n) (natAbs n * p)

@@ -7,7 +7,7 @@ use lib.Dec.{ltb, eqb}
 use lib.IntN.{ℤ, pos, negsuc, negℤ, natAbs, _*ℤ_}
 use Rattle.numbers.specs.Walk.{pick}
 use Rattle.numbers.specs.First.{first}
-use Rattle.value.specs.Writing.{numberOf, holds}
+use Rattle.numbers.specs.SignMagnitude.{numberOf, holds}
 use Rattle.scalars.specs.declared.Scale.{Scale}
 
 -- ## Scalars and powers

@@ -10,11 +10,12 @@ use lib.Signed.{leZ, ltZ, mag}
 use Rattle.numbers.specs.TwosComplement.{signedOf, bitsOf}
 use Rattle.numbers.proofs.SignLaws.{sub-above, abs-zero, signed-bits, bits-lt}
 use Rattle.numbers.proofs.BoolLaws.{and-true, and-false, or-true}
-use Rattle.value.specs.Value.{denominatorPower, signMagnitude}
+use Rattle.formats.specs.Value.{denominatorPower}
+use Rattle.numbers.specs.SignMagnitude.{signMagnitude}
 use Rattle.value.specs.Pair.{highestExponent, mantissaBits, valueOf, isExponent, isCanonical}
 use Rattle.value.specs.Parts.{Apart}
 use Rattle.value.specs.declared.Pair.{Pair}
-use Rattle.value.proofs.Magnitudes.{signed-mul, signed-word}
+use Rattle.numbers.proofs.Magnitudes.{signed-mul, signed-word}
 
 -- the largest e + 280
 abbrev pub highest : ℕ

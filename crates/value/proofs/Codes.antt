@@ -8,7 +8,7 @@ use borrow.Author.Tests.{lt-leb, le-leb, leb-true}
 use lib.Dec.{leb}
 use Rattle.numbers.proofs.BoolLaws.{and-true}
 use Rattle.numbers.proofs.SignLaws.{below-or}
-use Rattle.value.specs.Value.{isCode}
+use Rattle.formats.specs.Codes.{isCode}
 
 -- a code that is none of the four
 pub no-code : (code : ℕ) → (code ≡ 1 → ⊥) → (code ≡ 2 → ⊥) → (code ≡ 3 → ⊥) → (code ≡ 4 → ⊥) → isCode code ≡ false

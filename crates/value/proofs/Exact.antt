@@ -8,9 +8,8 @@ use native.Mathlib.Omega.{arith}
 use borrow.Author.Tests.{eq-eqb, ne-eqb, lt-ltb, le-ltb}
 use lib.Pow.{pow-add, pow-pos, shl-shr}
 use Rattle.numbers.specs.Walk.{pick}
-use Rattle.value.specs.Value.{signMagnitude}
-use Rattle.value.specs.Writing.{isMultiple, numberOf, holds}
-use Rattle.value.proofs.Magnitudes.{abs-signed, signed-quot, in-bits}
+use Rattle.numbers.specs.SignMagnitude.{signMagnitude, isMultiple, numberOf, holds}
+use Rattle.numbers.proofs.Magnitudes.{abs-signed, signed-quot, in-bits}
 
 module _ (o k j : ℕ) where
   pub parted : j ≤ k → o * 2 ^ k ≡ o * 2 ^ (k - j) * 2 ^ j

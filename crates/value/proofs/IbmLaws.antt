@@ -9,11 +9,11 @@ use borrow.Author.Tests.{le-ltb}
 use lib.Pow.{pow-add, pow-pos, pow-mono, shl-lt}
 use lib.IntN.{natAbs}
 use Rattle.numbers.proofs.SignLaws.{below-or}
-use Rattle.value.specs.Value.{signMagnitude}
-use Rattle.value.specs.Writing.{ibmFits, ibmBits, ibmAt, ibmWord}
-use Rattle.value.specs.declared.Written.the-variants.{Word, Refused}
+use Rattle.numbers.specs.SignMagnitude.{signMagnitude}
+use Rattle.formats.specs.Words.{ibmFits, ibmBits, ibmAt, ibmWord}
+use Rattle.formats.specs.declared.Written.the-variants.{Word, Refused}
 use Rattle.value.proofs.Twos.{odd-shl}
-use Rattle.value.proofs.Magnitudes.{neg-signed, abs-signed}
+use Rattle.numbers.proofs.Magnitudes.{neg-signed, abs-signed}
 use Rattle.value.proofs.Pairs.{sixteens}
 use Rattle.numbers.proofs.FirstLaws.{none-passes}
 use Rattle.value.proofs.Exact.{parted, multiple, no-multiple, exact-div}

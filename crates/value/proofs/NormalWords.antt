@@ -15,10 +15,11 @@ use Rattle.numbers.specs.First.{first}
 use Rattle.numbers.proofs.BoolLaws.{and-true, or-true}
 use Rattle.numbers.proofs.FirstLaws.{found, first-le}
 use Rattle.numbers.proofs.SignLaws.{below-or, abs-zero}
-use Rattle.value.specs.Value.{signMagnitude, signBit, characteristic, fraction, ibmValue}
-use Rattle.value.specs.Writing.{isNegative, isMultiple, firstDigit, isNormal, ibmFits, ibmBits, ibmAt, ibmWord, Writes}
-use Rattle.value.specs.declared.Written.the-variants.{Word, Refused}
-use Rattle.value.proofs.Magnitudes.{abs-signed, neg-signed, signed-back}
+use Rattle.numbers.specs.SignMagnitude.{signMagnitude, isNegative, isMultiple}
+use Rattle.formats.specs.Value.{signBit, characteristic, fraction, ibmValue}
+use Rattle.formats.specs.Words.{firstDigit, isNormal, ibmFits, ibmBits, ibmAt, ibmWord, Writes}
+use Rattle.formats.specs.declared.Written.the-variants.{Word, Refused}
+use Rattle.numbers.proofs.Magnitudes.{abs-signed, neg-signed, signed-back}
 
 some : (c : ℕ) → 0 < 16 ^ c
 some c = one-le-pow c 16 (zero-lt-suc 15)

@@ -10,9 +10,10 @@ use lib.IntN.{ℤ, pos, negsuc, subℕ, _+ℤ_}
 use mir.Syntax.{Width}
 use mir.Val.{SFits, hbits}
 use Rattle.numbers.proofs.SignLaws.{below-or, sub-below, sub-above}
-use Rattle.value.specs.Value.{denominatorPower, signMagnitude}
+use Rattle.formats.specs.Value.{denominatorPower}
+use Rattle.numbers.specs.SignMagnitude.{signMagnitude}
 use Rattle.value.specs.Pair.{twos, oddPart, pairOf, valueOf}
-use Rattle.value.proofs.Magnitudes.{signed-mul}
+use Rattle.numbers.proofs.Magnitudes.{signed-mul}
 use Rattle.value.proofs.Twos.{twos-at, oddPart-at, below-shl, twos-split}
 
 -- a difference of naturals, and a magnitude with its sign, fit a signed width

@@ -5,12 +5,14 @@ use mathlib.Core.Logic.{_⊎_, inl, inr}
 use mathlib.Core.Bool.{Bool, true}
 use lib.IntN.{pos}
 use Rattle.numbers.specs.First.{first}
-use Rattle.value.specs.Value.{signMagnitude, isCode}
-use Rattle.value.specs.Writing.{isNormal, wordOf, writePair}
+use Rattle.numbers.specs.SignMagnitude.{signMagnitude}
+use Rattle.formats.specs.Codes.{isCode}
+use Rattle.formats.specs.Words.{isNormal, wordOf}
+use Rattle.value.specs.Writing.{writePair}
 use Rattle.value.specs.Parts.{PartsOf}
 use Rattle.value.specs.declared.Pair.{Pair}
 use Rattle.value.specs.declared.Parts.the-variants.{NotCanonical, Zero, Odd}
-use Rattle.value.specs.declared.Written.the-variants.{Word, Refused}
+use Rattle.formats.specs.declared.Written.the-variants.{Word, Refused}
 use Rattle.value.proofs.Codes.{code-is}
 
 -- zero is written as 00000000 under every code

@@ -10,11 +10,12 @@ use lib.Pow.{pow-mono}
 use Rattle.numbers.specs.Walk.{pick}
 use Rattle.numbers.specs.TwosComplement.{bitsOf}
 use Rattle.numbers.proofs.SignLaws.{below-or, double}
-use Rattle.value.specs.Value.{denominatorPower, signMagnitude}
-use Rattle.value.specs.Writing.{wholeWord, gainFits, gainAt, gainWord}
-use Rattle.value.specs.declared.Written.the-variants.{Word, Refused}
+use Rattle.formats.specs.Value.{denominatorPower}
+use Rattle.numbers.specs.SignMagnitude.{signMagnitude}
+use Rattle.formats.specs.Words.{wholeWord, gainFits, gainAt, gainWord}
+use Rattle.formats.specs.declared.Written.the-variants.{Word, Refused}
 use Rattle.numbers.proofs.FirstLaws.{first-at, none-passes}
-use Rattle.value.proofs.Magnitudes.{bits-signed-neg}
+use Rattle.numbers.proofs.Magnitudes.{bits-signed-neg}
 use Rattle.value.proofs.Exact.{holds-yes, holds-big, holds-odd, number-at}
 
 -- an odd number that is shifted up by 32 or more is beyond every limit of at most 2 ^ 32

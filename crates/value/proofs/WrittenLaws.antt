@@ -13,13 +13,16 @@ use Rattle.numbers.specs.First.{first}
 use Rattle.numbers.specs.TwosComplement.{signedOf, bitsOf}
 use Rattle.numbers.proofs.SignLaws.{below-or}
 use Rattle.numbers.proofs.FirstLaws.{found, first-le}
-use Rattle.value.specs.Value.{denominatorPower, wholeValue, gainValue, isCode}
+use Rattle.formats.specs.Value.{denominatorPower, wholeValue, gainValue}
+use Rattle.formats.specs.Codes.{isCode}
 use Rattle.value.specs.Pair.{valueOf, isCanonical}
-use Rattle.value.specs.Writing.{numberOf, holds, ibmFits, ibmAt, ibmWord, wholeWord, gainFits, gainAt, gainWord, wordOf, writePair, Writes}
+use Rattle.numbers.specs.SignMagnitude.{numberOf, holds}
+use Rattle.formats.specs.Words.{ibmFits, ibmAt, ibmWord, wholeWord, gainFits, gainAt, gainWord, wordOf, Writes}
+use Rattle.value.specs.Writing.{writePair}
 use Rattle.value.specs.declared.Pair.{Pair}
-use Rattle.value.specs.declared.Written.{Written}
-use Rattle.value.specs.declared.Written.the-variants.{Word, Refused}
-use Rattle.value.proofs.Held.{held-sound, held-complete, held-lt}
+use Rattle.formats.specs.declared.Written.{Written}
+use Rattle.formats.specs.declared.Written.the-variants.{Word, Refused}
+use Rattle.numbers.proofs.Multiples.{held-sound, held-complete, held-lt}
 
 -- ## A word, or 14
 

@@ -4,7 +4,8 @@ use mathlib.Core.Path.{_≡_}
 use mathlib.Core.Logic.{_⊎_}
 use mathlib.Core.Bool.{Bool, true, false}
 use lib.IntN.{pos}
-use Rattle.value.specs.Value.{denominatorPower, signMagnitude}
+use Rattle.formats.specs.Value.{denominatorPower}
+use Rattle.numbers.specs.SignMagnitude.{signMagnitude}
 use Rattle.value.specs.Pair.{highestExponent, valueOf, isCanonical}
 use Rattle.value.specs.declared.Pair.{Pair}
 use Rattle.value.specs.declared.Whole.{Whole}

@@ -8,11 +8,12 @@ use lib.Signed.{leZ, ltZ, quotZ}
 use Rattle.numbers.specs.Walk.{pick}
 use Rattle.numbers.specs.First.{first}
 use Rattle.numbers.specs.TwosComplement.{bitsOf}
-use Rattle.value.specs.Value.{denominatorPower, characteristic, fraction, ibmValue, isCode}
+use Rattle.formats.specs.Value.{denominatorPower, characteristic, fraction, ibmValue}
+use Rattle.formats.specs.Codes.{isCode}
 use Rattle.value.specs.Pair.{valueOf, isCanonical}
 use Rattle.value.specs.declared.Pair.{Pair}
-use Rattle.value.specs.declared.Written.{Written}
-use Rattle.value.specs.declared.Written.the-variants.{Word, Refused}
+use Rattle.formats.specs.declared.Written.{Written}
+use Rattle.formats.specs.declared.Written.the-variants.{Word, Refused}
 
 -- A value is below 0.
 abbrev pub isNegative : ℤ → Bool

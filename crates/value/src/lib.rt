@@ -6,9 +6,12 @@ ghost use lib.Dec.{leb, ltb};
 ghost use lib.IntN.{pos, natAbs, _+ℤ_};
 ghost use Rattle.numbers.specs.Walk.{pick};
 ghost use Rattle.numbers.specs.TwosComplement.{signedOf, bitsOf};
-ghost use Rattle.value.specs.Value.{denominatorPower, signMagnitude, isCode};
+ghost use Rattle.formats.specs.Value.{denominatorPower};
+ghost use Rattle.numbers.specs.SignMagnitude.{signMagnitude};
+ghost use Rattle.formats.specs.Codes.{isCode};
 ghost use Rattle.value.specs.Pair.{highestExponent, isExponent, isCanonical, pairOfBits, pairIn};
-ghost use Rattle.value.specs.Writing.{ibmWord, wholeWord, gainWord, wordOf, writePair, wordBits};
+ghost use Rattle.formats.specs.Words.{ibmWord, wholeWord, gainWord, wordOf, wordBits};
+ghost use Rattle.value.specs.Writing.{writePair};
 ghost use Rattle.value.specs.Parts.{PartsOf, WholeBelow};
 
 // A sample as exponent and mantissa: the value m × 2^e.

@@ -9,7 +9,8 @@ use Rattle.numbers.specs.Places.{bytePlace}
 use Rattle.numbers.specs.BigEndian.{bytesOf}
 use Rattle.numbers.proofs.WalkLaws.{flat-length, size-bytes}
 use Rattle.numbers.proofs.Filling.{size-over}
-use Rattle.reel.specs.Layout.{firstTrace, sampleBytes, stride}
+use Rattle.reel.specs.Layout.{firstTrace, stride}
+use Rattle.formats.specs.Codes.{sampleBytes}
 use Rattle.write_samples.proofs.WordLaws.{size-samples}
 use Rattle.record.specs.Form.{heldStride}
 use Rattle.write_reel.specs.Copied.{zerosFor, reelHeaderCopied, reelTraceCopied, partsCopied, reelCopied}

@@ -13,7 +13,7 @@ use Rattle.numbers.specs.Cause.{firstOf}
 use Rattle.numbers.specs.declared.Check.the-variants.{Fine}
 use Rattle.numbers.proofs.CauseLaws.{passed, then-fine}
 use Rattle.numbers.proofs.WalkLaws.{size-bytes}
-use Rattle.value.specs.Value.{isCode}
+use Rattle.formats.specs.Codes.{isCode}
 use Rattle.value.specs.Pair.{isCanonical, pairLength, pairIn}
 use Rattle.reel.specs.Layout.{cardBytes, traceHeader}
 use Rattle.headers.specs.Header.{headerSize}

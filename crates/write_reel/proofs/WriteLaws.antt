@@ -13,8 +13,8 @@ use Rattle.numbers.specs.Outcome.{taken, Outcome}
 use Rattle.numbers.specs.declared.Place.{Place}
 use Rattle.numbers.specs.declared.Check.the-variants as check
 use Rattle.numbers.proofs.CauseLaws.{passed, then-assoc, then-fine}
-use Rattle.value.specs.Value.{isCode}
-use Rattle.reel.specs.Layout.{firstTrace, stride, sampleBytes}
+use Rattle.formats.specs.Codes.{isCode, sampleBytes}
+use Rattle.reel.specs.Layout.{firstTrace, stride}
 use Rattle.reel.specs.Causes.{mostSamples, mostTraces}
 use Rattle.reel.proofs.CheckLaws.{stride-high}
 use Rattle.record.specs.Form.{heldSamples, heldInterval, heldStride, heldCount, tracesPlace, cardsCauses, binaryCauses, bodyCauses, formCauses}

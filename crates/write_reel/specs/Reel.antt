@@ -4,8 +4,9 @@ use mathlib.Core.List.{List, _++_, map}
 use lib.ListN.{replicate}
 use lib.IntN.{ℤ}
 use Rattle.numbers.specs.Walk.{flat}
-use Rattle.value.specs.Writing.{wordOf}
-use Rattle.reel.specs.Layout.{cardBytes, firstTrace, traceHeader, stride, sampleBytes}
+use Rattle.formats.specs.Words.{wordOf}
+use Rattle.reel.specs.Layout.{cardBytes, firstTrace, traceHeader, stride}
+use Rattle.formats.specs.Codes.{sampleBytes}
 use Rattle.reel.specs.Meaning.{Trace, Meaning}
 use Rattle.write_samples.specs.Samples.{wordBytes}
 use Rattle.headers.specs.Header.{headerBytes, headerSize}

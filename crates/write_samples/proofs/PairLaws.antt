@@ -12,7 +12,7 @@ use Rattle.numbers.proofs.CauseLaws.{first-none, first-more, first-stop, then-l
 use Rattle.numbers.proofs.WalkLaws.{walk-more}
 use Rattle.value.specs.Writing.{writePair}
 use Rattle.value.specs.Pair.{pairOfBits}
-use Rattle.value.specs.declared.Written.{Written}
+use Rattle.formats.specs.declared.Written.{Written}
 use Rattle.value.proofs.PairBytes.{pair-fetched}
 use Rattle.write_samples.specs.Samples.{pairRefused, pairCheck}
 

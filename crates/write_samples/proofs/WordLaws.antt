@@ -11,14 +11,14 @@ use Rattle.numbers.specs.BigEndian.{number, bytesOf}
 use Rattle.numbers.specs.Cause.{firstOf}
 use Rattle.numbers.proofs.WalkLaws.{flat-length, flat-none, copied}
 use Rattle.numbers.proofs.BoolLaws.{and-true}
-use Rattle.value.specs.Value.{isCode}
-use Rattle.value.specs.Writing.{writePair, wordBits}
+use Rattle.formats.specs.Codes.{isCode, sampleBytes}
+use Rattle.value.specs.Writing.{writePair}
+use Rattle.formats.specs.Words.{wordBits}
 use Rattle.value.specs.Pair.{pairLength, pairOfBits}
 use Rattle.value.specs.declared.Pair.{Pair}
-use Rattle.value.specs.declared.Written.{Written}
-use Rattle.value.specs.declared.Written.the-variants.{Word, Refused}
+use Rattle.formats.specs.declared.Written.{Written}
+use Rattle.formats.specs.declared.Written.the-variants.{Word, Refused}
 use Rattle.value.proofs.PairBytes.{pair-fetched}
-use Rattle.reel.specs.Layout.{sampleBytes}
 use Rattle.write_samples.specs.Samples.{wordContent, wordBytes, writtenAt, pairCheck, pairsThere, samplesChecked, sampleWords, samplesWritten}
 
 pub size-word : (code : ℕ) (w : Written) → length (wordBytes code w) ≡ sampleBytes code

@@ -9,12 +9,12 @@ use Rattle.numbers.specs.BigEndian.{bytesOf}
 use Rattle.numbers.specs.Cause.{refuseIf, then, firstOf}
 use Rattle.numbers.specs.declared.Check.{Check}
 use Rattle.numbers.specs.declared.Check.the-variants.{Fine, Refused}
-use Rattle.value.specs.Value.{isCode}
-use Rattle.value.specs.Writing.{writePair, wordBits}
+use Rattle.formats.specs.Codes.{isCode, sampleBytes}
+use Rattle.value.specs.Writing.{writePair}
+use Rattle.formats.specs.Words.{wordBits}
 use Rattle.value.specs.Pair.{pairLength, pairIn}
-use Rattle.value.specs.declared.Written.{Written}
-use Rattle.value.specs.declared.Written.the-variants as written
-use Rattle.reel.specs.Layout.{sampleBytes}
+use Rattle.formats.specs.declared.Written.{Written}
+use Rattle.formats.specs.declared.Written.the-variants as written
 
 -- What writing the pair at a place gives.
 abbrev pub writtenAt : List ℕ → ℕ → ℕ → Written

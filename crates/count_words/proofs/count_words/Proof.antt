@@ -1,7 +1,7 @@
 -- `count_words::count_words` meets its contract. Assumes nothing.
 use Rattle.count_words.proofs.CountLaws.{exact-is, none-is, fit-counted, too-many, not-there, other-code}
 use Rattle.count_words.specs.Counted.{wordsCounted}
-use Rattle.reel.specs.Layout.{sampleBytes}
+use Rattle.formats.specs.Codes.{sampleBytes}
 use Rattle.reel.specs.Causes.{mostSamples}
 use Rattle.reel.specs.NotNormal.{notNormalIn}
 use lib.ListN.{length}

@@ -5,7 +5,7 @@ use Rattle.fit.specs.Target.{targetCauses}
 use Rattle.fit.specs.Parts.{fitFrom}
 use Rattle.record.specs.Parts.{formFrom}
 use Rattle.reel.specs.Causes.{mostTraces}
-use Rattle.value.specs.Value.{isCode}
+use Rattle.formats.specs.Codes.{isCode}
 use Rattle.numbers.proofs.CauseLaws.{then-stop, passed}
 use Rattle.numbers.specs.Cause.{then}
 use Rattle.numbers.specs.Places.{placeNo, fieldPlace}

@@ -8,7 +8,8 @@ use Rattle.headers.proofs.CopiedLaws.{header-read}
 use Rattle.reel.specs.Meaning.{traceNumber, headerOf}
 use Rattle.read_samples.specs.Samples.{samplePairs}
 use Rattle.read_reel.specs.Copied.{tagBytes, recordTraceCopied}
-use Rattle.reel.specs.Layout.{traceHeader, sampleBytes}
+use Rattle.reel.specs.Layout.{traceHeader}
+use Rattle.formats.specs.Codes.{sampleBytes}
 use Rattle.numbers.proofs.Filling.{start, lend, close}
 use lib.ListN.{length}
 use Prim.Native.Nat.{_+_, _*_, _≤_}

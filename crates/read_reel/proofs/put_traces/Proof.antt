@@ -2,7 +2,8 @@
 use Rattle.read_reel.proofs.CopiedLaws.{size-trace, size-traces}
 use Rattle.read_samples.specs.Samples.{places}
 use Rattle.read_reel.specs.Copied.{recordTraceCopied}
-use Rattle.reel.specs.Layout.{firstTrace, traceHeader, sampleBytes, stride}
+use Rattle.reel.specs.Layout.{firstTrace, traceHeader, stride}
+use Rattle.formats.specs.Codes.{sampleBytes}
 use Rattle.reel.specs.NotNormal.{notNormalIn, notNormalAmong}
 use Rattle.reel.proofs.NotNormalLaws.{among-none, among-more, among-room}
 use Rattle.numbers.proofs.Filling.{Filling, start as begin, finish, part-put}

@@ -1,6 +1,5 @@
 -- `read_samples::do_fit` meets its contract. Assumes nothing.
-use Rattle.value.specs.Value.{isCode}
-use Rattle.reel.specs.Layout.{sampleBytes}
+use Rattle.formats.specs.Codes.{isCode, sampleBytes}
 use borrow.Author.Tests.{not-true, not-false}
 use lib.Dec.{leb}
 use Prim.Native.Nat.{ℕ, _+_, _*_}

@@ -2,7 +2,7 @@
 use Prim.Native.Nat.{ℕ}
 use mathlib.Core.Path.{ap, _∙_}
 use Rattle.numbers.specs.TwosComplement.{signedOf}
-use Rattle.value.specs.Value.{gainValue}
+use Rattle.formats.specs.Value.{gainValue}
 use Rattle.sample.specs.Reading.{pairTaken}
 use Rattle.read_samples.proofs.SampleLaws.{gain-either}
 use Rattle.read_samples.proofs.gain_or_zero.Statement.{statement}

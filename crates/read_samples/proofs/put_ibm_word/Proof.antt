@@ -3,7 +3,7 @@ use native.Mathlib.Omega.{arith}
 use borrow.Author.Needs.{needs}
 use Rattle.read_samples.proofs.SampleLaws.{parts-put, reversed-parts}
 use Rattle.read_samples.specs.Samples.{sampleContent}
-use Rattle.value.specs.Value.{ibmValue}
+use Rattle.formats.specs.Value.{ibmValue}
 use Rattle.sample.specs.Reading.{pairTaken}
 use Prim.Native.Nat.{ℕ}
 use mathlib.Core.Path.{ap, _∙_}

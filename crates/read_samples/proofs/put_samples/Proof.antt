@@ -1,7 +1,7 @@
 -- `read_samples::put_samples` meets its contract. Assumes nothing.
 use Rattle.reel.proofs.CheckLaws.{code-limits}
 use Rattle.read_samples.specs.Samples.{samplePairs}
-use Rattle.reel.specs.Layout.{sampleBytes}
+use Rattle.formats.specs.Codes.{sampleBytes}
 use borrow.Author.Tests.{ne-eqb}
 use lib.ListN.{length}
 use Prim.Native.Nat.{ℕ, _+_, _*_, _≤_}

@@ -1,7 +1,7 @@
 -- `read_samples::put_whole16` meets its contract. Assumes nothing.
 use Rattle.read_samples.proofs.SampleLaws.{size-copied, size-samples, samples-none, whole16-copied}
 use Rattle.read_samples.specs.Samples.{sampleContent, sampleCopied, samplePairs}
-use Rattle.value.specs.Value.{wholeValue}
+use Rattle.formats.specs.Value.{wholeValue}
 use Rattle.sample.specs.Reading.{pairTaken}
 use Rattle.numbers.proofs.Filling.{Filling, start as begin, finish, again, from, next-put, last-put}
 use Rattle.numbers.proofs.WalkLaws.{times-more}

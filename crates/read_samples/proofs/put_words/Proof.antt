@@ -4,7 +4,7 @@ use Rattle.read_samples.specs.Samples.{sampleContent, sampleCopied, samp
 use Rattle.read_samples.specs.Parts.{wordHeld, WordAt}
 use Rattle.numbers.proofs.Filling.{Filling, start as begin, finish, again, from, next-put, last-put}
 use Rattle.numbers.proofs.WalkLaws.{times-more}
-use Rattle.reel.specs.Layout.{sampleBytes}
+use Rattle.formats.specs.Codes.{sampleBytes}
 use lib.ListN.{length}
 use Prim.Native.Nat.{ℕ, _+_, _-_, _*_, _≤_}
 use mathlib.Core.Path.{_≡_, refl, sym, ap, _∙_}

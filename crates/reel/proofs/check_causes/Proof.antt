@@ -1,6 +1,7 @@
 -- `reel::check_causes` meets its contract. Assumes nothing.
 use Rattle.reel.specs.Causes.{limitCauses, behindCauses, causesOf}
-use Rattle.reel.specs.Layout.{firstTrace, codeOf, samplesOf, sampleBytes, stride}
+use Rattle.reel.specs.Layout.{firstTrace, codeOf, samplesOf, stride}
+use Rattle.formats.specs.Codes.{sampleBytes}
 use Rattle.numbers.specs.declared.Check.{Check}
 use Rattle.numbers.proofs.CauseLaws.{then-next}
 use Rattle.numbers.specs.Cause.{refuseIf, then}

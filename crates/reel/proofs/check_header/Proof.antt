@@ -1,6 +1,6 @@
 -- `reel::check_header` meets its contract. Assumes nothing.
 use Rattle.reel.specs.Causes.{mostSamples, within}
-use Rattle.value.specs.Value.{isCode}
+use Rattle.formats.specs.Codes.{isCode}
 use Rattle.numbers.proofs.CauseLaws.{then-stop, then-next, then-last}
 use Rattle.numbers.specs.Cause.{refuseIf}
 use Rattle.numbers.specs.Places.{placeNo}

@@ -1,7 +1,8 @@
 -- `reel::check_trace` meets its contract. Assumes nothing.
 use Rattle.reel.proofs.CheckLaws.{trace-parts, no-gain}
 use Rattle.reel.specs.Causes.{wordCause}
-use Rattle.reel.specs.Layout.{traceHeader, sampleBytes}
+use Rattle.reel.specs.Layout.{traceHeader}
+use Rattle.formats.specs.Codes.{sampleBytes}
 use Rattle.reel.specs.Parts.{traceHeaderCauses}
 use Rattle.numbers.proofs.CauseLaws.{then-stop, then-next}
 use Rattle.numbers.specs.declared.Check.the-variants.{Fine}

@@ -1,5 +1,5 @@
 -- `sample::gain_number` meets its contract. Assumes nothing.
-use Rattle.value.proofs.Magnitudes.{signed-mul, signed-word}
+use Rattle.numbers.proofs.Magnitudes.{signed-mul, signed-word}
 use lib.Dec.{leb}
 use Prim.Native.Nat.{_^_}
 use borrow.Author.Needs.{needs}

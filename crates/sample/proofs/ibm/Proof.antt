@@ -1,5 +1,5 @@
 -- `sample::ibm` meets its contract. Assumes nothing.
-use Rattle.value.specs.Value.{ibmValue}
+use Rattle.formats.specs.Value.{ibmValue}
 use Rattle.sample.specs.Reading.{pairTaken}
 use Prim.Native.Nat.{ℕ, _^_}
 use native.Mathlib.Nat.{div-add-mod'}

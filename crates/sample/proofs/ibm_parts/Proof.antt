@@ -1,6 +1,7 @@
 -- `sample::ibm_parts` meets its contract. Assumes nothing.
 use Rattle.numbers.proofs.SignLaws.{below-or}
-use Rattle.value.specs.Value.{signMagnitude, signBit, characteristic, fraction, ibmValue}
+use Rattle.numbers.specs.SignMagnitude.{signMagnitude}
+use Rattle.formats.specs.Value.{signBit, characteristic, fraction, ibmValue}
 use Rattle.value.proofs.Pairs.{sixteens}
 use Rattle.sample.specs.Reading.{pairTaken}
 use Prim.Native.Nat.{ℕ, _+_, _*_, _%_, _^_, _≤_, _<_}

@@ -1,7 +1,7 @@
 -- `sample::is_normal` meets its contract. Assumes nothing.
 use Rattle.value.proofs.NormalWords.{large, normal-tests}
-use Rattle.value.specs.Value.{fraction}
-use Rattle.value.specs.Writing.{firstDigit}
+use Rattle.formats.specs.Value.{fraction}
+use Rattle.formats.specs.Words.{firstDigit}
 use mathlib.Core.Path.{_≡_, sym, _∙_}
 use native.Mathlib.Omega.{arith}
 use borrow.Author.Tests.{eq-eqb, ne-eqb}

@@ -1,5 +1,5 @@
 -- `sample::magnitude16` meets its contract. Assumes nothing.
-use Rattle.value.proofs.Magnitudes.{abs-high, abs-low}
+use Rattle.numbers.proofs.Magnitudes.{abs-high, abs-low}
 use native.Mathlib.Omega.{arith}
 use borrow.Author.Needs.{needs}
 use Rattle.sample.proofs.magnitude16.Statement.{statement}

@@ -1,5 +1,5 @@
 -- `sample::with_sign` meets its contract. Assumes nothing.
-use Rattle.value.proofs.Magnitudes.{sfits-signed}
+use Rattle.numbers.proofs.Magnitudes.{sfits-signed}
 use mir.Facts.{toZ-pos, toZ-ofZ}
 use lib.IntN.{pos, negℤ, +ℤ-idl}
 use mathlib.Core.Bool.{true}

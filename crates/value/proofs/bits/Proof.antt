@@ -2,7 +2,7 @@
 use Rattle.value.proofs.PartsLaws.{not-canonical, zero-pair, odd-pair}
 use Rattle.value.specs.declared.Parts.the-variants.{Odd}
 use Rattle.value.specs.Parts.{PartsOf}
-use Rattle.value.specs.Writing.{wordBits}
+use Rattle.formats.specs.Words.{wordBits}
 use mathlib.Core.Path.{sym, ap, subst, _∙_}
 use borrow.Author.Needs.{needs}
 use Rattle.value.proofs.bits.Statement.{statement}

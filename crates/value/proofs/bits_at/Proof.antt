@@ -1,6 +1,6 @@
 -- `value::bits_at` meets its contract. Assumes nothing.
 use Rattle.value.proofs.Codes.{fourth}
-use Rattle.value.specs.Writing.{wordBits}
+use Rattle.formats.specs.Words.{wordBits}
 use mathlib.Core.Path.{ap, _∙_}
 use borrow.Author.Needs.{needs}
 use Rattle.value.proofs.bits_at.Statement.{statement}

@@ -1,6 +1,6 @@
 -- `value::complement` meets its contract. Assumes nothing.
 use Rattle.value.proofs.WholeLaws.{half-le, magnitude-le, bits-of}
-use Rattle.value.specs.Value.{signMagnitude}
+use Rattle.numbers.specs.SignMagnitude.{signMagnitude}
 use Rattle.numbers.specs.TwosComplement.{bitsOf}
 use Rattle.numbers.specs.Walk.{pick}
 use Rattle.numbers.proofs.SignLaws.{double}

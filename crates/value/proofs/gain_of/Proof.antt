@@ -3,7 +3,7 @@ use Rattle.value.proofs.WholeLaws.{gain-low, gain-beyond, gain-word}
 use Rattle.value.proofs.Twos.{odd-shl}
 use Rattle.value.specs.declared.Whole.the-variants.{Below}
 use Rattle.value.specs.Parts.{WholeBelow}
-use Rattle.value.specs.Value.{denominatorPower}
+use Rattle.formats.specs.Value.{denominatorPower}
 use Rattle.numbers.specs.Walk.{pick}
 use Prim.Native.Nat.{ℕ, _+_, _-_, _^_, min}
 use mathlib.Core.Path.{_≡_, sym, ap, subst}

@@ -1,5 +1,5 @@
 -- `value::magnitude32` meets its contract. Assumes nothing.
-use Rattle.value.proofs.Magnitudes.{abs-high, abs-low}
+use Rattle.numbers.proofs.Magnitudes.{abs-high, abs-low}
 use native.Mathlib.Omega.{arith}
 use borrow.Author.Needs.{needs}
 use Rattle.value.proofs.magnitude32.Statement.{statement}

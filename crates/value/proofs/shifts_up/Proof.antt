@@ -1,5 +1,5 @@
 -- `value::shifts_up` meets its contract. Assumes nothing.
-use Rattle.value.specs.Value.{denominatorPower}
+use Rattle.formats.specs.Value.{denominatorPower}
 use borrow.Author.Tests.{lt-leb, le-leb}
 use borrow.Author.Needs.{needs}
 use Rattle.value.proofs.shifts_up.Statement.{statement}

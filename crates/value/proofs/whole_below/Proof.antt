@@ -1,6 +1,6 @@
 -- `value::whole_below` meets its contract. Assumes nothing.
 use Rattle.value.proofs.WholeLaws.{far-up}
-use Rattle.value.specs.Value.{denominatorPower}
+use Rattle.formats.specs.Value.{denominatorPower}
 use Rattle.numbers.proofs.BoolLaws.{and-true}
 use Rattle.numbers.proofs.SignLaws.{below-or}
 use lib.Dec.{leb, ltb}

@@ -3,7 +3,8 @@ use Rattle.write_reel.proofs.CopiedLaws.{size-bytes-header, size-traces
 use Rattle.write_reel.specs.Reel.{binaryHeader}
 use Rattle.write_reel.specs.Copied.{reelHeaderCopied, reelTraceCopied, partsCopied, reelCopied}
 use Rattle.record.specs.Form.{fieldHead, binarySize, binaryPlace, binaryStart, heldStride, tracesPlace}
-use Rattle.reel.specs.Layout.{cardBytes, firstTrace, stride, sampleBytes}
+use Rattle.reel.specs.Layout.{cardBytes, firstTrace, stride}
+use Rattle.formats.specs.Codes.{sampleBytes}
 use Rattle.numbers.proofs.Filling.{start, lend, close}
 use Rattle.numbers.proofs.WalkLaws.{bytes-between, copied, size-bytes}
 use Rattle.numbers.specs.BigEndian.{bytesOf}

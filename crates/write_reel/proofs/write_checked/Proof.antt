@@ -3,7 +3,8 @@ use Rattle.fit.specs.Target.{targetCauses}
 use Rattle.record.proofs.JudgedLaws.{Own, own}
 use Rattle.write_reel.proofs.WriteLaws.{Fit, fit, short-end, taken-end}
 use Rattle.numbers.proofs.ByteLaws.{all-bytes}
-use Rattle.reel.specs.Layout.{firstTrace, stride, sampleBytes}
+use Rattle.reel.specs.Layout.{firstTrace, stride}
+use Rattle.formats.specs.Codes.{sampleBytes}
 use lib.Seq.{length-take-le}
 use Prim.Native.Nat.{ℕ, _+_, _*_, _≤_}
 use mathlib.Core.Path.{_≡_, sym, ap, subst}

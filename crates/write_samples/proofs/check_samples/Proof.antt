@@ -1,7 +1,7 @@
 -- `write_samples::check_samples` meets its contract. Assumes nothing.
 use Rattle.write_samples.specs.Samples.{samplesChecked}
 use Rattle.write_samples.proofs.WordLaws.{samples-checked}
-use Rattle.value.specs.Value.{isCode}
+use Rattle.formats.specs.Codes.{isCode}
 use borrow.Author.Tests.{not-true, not-false, leb-true}
 use lib.ListN.{length}
 use mathlib.Core.Bool.{true}

@@ -1,6 +1,6 @@
 -- `write_samples::put_samples` meets its contract. Assumes nothing.
 use Rattle.write_samples.specs.Samples.{sampleWords}
-use Rattle.reel.specs.Layout.{sampleBytes}
+use Rattle.formats.specs.Codes.{sampleBytes}
 use borrow.Author.Tests.{ne-eqb}
 use Prim.Native.Nat.{ℕ, _*_}
 use mathlib.Core.Path.{_≡_, sym, ap, _∙_}

@@ -5,7 +5,7 @@ use Rattle.numbers.proofs.Filling.{Filling, start as begin, finish, again, next
 use Rattle.numbers.proofs.WalkLaws.{times-more}
 use Rattle.numbers.specs.Walk.{bytesAt}
 use Rattle.numbers.specs.BigEndian.{number}
-use Rattle.reel.specs.Layout.{sampleBytes}
+use Rattle.formats.specs.Codes.{sampleBytes}
 use lib.ListN.{length}
 use Prim.Native.Nat.{ℕ, _+_, _-_, _*_, _≤_}
 use mathlib.Core.Path.{_≡_, sym, ap, _∙_}

@@ -1,7 +1,7 @@
 -- `write_samples::write_samples` meets its contract. Assumes nothing.
 use Rattle.write_samples.specs.Samples.{pairsThere}
 use Rattle.write_samples.proofs.WordLaws.{they-are-there, missing-kept, unfit-kept, fit-written}
-use Rattle.reel.specs.Layout.{sampleBytes}
+use Rattle.formats.specs.Codes.{sampleBytes}
 use borrow.Author.Tests.{not-true, not-false, eqb-true}
 use lib.Dec.{eqb}
 use lib.ListN.{length}

@@ -12,11 +12,10 @@ use lib.IntN.{ℤ, pos, negsuc, negℤ, natAbs, _*ℤ_}
 use lib.Signed.{leZ, ltZ}
 use mir.Syntax.{Width}
 use mir.Val.{SFits, hbits}
 use Rattle.numbers.specs.Walk.{pick}
 use Rattle.numbers.specs.TwosComplement.{signedOf, bitsOf}
 use Rattle.numbers.proofs.SignLaws.{below-or, sub-below}
-use Rattle.value.specs.Value.{signMagnitude}
-use Rattle.value.specs.Writing.{isNegative, numberOf, inBits}
+use Rattle.numbers.specs.SignMagnitude.{signMagnitude, isNegative, numberOf, inBits}
 
 pub neg-signed : (s : Bool) (a : ℕ) → 0 < a → isNegative (signMagnitude s a) ≡ s
 neg-signed false a p = refl
@@ -34,6 +33,11 @@ abs-signed true (suc a) = refl
 pub signed-back : (v : ℤ) → signMagnitude (isNegative v) (natAbs v) ≡ v
 signed-back (pos n) = refl
 signed-back (negsuc n) = refl
+
+-- zero has no sign
+pub signed-zero : (s : Bool) → signMagnitude s 0 ≡ pos 0
+signed-zero false = refl
+signed-zero true = refl
 
 -- a signed magnitude times a natural, and divided by one
 pub signed-mul : (s : Bool) (a b : ℕ) → signMagnitude s a *ℤ pos b ≡ signMagnitude s (a * b)

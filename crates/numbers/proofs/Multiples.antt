@@ -1,4 +1,4 @@
--- Quotients: values that are a whole number of p's, and those that are a number of w bits times p, the one fact behind codes 2, 3 and 4. Assumes nothing.
+-- Quotients: values that are a whole number of p's, and those that are a number of w bits times p. Assumes nothing.
 use mathlib.Core.Path.{_≡_, sym, ap, _∙_}
 use mathlib.Core.Bool.{true, _&&_}
 use Prim.Native.Nat.{ℕ, suc, _+_, _-_, _*_, _/_, _%_, _^_, _<_}
@@ -9,12 +9,11 @@ use lib.Dec.{leb}
 use lib.Pow.{suc-ones}
 use lib.IntN.{ℤ, pos, negsuc, natAbs, _*ℤ_}
 use lib.Signed.{mag, leZ, ltZ}
 use Rattle.numbers.specs.TwosComplement.{signedOf, bitsOf}
 use Rattle.numbers.proofs.BoolLaws.{and-true}
 use Rattle.numbers.proofs.SignLaws.{signed-bits, bits-signed, bits-lt, mag-signed}
-use Rattle.value.specs.Value.{signMagnitude}
-use Rattle.value.specs.Writing.{isNegative, isMultiple, numberOf, inBits, holds}
-use Rattle.value.proofs.Magnitudes.{abs-signed, signed-back, signed-mul, signed-quot}
+use Rattle.numbers.specs.SignMagnitude.{signMagnitude, isNegative, isMultiple, numberOf, inBits, holds}
+use Rattle.numbers.proofs.Magnitudes.{abs-signed, signed-back, signed-mul, signed-quot}
 
 -- a multiple of p is its quotient times p
 pub quot-mul : (p : ℕ) (v : ℤ) → isMultiple p v ≡ true → numberOf p v *ℤ pos p ≡ v

@@ -1,0 +1,54 @@
+-- The six codes and their formats. Assumes nothing.
+use mathlib.Core.Path.{_≡_, refl, sym, ap, _∙_, subst}
+use mathlib.Core.Bool.{Bool, true, false, _||_}
+use Prim.Native.Nat.{ℕ, _-_, _*_, _+_, _^_, _≤_, _<_}
+use native.Mathlib.Omega.{arith}
+use borrow.Author.Tests.{eqb-true, ne-eqb}
+use lib.Dec.{T, eqb}
+use Rattle.numbers.specs.Walk.{pick}
+use Rattle.formats.specs.Codes.{isCode, ibmFormat, ieeeFormat, noFormat, formatOf}
+use Rattle.formats.specs.Steps.{Sound, Float}
+
+-- the six codes
+pub data Code : ℕ → Type 0 where
+  ibm : Code 1
+  whole32 : Code 2
+  whole16 : Code 3
+  gain : Code 4
+  ieee : Code 5
+  whole8 : Code 8
+
+pub code-is : (code : ℕ) → isCode code ≡ true → Code code
+code-is code h =
+    or 1 ibm _ (or 2 whole32 _ (or 3 whole16 _ (or 4 gain _ (or 5 ieee _ (or 8 whole8 false (λ q. absurd (subst T (sym q) tt))))))) h
+  where
+    or : (k : ℕ) → Code k → (r : Bool) → (r ≡ true → Code code) → (eqb code k || r) ≡ true → Code code
+    or k c r f = go (eqb code k) refl
+      where
+        go : (b : Bool) → eqb code k ≡ b → (b || r) ≡ true → Code code
+        go true e q = subst Code (sym (eqb-true code k e)) c
+        go false e q = f q
+
+-- their formats are held by 32 bits
+pub code-sound : (code : ℕ) → isCode code ≡ true → Sound (formatOf code)
+code-sound code h = go code (code-is code h)
+  where
+    go : (code : ℕ) → Code code → Sound (formatOf code)
+    go code ibm = record { steps = omega arith; few = omega arith; some = omega arith; near = omega arith }
+    go code whole32 = record { steps = omega arith; few = omega arith; some = omega arith; near = omega arith }
+    go code whole16 = record { steps = omega arith; few = omega arith; some = omega arith; near = omega arith }
+    go code gain = record { steps = omega arith; few = omega arith; some = omega arith; near = omega arith }
+    go code ieee = record { steps = omega arith; few = omega arith; some = omega arith; near = omega arith }
+    go code whole8 = record { steps = omega arith; few = omega arith; some = omega arith; near = omega arith }
+
+-- a number that is none of the six
+module _ (code : ℕ) (a : code ≡ 1 → ⊥) (b : code ≡ 2 → ⊥) (c : code ≡ 3 → ⊥) (d : code ≡ 4 → ⊥) (e : code ≡ 5 → ⊥) (f : code ≡ 8 → ⊥) where
+  pub no-code : isCode code ≡ false
+  no-code = rw (ne-eqb code 1 a, ne-eqb code 2 b, ne-eqb code 3 c, ne-eqb code 4 d, ne-eqb code 5 e, ne-eqb code 8 f)
+
+-- the two formats of sign and magnitude
+pub ibm-float : Float ibmFormat 32 24
+ibm-float = record { sound = code-sound 1 refl; even = refl; some = omega arith; short = omega arith; low = omega arith; room = omega arith }
+
+pub single-float : Float (ieeeFormat 8 23) 32 23
+single-float = record { sound = code-sound 5 refl; even = refl; some = omega arith; short = omega arith; low = omega arith; room = omega arith }

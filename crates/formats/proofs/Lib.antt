@@ -1,0 +1,7 @@
+-- The laws of formats: which characteristics serve a value, its place, its words, and the six codes.
+pub mod Powers
+pub mod FitLaws
+pub mod PlacedLaws
+pub mod CodeLaws
+pub mod WordLaws
+pub mod GainLaws
