@@ -48,8 +48,8 @@ use Rattle.numbers.specs.Iff.{Iff}
 use Rattle.numbers.proofs.WalkLaws.{cons-eq, size-bytes}
 use Rattle.numbers.proofs.ByteLaws.{bytes-at}
 use Rattle.numbers.proofs.CauseLaws.{passed, first-all}
-use Rattle.formats.specs.Value.{denominatorPower, exactValue}
-use Rattle.formats.specs.Codes.{isCode, sampleBytes}
+use Rattle.formats.specs.Codes.{denominatorPower, isCode, sampleBytes}
+use Rattle.formats.specs.Value.{exactValue}
 use Rattle.reel.specs.Layout.{firstTrace, traceHeader, intervalOf, samplesOf, codeOf, strideOf, tracesOf}
 use Rattle.reel.specs.Causes.{wordCause, traceCauses, causesOf}
 use Rattle.reel.specs.Meaning.{Trace, traceMeaning, Meaning, meaningOf, MeanTheSame, blank, filled}

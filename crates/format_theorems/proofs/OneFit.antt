@@ -17,9 +17,8 @@ use Rattle.numbers.specs.Walk.{pick}
 use Rattle.numbers.specs.TwosComplement.{signedOf, bitsOf}
 use Rattle.numbers.proofs.SignLaws.{below-or, sub-below, signed-bits, bits-lt}
 use Rattle.formats.specs.Format.{signMagnitude, isNegative, unit, limit, inFormat}
-use Rattle.formats.specs.Codes.{ibmFormat, wholeFormat, gainFormat, ieeeFormat, formatOf}
-use Rattle.formats.specs.Value.{Ieee, isFinite, ieeeValue}
-use Rattle.formats.specs.Value.{ibmValue, wholeValue, gainValue, valueIn, isWord, isCode}
+use Rattle.formats.specs.Codes.{ibmFormat, wholeFormat, gainFormat, ieeeFormat, formatOf, isCode}
+use Rattle.formats.specs.Value.{Ieee, isFinite, ieeeValue, ibmValue, wholeValue, gainValue, valueIn, isWord}
 use Rattle.formats.specs.Words.{floatBits}
 use Rattle.formats.proofs.PlacedLaws.{Value, and-true, in-format-value, value-in-format}
 use Rattle.formats.proofs.CodeLaws.{Code, ibm, whole32, whole16, gain, ieee, whole8, code-is}

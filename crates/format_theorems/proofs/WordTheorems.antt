@@ -16,9 +16,8 @@ use Rattle.numbers.specs.Walk.{pick}
 use Rattle.numbers.specs.TwosComplement.{signedOf, bitsOf}
 use Rattle.numbers.proofs.SignLaws.{below-or}
 use Rattle.formats.specs.Format.{signMagnitude, isNegative, first, unit, limit, fitsAt, leastServing, inFormat, placed}
-use Rattle.formats.specs.Codes.{ibmFormat, wholeFormat, gainFormat, ieeeFormat, formatOf}
-use Rattle.formats.specs.Value.{isFinite, ieeeValue}
-use Rattle.formats.specs.Value.{ibmValue, wholeValue, gainValue, valueIn, isWord, isCode}
+use Rattle.formats.specs.Codes.{ibmFormat, wholeFormat, gainFormat, ieeeFormat, formatOf, isCode}
+use Rattle.formats.specs.Value.{isFinite, ieeeValue, ibmValue, wholeValue, gainValue, valueIn, isWord}
 use Rattle.formats.specs.Words.{floatBits, floatOf, floatWord, wholeOf, wholeWord, gainFits, gainAt, gainWord, wordOf}
 use Rattle.formats.specs.declared.Placed.{Placed}
 use Rattle.formats.specs.declared.Placed.the-variants.{At, Nowhere}

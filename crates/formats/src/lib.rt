@@ -1,7 +1,7 @@
 // Sample formats: the codes, and what a format and a word are. The definitions and laws of values and words stand beside it.
 ghost use mathlib.Core.Path.{_≡_};
-ghost use Prim.Native.Nat.{_≤_};
-ghost use Rattle.formats.specs.Codes.{isCode, sampleBytes};
+ghost use Prim.Native.Nat.{_<_, _≤_};
+ghost use Rattle.formats.specs.Codes.{isCode, sampleBytes, wholeFormat, formatOf};
 
 // The five numbers of a format: r bits to a digit, p bits to a fraction, m characteristics, the base power b, and whether it has one more
 // number below zero.
@@ -54,4 +54,57 @@ pub fn width_of(code: usize) -> usize
         return 1;
     }
     4
+}
+
+// The format of a whole number of w bits in two's complement.
+fn whole_format(w: u32) -> Format
+    requires { ⌜ 0 < w ⌝ }
+    ensures { λ r. ⌜ r ≡ wholeFormat w ⌝ }
+{
+    Format {
+        digit: 1,
+        fraction: w - 1,
+        characteristics: 1,
+        base: DENOMINATOR_POWER,
+        more: true,
+    }
+}
+
+// The format of a code.
+pub fn format_of(code: usize) -> Format
+    ensures { λ r. ⌜ r ≡ formatOf code ⌝ }
+{
+    match code {
+        1 => Format {
+            digit: 4,
+            fraction: 24,
+            characteristics: 128,
+            base: DENOMINATOR_POWER - (4 * 64 + 24),
+            more: false,
+        },
+        2 => whole_format(32),
+        3 => whole_format(16),
+        4 => Format {
+            digit: 1,
+            fraction: 15,
+            characteristics: 256,
+            base: DENOMINATOR_POWER - 255,
+            more: true,
+        },
+        5 => Format {
+            digit: 1,
+            fraction: 24,
+            characteristics: 254,
+            base: DENOMINATOR_POWER - 149,
+            more: false,
+        },
+        8 => whole_format(8),
+        _ => Format {
+            digit: 1,
+            fraction: 0,
+            characteristics: 0,
+            base: 0,
+            more: false,
+        },
+    }
 }

@@ -16,8 +16,8 @@ use Rattle.numbers.specs.TwosComplement.{signedOf}
 use Rattle.numbers.proofs.WalkLaws.{flat-length, flat-none, four-bytes}
 use Rattle.numbers.proofs.BoolLaws.{and-true}
 use Rattle.numbers.proofs.Filling.{in-turn}
-use Rattle.formats.specs.Value.{denominatorPower, ibmValue, wholeValue, gainValue}
-use Rattle.formats.specs.Codes.{isCode, sampleBytes}
+use Rattle.formats.specs.Codes.{denominatorPower, isCode, sampleBytes}
+use Rattle.formats.specs.Value.{ibmValue, wholeValue, gainValue}
 use Rattle.sample.specs.Reading.{pairTaken, readWord}
 use Rattle.sample.specs.declared.Sample.{Sample}
 use Rattle.sample.specs.declared.Sample.the-variants.{Taken, Refused}

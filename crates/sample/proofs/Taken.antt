@@ -10,7 +10,7 @@ use lib.Dec.{eqb, lit<}
 use lib.Pow.{pow-add}
 use lib.IntN.{pos, subℕ}
 use Rattle.numbers.specs.Walk.{pick}
-use Rattle.formats.specs.Value.{denominatorPower}
+use Rattle.formats.specs.Codes.{denominatorPower}
 use Rattle.numbers.specs.SignMagnitude.{signMagnitude}
 use Rattle.value.proofs.Twos.{split, trailing-lt}
 use Rattle.value.proofs.Pairs.{pair-at}

@@ -25,9 +25,9 @@ use Rattle.numbers.proofs.WalkLaws.{bytes-part}
 use Rattle.numbers.proofs.BoolLaws.{and-true}
 use Rattle.numbers.proofs.ByteLaws.{number-bytes, number-at, bytes-again}
 use Rattle.numbers.proofs.SignLaws.{below-or, sub-below, sub-above, abs-zero, signed-bits, bits-signed, bits-lt, mag-signed}
-use Rattle.formats.specs.Value.{denominatorPower, signBit, characteristic, fraction, ibmValue, wholeValue, gainValue, exactValue}
+use Rattle.formats.specs.Codes.{denominatorPower, isCode}
+use Rattle.formats.specs.Value.{signBit, characteristic, fraction, ibmValue, wholeValue, gainValue, exactValue}
 use Rattle.numbers.specs.SignMagnitude.{signMagnitude, isNegative}
-use Rattle.formats.specs.Codes.{isCode}
 use Rattle.value.specs.Pair.{highestExponent, mantissaBits, pairOf, valueOf, isExponent, isCanonical, pairBytes, pairIn}
 use Rattle.value.specs.declared.Pair.{Pair}
 use Rattle.value.proofs.Twos.{odd-pos, split}

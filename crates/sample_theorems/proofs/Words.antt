@@ -20,8 +20,8 @@ use Rattle.numbers.specs.BigEndian.{number, bytesOf}
 use Rattle.numbers.specs.TwosComplement.{signedOf, bitsOf}
 use Rattle.numbers.proofs.ByteLaws.{byte-at, number-at}
 use Rattle.numbers.proofs.SignLaws.{below-or}
-use Rattle.formats.specs.Value.{denominatorPower, characteristic, ibmValue, wholeValue, gainValue, exactValue}
-use Rattle.formats.specs.Codes.{isCode}
+use Rattle.formats.specs.Codes.{denominatorPower, isCode}
+use Rattle.formats.specs.Value.{characteristic, ibmValue, wholeValue, gainValue, exactValue}
 use Rattle.value.specs.Pair.{valueOf, isCanonical}
 use Rattle.numbers.specs.SignMagnitude.{numberOf}
 use Rattle.formats.specs.Words.{ibmWord, wholeWord, gainFits, gainWord, wordOf, firstDigit, isNormal, Writes}

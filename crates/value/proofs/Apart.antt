@@ -10,7 +10,7 @@ use lib.Signed.{leZ, ltZ, mag}
 use Rattle.numbers.specs.TwosComplement.{signedOf, bitsOf}
 use Rattle.numbers.proofs.SignLaws.{sub-above, abs-zero, signed-bits, bits-lt}
 use Rattle.numbers.proofs.BoolLaws.{and-true, and-false, or-true}
-use Rattle.formats.specs.Value.{denominatorPower}
+use Rattle.formats.specs.Codes.{denominatorPower}
 use Rattle.numbers.specs.SignMagnitude.{signMagnitude}
 use Rattle.value.specs.Pair.{highestExponent, mantissaBits, valueOf, isExponent, isCanonical}
 use Rattle.value.specs.Parts.{Apart}

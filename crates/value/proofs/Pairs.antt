@@ -10,7 +10,7 @@ use lib.IntN.{ℤ, pos, negsuc, subℕ, _+ℤ_}
 use mir.Syntax.{Width}
 use mir.Val.{SFits, hbits}
 use Rattle.numbers.proofs.SignLaws.{below-or, sub-below, sub-above}
-use Rattle.formats.specs.Value.{denominatorPower}
+use Rattle.formats.specs.Codes.{denominatorPower}
 use Rattle.numbers.specs.SignMagnitude.{signMagnitude}
 use Rattle.value.specs.Pair.{twos, oddPart, pairOf, valueOf}
 use Rattle.numbers.proofs.Magnitudes.{signed-mul}

@@ -13,8 +13,8 @@ use Rattle.numbers.specs.First.{first}
 use Rattle.numbers.specs.TwosComplement.{signedOf, bitsOf}
 use Rattle.numbers.proofs.SignLaws.{below-or}
 use Rattle.numbers.proofs.FirstLaws.{found, first-le}
-use Rattle.formats.specs.Value.{denominatorPower, wholeValue, gainValue}
-use Rattle.formats.specs.Codes.{isCode}
+use Rattle.formats.specs.Codes.{denominatorPower, isCode}
+use Rattle.formats.specs.Value.{wholeValue, gainValue}
 use Rattle.value.specs.Pair.{valueOf, isCanonical}
 use Rattle.numbers.specs.SignMagnitude.{numberOf, holds}
 use Rattle.formats.specs.Words.{ibmFits, ibmAt, ibmWord, wholeWord, gainFits, gainAt, gainWord, wordOf, Writes}

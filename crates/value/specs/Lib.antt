@@ -1,4 +1,3 @@
-pub mod Value
 pub mod Pair
 pub mod Writing
 pub mod Parts

@@ -8,7 +8,7 @@ use lib.Signed.{leZ}
 use Rattle.numbers.specs.Walk.{bytesAt}
 use Rattle.numbers.specs.BigEndian.{number, bytesOf}
 use Rattle.numbers.specs.TwosComplement.{signedOf, bitsOf}
-use Rattle.formats.specs.Value.{denominatorPower}
+use Rattle.formats.specs.Codes.{denominatorPower}
 use Rattle.value.specs.declared.Pair.{Pair}
 
 -- The largest e. The least is -280, as 2 ^ -280 is the step of all values.

@@ -1,5 +1,5 @@
 -- `sample::exponent` meets its contract. Assumes nothing.
-use Rattle.formats.specs.Value.{denominatorPower}
+use Rattle.formats.specs.Codes.{denominatorPower}
 use Rattle.value.proofs.Pairs.{sfits-sub}
 use mir.Facts.{toZ-pos, toZ-ofZ}
 use mir.Syntax.{w16}

@@ -1,7 +1,7 @@
 -- `value::Pair::parts` meets its contract. Assumes nothing.
 use Rattle.value.proofs.Apart.{is-mantissa, zero-bits, bits-zero, zero-yes, zero-no, even-no, high-no, zero-value, apart}
 use Rattle.value.specs.declared.Pair.{Pair}
-use Rattle.formats.specs.Value.{denominatorPower}
+use Rattle.formats.specs.Codes.{denominatorPower}
 use Rattle.value.specs.Pair.{isExponent}
 use Rattle.numbers.specs.TwosComplement.{bitsOf}
 use mir.Facts.{toZ-ofZ}
