@@ -46,6 +46,14 @@ module _ (code : ℕ) (a : code ≡ 1 → ⊥) (b : code ≡ 2 → ⊥) (c : cod
   pub no-code : isCode code ≡ false
   no-code = rw (ne-eqb code 1 a, ne-eqb code 2 b, ne-eqb code 3 c, ne-eqb code 4 d, ne-eqb code 5 e, ne-eqb code 8 f)
 
+-- the last of the six
+pub last-code : (code : ℕ) → isCode code ≡ true → (code ≡ 1 → ⊥) → (code ≡ 2 → ⊥) → (code ≡ 3 → ⊥) → (code ≡ 4 → ⊥) → (code ≡ 5 → ⊥) → code ≡ 8
+last-code code h a b c d e = eqb-true code 8 (rw (ne-eqb code 1 a, ne-eqb code 2 b, ne-eqb code 3 c, ne-eqb code 4 d, ne-eqb code 5 e, or-false (eqb code 8)) at h)
+  where
+    or-false : (b : Bool) → (b || false) ≡ b
+    or-false true = refl
+    or-false false = refl
+
 -- the two formats of sign and magnitude
 pub ibm-float : Float ibmFormat 32 24
 ibm-float = record { sound = code-sound 1 refl; even = refl; some = omega arith; short = omega arith; low = omega arith; room = omega arith }

@@ -76,59 +76,61 @@ module _ (x : Format) where
   pub zero-fits : (c : ℕ) → fitsAt x (pos 0) c ≡ true
   zero-fits c = rw (zero-mod, zero-div) (lt-ltb 0 (limit x false) (let z : 0 < 2 ^ x .fraction + pick (x .more && false) 1 0 = omega (arith, pow-pos (x .fraction)) in z))
 
-  -- ± o × 2 ^ k with an odd o of n bits
-  module _ (s : Bool) (o k n : ℕ) (odd : o % 2 ≡ 1) (length : Length (pick (x .more && s) 1 0) o n) where
+  -- ± o × 2 ^ k with an odd o
+  module _ (s : Bool) (o k : ℕ) (odd : o % 2 ≡ 1) where
     some : 0 < o * 2 ^ k
     some = mul-pos (let z : 0 < o = omega (arith, odd) in z) (pow-pos k)
 
-    -- LAW. A characteristic serves where its last place is not above the value's last 1, and its fraction reaches the value's first.
-    pub fits-is : (c : ℕ) → fitsAt x (signMagnitude s (o * 2 ^ k)) c ≡ leb (place c) k && leb (n + k) (x .fraction + place c)
-    fits-is c =
-        rw (abs-signed s (o * 2 ^ k), neg-signed s (o * 2 ^ k) some)
-        (⊎-elim
-        (λ (h : k < place c). rw (lt-leb (place c) k h, ne-eqb (o * 2 ^ k % unit x c) 0 (inexact o k (place c) odd h)))
-        (λ (h : place c ≤ k).
-        let z = exact-mod o k (place c) h in
-        let w = whole (o * 2 ^ k) (unit x c) z in
-        rw (le-leb (place c) k h, eq-eqb (o * 2 ^ k % unit x c) 0 z)
-        (⊎-elim
-        (λ (l : x .fraction + place c < n + k). le-ltb (o * 2 ^ k / unit x c) (limit x s) (large o k n (x .fraction) (place c) (o * 2 ^ k / unit x c) w (x .more && s) length l) ∙ sym (lt-leb (n + k) (x .fraction + place c) l))
-        (λ (l : n + k ≤ x .fraction + place c). lt-ltb (o * 2 ^ k / unit x c) (limit x s) (small o k n (x .fraction) (place c) (o * 2 ^ k / unit x c) w (x .more && s) length l) ∙ sym (le-leb (n + k) (x .fraction + place c) l))
-        (below-or (x .fraction + place c) (n + k)))) (below-or k (place c)))
-
-    pub no-bits : (c : ℕ) → x .fraction + place c < n + k → fitsAt x (signMagnitude s (o * 2 ^ k)) c ≡ false
-    no-bits c h = fits-is c ∙ rw (lt-leb (n + k) (x .fraction + place c) h) (and-false (leb (place c) k))
-
     pub no-whole : (c : ℕ) → k < place c → fitsAt x (signMagnitude s (o * 2 ^ k)) c ≡ false
-    no-whole c h = fits-is c ∙ rw (lt-leb (place c) k h)
+    no-whole c h = rw (abs-signed s (o * 2 ^ k), ne-eqb (o * 2 ^ k % unit x c) 0 (inexact o k (place c) odd h))
 
-    pub serves : (c : ℕ) → place c ≤ k → n + k ≤ x .fraction + place c → fitsAt x (signMagnitude s (o * 2 ^ k)) c ≡ true
-    serves c h l = fits-is c ∙ rw (le-leb (place c) k h, le-leb (n + k) (x .fraction + place c) l)
+    -- and of n bits
+    module _ (n : ℕ) (length : Length (pick (x .more && s) 1 0) o n) where
+      -- LAW. A characteristic serves where its last place is not above the value's last 1, and its fraction reaches the value's first.
+      pub fits-is : (c : ℕ) → fitsAt x (signMagnitude s (o * 2 ^ k)) c ≡ leb (place c) k && leb (n + k) (x .fraction + place c)
+      fits-is c =
+          rw (abs-signed s (o * 2 ^ k), neg-signed s (o * 2 ^ k) some)
+          (⊎-elim
+          (λ (h : k < place c). rw (lt-leb (place c) k h, ne-eqb (o * 2 ^ k % unit x c) 0 (inexact o k (place c) odd h)))
+          (λ (h : place c ≤ k).
+          let z = exact-mod o k (place c) h in
+          let w = whole (o * 2 ^ k) (unit x c) z in
+          rw (le-leb (place c) k h, eq-eqb (o * 2 ^ k % unit x c) 0 z)
+          (⊎-elim
+          (λ (l : x .fraction + place c < n + k). le-ltb (o * 2 ^ k / unit x c) (limit x s) (large o k n (x .fraction) (place c) (o * 2 ^ k / unit x c) w (x .more && s) length l) ∙ sym (lt-leb (n + k) (x .fraction + place c) l))
+          (λ (l : n + k ≤ x .fraction + place c). lt-ltb (o * 2 ^ k / unit x c) (limit x s) (small o k n (x .fraction) (place c) (o * 2 ^ k / unit x c) w (x .more && s) length l) ∙ sym (le-leb (n + k) (x .fraction + place c) l))
+          (below-or (x .fraction + place c) (n + k)))) (below-or k (place c)))
 
-    -- the fraction of a characteristic that serves
-    pub fraction-at : (c : ℕ) → place c ≤ k → n + k ≤ x .fraction + place c → o * 2 ^ (k - place c) < limit x s
-    fraction-at c h l = small o k n (x .fraction) (place c) (o * 2 ^ (k - place c)) (parted o k (place c) h) (x .more && s) length l
+      pub no-bits : (c : ℕ) → x .fraction + place c < n + k → fitsAt x (signMagnitude s (o * 2 ^ k)) c ≡ false
+      no-bits c h = fits-is c ∙ rw (lt-leb (n + k) (x .fraction + place c) h) (and-false (leb (place c) k))
 
-    -- the least characteristic whose fraction reaches the value's first 1 is the least that serves, or none serves
-    module _ (c : ℕ) (low : Lowest (n + k) (x .fraction + x .base) (x .digit) c) where
-      below : (i : ℕ) → i < c → fitsAt x (signMagnitude s (o * 2 ^ k)) i ≡ false
-      below i h = no-bits i (omega (arith, low .least i h))
+      pub serves : (c : ℕ) → place c ≤ k → n + k ≤ x .fraction + place c → fitsAt x (signMagnitude s (o * 2 ^ k)) c ≡ true
+      serves c h l = fits-is c ∙ rw (le-leb (place c) k h, le-leb (n + k) (x .fraction + place c) l)
 
-      pub placed-at : c < x .characteristics → place c ≤ k → placed x (signMagnitude s (o * 2 ^ k)) ≡ At c (o * 2 ^ (k - place c))
-      placed-at h l =
-          ap (placedAt x (signMagnitude s (o * 2 ^ k))) (first-at (fitsAt x (signMagnitude s (o * 2 ^ k))) (x .characteristics) 0 c (omega arith) (omega arith) (serves c l (omega (arith, low .enough))) (λ i z. below i))
-          ∙ rw (lt-ltb c (x .characteristics) h, abs-signed s (o * 2 ^ k), exact-div o k (place c) l)
+      -- the fraction of a characteristic that serves
+      pub fraction-at : (c : ℕ) → place c ≤ k → n + k ≤ x .fraction + place c → o * 2 ^ (k - place c) < limit x s
+      fraction-at c h l = small o k n (x .fraction) (place c) (o * 2 ^ (k - place c)) (parted o k (place c) h) (x .more && s) length l
 
-      nowhere : ((i : ℕ) → i < x .characteristics → fitsAt x (signMagnitude s (o * 2 ^ k)) i ≡ false) → placed x (signMagnitude s (o * 2 ^ k)) ≡ Nowhere
-      nowhere f =
-          ap (placedAt x (signMagnitude s (o * 2 ^ k))) (none-passes (fitsAt x (signMagnitude s (o * 2 ^ k))) (x .characteristics) 0 (λ i z h. f i (omega arith)))
-          ∙ rw (le-ltb (0 + x .characteristics) (x .characteristics) (omega arith))
+      -- the least characteristic whose fraction reaches the value's first 1 is the least that serves, or none serves
+      module _ (c : ℕ) (low : Lowest (n + k) (x .fraction + x .base) (x .digit) c) where
+        below : (i : ℕ) → i < c → fitsAt x (signMagnitude s (o * 2 ^ k)) i ≡ false
+        below i h = no-bits i (omega (arith, low .least i h))
 
-      pub placed-high : x .characteristics ≤ c → placed x (signMagnitude s (o * 2 ^ k)) ≡ Nowhere
-      placed-high h = nowhere (λ i l. below i (omega arith))
+        pub placed-at : c < x .characteristics → place c ≤ k → placed x (signMagnitude s (o * 2 ^ k)) ≡ At c (o * 2 ^ (k - place c))
+        placed-at h l =
+            ap (placedAt x (signMagnitude s (o * 2 ^ k))) (first-at (fitsAt x (signMagnitude s (o * 2 ^ k))) (x .characteristics) 0 c (omega arith) (omega arith) (serves c l (omega (arith, low .enough))) (λ i z. below i))
+            ∙ rw (lt-ltb c (x .characteristics) h, abs-signed s (o * 2 ^ k), exact-div o k (place c) l)
 
-      pub placed-odd : k < place c → placed x (signMagnitude s (o * 2 ^ k)) ≡ Nowhere
-      placed-odd h = nowhere (λ i l. ⊎-elim (λ (j : i < c). below i j) (λ (j : c ≤ i). no-whole i (lt-of-lt-of-le h (places-rise c i j))) (below-or i c))
+        nowhere : ((i : ℕ) → i < x .characteristics → fitsAt x (signMagnitude s (o * 2 ^ k)) i ≡ false) → placed x (signMagnitude s (o * 2 ^ k)) ≡ Nowhere
+        nowhere f =
+            ap (placedAt x (signMagnitude s (o * 2 ^ k))) (none-passes (fitsAt x (signMagnitude s (o * 2 ^ k))) (x .characteristics) 0 (λ i z h. f i (omega arith)))
+            ∙ rw (le-ltb (0 + x .characteristics) (x .characteristics) (omega arith))
+
+        pub placed-high : x .characteristics ≤ c → placed x (signMagnitude s (o * 2 ^ k)) ≡ Nowhere
+        placed-high h = nowhere (λ i l. below i (omega arith))
+
+        pub placed-odd : k < place c → placed x (signMagnitude s (o * 2 ^ k)) ≡ Nowhere
+        placed-odd h = nowhere (λ i l. ⊎-elim (λ (j : i < c). below i j) (λ (j : c ≤ i). no-whole i (lt-of-lt-of-le h (places-rise c i j))) (below-or i c))
 
   -- zero has characteristic 0 and fraction 0
   pub placed-zero : 0 < x .characteristics → placed x (pos 0) ≡ At 0 0

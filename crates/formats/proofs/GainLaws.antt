@@ -36,7 +36,7 @@ gain-zero =
 abbrev pub gainBase : ℕ
 gainBase = denominatorPower - 255
 
-module _ (s : Bool) (o k n : ℕ) (odd : o % 2 ≡ 1) (length : Length (pick s 1 0) o n) where
+module _ (s : Bool) (o k : ℕ) (odd : o % 2 ≡ 1) where
   abbrev v : ℤ
   v = signMagnitude s (o * 2 ^ k)
 
@@ -48,29 +48,30 @@ module _ (s : Bool) (o k n : ℕ) (odd : o % 2 ≡ 1) (length : Length (pick s 1
 
   -- a larger characteristic leaves a fraction of the number
   odd-at : (g : ℕ) → k < gainBase + (255 - g) → gainFits v g ≡ false
-  odd-at g h = no-whole gainFormat s o k n odd length (255 - g) (omega arith)
-
-  big-at : (g : ℕ) → 15 + gainBase + (255 - g) < n + k → gainFits v g ≡ false
-  big-at g h = no-bits gainFormat s o k n odd length (255 - g) (omega arith)
+  odd-at g h = no-whole gainFormat s o k odd (255 - g) (omega arith)
 
   pub gain-low : k < gainBase → gainWord v ≡ Refused 14
   gain-low h = none-serves (λ g l. odd-at g (omega arith))
 
-  module _ (c : ℕ) (most : c ≡ min (k - gainBase) 255) (h : gainBase ≤ k) where
-    pub gain-high : 15 + gainBase + c < n + k → gainWord v ≡ Refused 14
-    gain-high l = none-serves (λ g j. ⊎-elim (λ (p : c < 255 - g). odd-at g (omega arith)) (λ (p : 255 - g ≤ c). big-at g (omega arith)) (below-or c (255 - g)))
+  module _ (n : ℕ) (length : Length (pick s 1 0) o n) where
+    big-at : (g : ℕ) → 15 + gainBase + (255 - g) < n + k → gainFits v g ≡ false
+    big-at g h = no-bits gainFormat s o k odd n length (255 - g) (omega arith)
 
-    module _ (l : n + k ≤ 15 + gainBase + c) where
-      same : gainBase + 1 * c ≡ gainBase + c
-      same = omega arith
+    module _ (c : ℕ) (most : c ≡ min (k - gainBase) 255) (h : gainBase ≤ k) where
+      pub gain-high : 15 + gainBase + c < n + k → gainWord v ≡ Refused 14
+      gain-high l = none-serves (λ g j. ⊎-elim (λ (p : c < 255 - g). odd-at g (omega arith)) (λ (p : 255 - g ≤ c). big-at g (omega arith)) (below-or c (255 - g)))
 
-      pub gain-few : o * 2 ^ (k - (gainBase + c)) < 2 ^ 15 + pick s 1 0
-      gain-few = subst (λ (y : ℕ). o * 2 ^ (k - y) < 2 ^ 15 + pick s 1 0) same (fraction-at gainFormat s o k n odd length c (omega arith) (omega arith))
+      module _ (l : n + k ≤ 15 + gainBase + c) where
+        same : gainBase + 1 * c ≡ gainBase + c
+        same = omega arith
 
-      pub gain-at : gainWord v ≡ Word ((255 - c) * 2 ^ 16 + bitsOf 16 (signMagnitude s (o * 2 ^ (k - (gainBase + c)))))
-      gain-at =
-          let power : gainBase + 1 * (255 - (255 - c)) ≡ gainBase + c = omega arith in
-          ap (gainAt v) (first-at (gainFits v) 256 0 (255 - c) (omega arith) (omega arith)
-          (serves gainFormat s o k n odd length (255 - (255 - c)) (omega arith) (omega arith))
-          (λ g z p. odd-at g (omega arith)))
-          ∙ rw (lt-ltb (255 - c) 256 (omega arith), abs-signed s (o * 2 ^ k), neg-signed s (o * 2 ^ k) some, power, exact-div o k (gainBase + c) (omega arith))
+        pub gain-few : o * 2 ^ (k - (gainBase + c)) < 2 ^ 15 + pick s 1 0
+        gain-few = subst (λ (y : ℕ). o * 2 ^ (k - y) < 2 ^ 15 + pick s 1 0) same (fraction-at gainFormat s o k odd n length c (omega arith) (omega arith))
+
+        pub gain-at : gainWord v ≡ Word ((255 - c) * 2 ^ 16 + bitsOf 16 (signMagnitude s (o * 2 ^ (k - (gainBase + c)))))
+        gain-at =
+            let power : gainBase + 1 * (255 - (255 - c)) ≡ gainBase + c = omega arith in
+            ap (gainAt v) (first-at (gainFits v) 256 0 (255 - c) (omega arith) (omega arith)
+            (serves gainFormat s o k odd n length (255 - (255 - c)) (omega arith) (omega arith))
+            (λ g z p. odd-at g (omega arith)))
+            ∙ rw (lt-ltb (255 - c) 256 (omega arith), abs-signed s (o * 2 ^ k), neg-signed s (o * 2 ^ k) some, power, exact-div o k (gainBase + c) (omega arith))

@@ -10,8 +10,10 @@ use Rattle.numbers.specs.Walk.{pick}
 use Rattle.numbers.specs.SignMagnitude.{signMagnitude, isNegative}
 use Rattle.formats.specs.Format.{unit, limit, inFormat, leastServing, placed}
 use Rattle.formats.specs.Steps.{Sound, Float}
-use Rattle.formats.specs.Codes.{wholeFormat}
-use Rattle.formats.specs.Words.{floatBits, floatOf, floatWord, wholeOf, wholeWord}
+use Rattle.numbers.specs.First.{first}
+use lib.Dec.{eqb, ltb}
+use Rattle.formats.specs.Codes.{ibmFormat, wholeFormat, ieeeFormat}
+use Rattle.formats.specs.Words.{floatBits, floatOf, floatWord, wholeOf, wholeWord, gainFits, gainAt, wordOf}
 use Rattle.formats.specs.declared.Format.{Format}
 use Rattle.numbers.proofs.Magnitudes.{neg-signed, signed-zero}
 use Rattle.formats.specs.declared.Placed.{Placed}
@@ -41,8 +43,9 @@ whole-few w v c f p = go (isNegative v) (p .fits)
     go true h = omega (arith, up w)
     go false h = omega (arith, up w)
 
-no-zero-one : _≡_ {A = ℕ} 0 1 → ⊥
-no-zero-one q = omega arith
+-- a refusal is no word
+pub no-word : {number n : ℕ} → Refused number ≡ Word n → ⊥
+no-word e = let z : _≡_ {A = ℕ} 0 1 = cc in omega arith
 
 -- a word that is written comes of a place, and a value of the format has one
 pub float-is : (x : Format) (w y : ℕ) (v : ℤ) (n : ℕ) → floatWord x w y v ≡ Word n → (c f : ℕ) × Place x v c f × (n ≡ floatBits w y (isNegative v) c f)
@@ -50,7 +53,48 @@ float-is x w y v n h = go (placed x v) refl h
   where
     go : (r : Placed) → placed x v ≡ r → floatOf w y (isNegative v) r ≡ Word n → (c f : ℕ) × Place x v c f × (n ≡ floatBits w y (isNegative v) c f)
     go (At c f) e q = let i : n ≡ floatBits w y (isNegative v) c f = cc in (c, f, placed-is x v c f e, i)
-    go Nowhere e q = let z : _≡_ {A = ℕ} 0 1 = cc in absurd (no-zero-one z)
+    go Nowhere e q = absurd (no-word q)
 
 pub float-some : (x : Format) (w y : ℕ) (v : ℤ) → inFormat x v ≡ true → (n : ℕ) × (floatWord x w y v ≡ Word n)
 float-some x w y v h = (floatBits w y (isNegative v) (leastServing x v) (natAbs v / unit x (leastServing x v)), ap (floatOf w y (isNegative v)) (placed-some x v h))
+
+-- ## A word, or 14
+
+-- where there is no word, the number is 14
+abbrev pub Only14 : Written → Type 0
+Only14 (Word n) = Unit {0}
+Only14 (Refused number) = number ≡ 14
+
+-- under every code
+pub only-14 : (code : ℕ) (v : ℤ) → Only14 (wordOf code v)
+only-14 code v =
+    either (eqb code 1) _ _ (float ibmFormat 24)
+    (either (eqb code 2) _ _ (whole 32)
+    (either (eqb code 3) _ _ (whole 16)
+    (either (eqb code 4) _ _ (gain (first (gainFits v) 256 0))
+    (either (eqb code 5) _ _ (float (ieeeFormat 8 23) 23) (whole 8)))))
+  where
+    either : (b : Bool) (x y : Written) → Only14 x → Only14 y → Only14 (pick b x y)
+    either true x y p q = p
+    either false x y p q = q
+
+    float : (x : Format) (y : ℕ) → Only14 (floatWord x 32 y v)
+    float x y = go (placed x v)
+      where
+        go : (r : Placed) → Only14 (floatOf 32 y (isNegative v) r)
+        go (At c f) = tt
+        go Nowhere = refl
+
+    whole : (w : ℕ) → Only14 (wholeWord w v)
+    whole w = go (placed (wholeFormat w) v)
+      where
+        go : (r : Placed) → Only14 (wholeOf w (isNegative v) r)
+        go (At c f) = tt
+        go Nowhere = refl
+
+    gain : (g : ℕ) → Only14 (gainAt v g)
+    gain g = go (ltb g 256) _
+      where
+        go : (b : Bool) (n : ℕ) → Only14 (pick b (Word n) (Refused 14))
+        go true n = tt
+        go false n = refl

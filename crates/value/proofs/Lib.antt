@@ -1,14 +1,7 @@
 pub mod Twos
-pub mod Magnitudes
 pub mod Pairs
-pub mod Exact
-pub mod NormalWords
-pub mod IbmLaws
-pub mod WholeLaws
-pub mod Held
+pub mod PlaceLaws
 pub mod WrittenLaws
-pub mod WordBytes
-pub mod Codes
 pub mod Apart
 pub mod PartsLaws
 pub mod PairBytes

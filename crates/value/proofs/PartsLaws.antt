@@ -1,30 +1,31 @@
 -- What writing a pair gives, by the pair's parts. Assumes nothing.
 use Prim.Native.Nat.{ℕ, _*_, _^_}
-use mathlib.Core.Path.{_≡_}
-use mathlib.Core.Logic.{_⊎_, inl, inr}
+use mathlib.Core.Path.{_≡_, refl}
 use mathlib.Core.Bool.{Bool, true}
 use lib.IntN.{pos}
 use Rattle.numbers.specs.First.{first}
 use Rattle.numbers.specs.SignMagnitude.{signMagnitude}
 use Rattle.formats.specs.Codes.{isCode}
-use Rattle.formats.specs.Words.{isNormal, wordOf}
+use Rattle.formats.specs.Words.{wordOf}
 use Rattle.value.specs.Writing.{writePair}
 use Rattle.value.specs.Parts.{PartsOf}
 use Rattle.value.specs.declared.Pair.{Pair}
 use Rattle.value.specs.declared.Parts.the-variants.{NotCanonical, Zero, Odd}
 use Rattle.formats.specs.declared.Written.the-variants.{Word, Refused}
-use Rattle.value.proofs.Codes.{code-is}
+use Rattle.formats.proofs.CodeLaws.{Code, ibm, whole32, whole16, gain, ieee, whole8, code-is}
 
 -- zero is written as 00000000 under every code
 zero-word : (code : ℕ) → isCode code ≡ true → wordOf code (pos 0) ≡ Word 0
-unfolding first isNormal
+unfolding first
 zero-word code i = go code (code-is code i)
   where
-    go : (code : ℕ) → (code ≡ 1) ⊎ ((code ≡ 2) ⊎ ((code ≡ 3) ⊎ (code ≡ 4))) → wordOf code (pos 0) ≡ Word 0
-    go code (inl e) = rw e
-    go code (inr (inl e)) = rw e
-    go code (inr (inr (inl e))) = rw e
-    go code (inr (inr (inr e))) = rw e
+    go : (code : ℕ) → Code code → wordOf code (pos 0) ≡ Word 0
+    go code ibm = refl
+    go code whole32 = refl
+    go code whole16 = refl
+    go code gain = refl
+    go code ieee = refl
+    go code whole8 = refl
 
 module _ (code : ℕ) (p : Pair) (i : isCode code ≡ true) where
   pub not-canonical : PartsOf p NotCanonical → writePair code p ≡ Refused 13

@@ -1,14 +1,14 @@
 // What a sample is worth: the canonical pair, and the word of a pair under a code.
 ghost use mathlib.Core.Path.{_≡_};
 ghost use Prim.Native.Nat.{_+_, _-_, _*_, _%_, _^_, _<_, _≤_, min};
-ghost use mathlib.Core.Bool.{true};
+ghost use mathlib.Core.Bool.{true, _&&_};
 ghost use lib.IntN.{pos, natAbs, _+ℤ_};
 ghost use Rattle.numbers.specs.Walk.{pick};
 ghost use Rattle.numbers.specs.TwosComplement.{signedOf, bitsOf};
 ghost use Rattle.numbers.specs.SignMagnitude.{signMagnitude};
 ghost use Rattle.formats.specs.Format.{placed};
 ghost use Rattle.formats.specs.Codes.{denominatorPower, isCode, wholeFormat};
-ghost use Rattle.formats.specs.Words.{floatBits, floatWord, wholeWord, gainWord, wordOf};
+ghost use Rattle.formats.specs.Words.{floatBits, floatWord, wholeWord, gainWord, wordOf, wordBits};
 ghost use Rattle.formats.specs.Steps.{Sound, Float, Length, Lowest};
 ghost use Rattle.value.specs.Pair.{highestExponent, isExponent, isCanonical, pairOfBits, pairIn};
 ghost use Rattle.value.specs.Writing.{writePair};
@@ -72,8 +72,17 @@ fn length_of(o: u32, less: bool) -> u32
     requires { ⌜ 0 < o ⌝ }
     ensures { λ r. ⌜ Length (pick less 1 0) o r × (r ≤ 32) ⌝ }
 {
-    let top = if less { o - 1 } else { o };
-    32 - u32::leading_zeros(top)
+    if less {
+        return 32 - u32::leading_zeros(o - 1);
+    }
+    32 - u32::leading_zeros(o)
+}
+
+// A format has one more number of that sign.
+fn one_more(x: Format, neg: bool) -> bool
+    ensures { λ r. ⌜ r ≡ (x .more && neg) ⌝ }
+{
+    x.more && neg
 }
 
 // The least characteristic whose fraction reaches the bit `first`, counted from 1.
@@ -102,7 +111,7 @@ fn place(x: Format, neg: bool, o: u32, k: u32) -> Placed
     requires { ⌜ Sound x × (o % 2 ≡ 1) × (k ≤ denominatorPower + highestExponent) ⌝ }
     ensures { λ r. ⌜ r ≡ placed x (signMagnitude neg (o * 2 ^ k)) ⌝ }
 {
-    let c = lowest(x, length_of(o, x.more && neg) + k);
+    let c = lowest(x, length_of(o, one_more(x, neg)) + k);
     if x.characteristics <= c {
         return Placed::Nowhere;
     }
@@ -301,6 +310,23 @@ pub fn write(code: u32, p: Pair) -> Written
         return word(code, p);
     }
     Written::Refused { number: BAD_TARGET }
+}
+
+// The bits of a word, 0 where there is none.
+fn bits_of(word: Written) -> u32
+    ensures { λ r. ⌜ r ≡ wordBits word ⌝ }
+{
+    match word {
+        Written::Word { bits } => bits,
+        Written::Refused { number: _ } => 0,
+    }
+}
+
+// The bits of the word of a pair under a code, 0 where there is none: for a caller who knows that there is one.
+pub fn bits(code: u32, p: Pair) -> u32
+    ensures { λ r. ⌜ r ≡ wordBits (writePair code p) ⌝ }
+{
+    bits_of(write(code, p))
 }
 
 // The pair of the 16 bits of e and the 32 of m.

@@ -1,5 +1,5 @@
 -- `value::complement` meets its contract. Assumes nothing.
-use Rattle.value.proofs.WholeLaws.{half-le, magnitude-le, bits-of}
+use Rattle.value.proofs.PlaceLaws.{half-le, magnitude-le, bits-of}
 use Rattle.numbers.specs.SignMagnitude.{signMagnitude}
 use Rattle.numbers.specs.TwosComplement.{bitsOf}
 use Rattle.numbers.specs.Walk.{pick}
