@@ -1,7 +1,8 @@
--- The laws of formats: which characteristics serve a value, its place, its words, and the six codes.
+-- The laws of formats: which characteristics serve a value, its place, its words, the six codes, and normal words.
 pub mod Powers
 pub mod FitLaws
 pub mod PlacedLaws
 pub mod CodeLaws
 pub mod WordLaws
 pub mod GainLaws
+pub mod NormalLaws
