@@ -9,18 +9,20 @@ use borrow.Author.Tests.{lt-ltb, le-ltb, le-leb, lt-leb, eq-eqb, ne-eqb, ltb-tru
 use lib.Dec.{T, leb, ltb, eqb}
 use lib.Pow.{pow-add, pow-pos, pow-mono, high, low}
 use lib.IntN.{ℤ, pos, negsuc, natAbs}
+use Rattle.numbers.specs.Iff.{Iff}
 use Rattle.numbers.specs.Walk.{pick}
 use Rattle.numbers.proofs.SignLaws.{below-or}
-use Rattle.formats.specs.Format.{signMagnitude, isNegative, unit, limit, inFormat, placed, leastServing}
-use Rattle.formats.specs.Codes.{bias, ieeeFormat}
-use Rattle.formats.specs.Value.{Ieee, ieeeSign, ieeeExponent, ieeeFraction, isFinite, significand, ieeePower, ieeeValue}
+use Rattle.numbers.specs.SignMagnitude.{signMagnitude, isNegative}
+use Rattle.formats.specs.Format.{unit, limit, inFormat, placed, leastServing}
+use Rattle.formats.specs.Codes.{denominatorPower, bias, ieeeFormat}
+use Rattle.formats.specs.Value.{ieeeSign, ieeeExponent, ieeeFraction, isFinite, significand, ieeePower, ieeeValue}
 use Rattle.formats.specs.Words.{floatBits, floatOf, floatWord}
 use Rattle.formats.specs.declared.Placed.the-variants.{At, Nowhere}
 use Rattle.formats.specs.declared.Written.the-variants.{Word, Refused}
 use Rattle.numbers.proofs.Magnitudes.{neg-signed, abs-signed, signed-back, signed-zero}
 use Rattle.formats.proofs.PlacedLaws.{Value, Place, place-zero, placed-is, placed-some, placed-normal, placed-only, value-in-format}
-use Rattle.formats.proofs.IeeeLaws.{power-is}
-use Rattle.formats.proofs.WordLaws.{float-is, float-some}
+use Rattle.formats.proofs.FitLaws.{placed-zero}
+use Rattle.formats.proofs.WordLaws.{float-is}
 
 -- a word of sign, exponent and fraction
 abbrev pub fieldsOf : ℕ → ℕ → Bool → ℕ → ℕ → ℕ
@@ -128,32 +130,45 @@ module _ (x y : ℕ) where
       some : suc c ≡ 0 → ⊥
       some e = omega arith
 
+-- a finite word of the value
+pub record IeeeSays (x y : ℕ) (v : ℤ) (n : ℕ) : Type 0 where
+  pub fit : n < 2 ^ suc (x + y)
+  pub finite : isFinite x y n ≡ true
+  pub value : ieeeValue x y n ≡ v
+
 -- ## Values
 
-module _ (d x y : ℕ) (ok : Ieee d x y) where
-  base : ℕ
-  base = d + 1 - (bias x + y)
-
+-- from here on an exponent of two bits at least, and a last place that is a whole number over the denominator
+module _ (x y : ℕ) (two : 1 < x) (near : bias x + y ≤ denominatorPower + 1) where
   four : 2 ^ 2 ≤ 2 ^ x
-  four = pow-mono (ok .two)
+  four = pow-mono two
 
-  power-at : (e : ℕ) → d + pick (eqb e 0) 1 e - (bias x + y) ≡ d + 1 - (bias x + y) + 1 * (e - 1)
+  power-is : (d e b : ℕ) → b ≤ d + 1 → d + suc e - b ≡ d + 1 - b + 1 * (suc e - 1)
+  power-is d e b h = omega arith
+
+  power-at : (e : ℕ) → denominatorPower + pick (eqb e 0) 1 e - (bias x + y) ≡ ieeeFormat x y .base + 1 * (e - 1)
   power-at zero = omega arith
-  power-at (suc e) = rw (ne-eqb (suc e) 0 some) (power-is d (suc e) (bias x + y) (ok .near) some ∙ ap (λ (z : ℕ). d + 1 - (bias x + y) + z) (sym (one-mul (suc e - 1))))
+  power-at (suc e) = rw (ne-eqb (suc e) 0 some) (power-is denominatorPower e (bias x + y) near)
     where
       some : suc e ≡ 0 → ⊥
       some q = omega arith
 
   -- a word's value by characteristic and fraction
-  pub value-at : (n : ℕ) → ieeeValue x y n ≡ signMagnitude (ieeeSign x y n) (significand x y n * unit (ieeeFormat x y) (ieeeExponent x y n - 1))
+  value-at : (n : ℕ) → ieeeValue x y n ≡ signMagnitude (ieeeSign x y n) (significand x y n * unit (ieeeFormat x y) (ieeeExponent x y n - 1))
   value-at n = ap (λ (z : ℕ). signMagnitude (ieeeSign x y n) (significand x y n * 2 ^ z)) (power-at (ieeeExponent x y n))
 
-  significand-lt : (n : ℕ) → significand x y n < 2 ^ suc y
+  -- and by its fields
+  fields-value : (s : Bool) (e t : ℕ) → e < 2 ^ x → t < 2 ^ y → ieeeValue x y (fieldsOf x y s e t) ≡ signMagnitude s (pick (eqb e 0) t (2 ^ y + t) * unit (ieeeFormat x y) (e - 1))
+  fields-value s e t h l =
+      rw (exponent-of x y s e t h l, fraction-of x y s e t h l, sign-of x y s e t h l)
+      (ap (λ (z : ℕ). signMagnitude s (pick (eqb e 0) t (2 ^ y + t) * 2 ^ z)) (power-at e))
+
+  significand-lt : (n : ℕ) → significand x y n < 2 ^ (y + 1)
   significand-lt n = go (eqb (ieeeExponent x y n) 0) (mod-lt n (pow-pos y))
     where
-      go : (b : Bool) → n % 2 ^ y < 2 ^ y → pick b (n % 2 ^ y) (2 ^ y + n % 2 ^ y) < 2 ^ suc y
-      go true h = omega (arith, pow-suc 2 y)
-      go false h = omega (arith, pow-suc 2 y)
+      go : (b : Bool) → n % 2 ^ y < 2 ^ y → pick b (n % 2 ^ y) (2 ^ y + n % 2 ^ y) < 2 ^ (y + 1)
+      go true h = omega (arith, pow-add 2 y 1)
+      go false h = omega (arith, pow-add 2 y 1)
 
   significand-normal : (n : ℕ) → (ieeeExponent x y n - 1 ≡ 0) ⊎ (2 ^ y ≤ significand x y n)
   significand-normal n = go (ieeeExponent x y n)
@@ -168,8 +183,9 @@ module _ (d x y : ℕ) (ok : Ieee d x y) where
   char-lt : (n : ℕ) → isFinite x y n ≡ true → ieeeExponent x y n - 1 < 2 ^ x - 2
   char-lt n h = let k = ltb-true (ieeeExponent x y n) (2 ^ x - 1) h in omega (arith, k, four)
 
-  up-one : 2 ^ (y + 1) ≡ 2 ^ suc y
-  up-one = ap (λ (z : ℕ). 2 ^ z) (let e : y + 1 ≡ suc y = omega arith in e)
+  -- the hidden bit is the one above the fraction
+  hidden : (f : ℕ) → Iff (2 ^ y ≤ f) (2 ^ (y + 1 - 1) ≤ f)
+  hidden f = let e : y ≡ y + 1 - 1 = omega arith in (subst (λ (z : ℕ). 2 ^ z ≤ f) e, subst (λ (z : ℕ). 2 ^ z ≤ f) (sym e))
 
   -- LAW. The value of a finite word is one of the format's.
   pub ieee-value : (n : ℕ) → isFinite x y n ≡ true → Value (ieeeFormat x y) (ieeeValue x y n)
@@ -179,39 +195,63 @@ module _ (d x y : ℕ) (ok : Ieee d x y) where
         c = ieeeExponent x y n - 1;
         f = significand x y n;
         below = char-lt n h;
-        fits = omega (arith, significand-lt n, up-one);
+        fits = omega (arith, significand-lt n);
         is = value-at n;
       }
 
   -- and its place is that of its fields
-  pub ieee-place : (n : ℕ) → isFinite x y n ≡ true → placed (ieeeFormat x y) (ieeeValue x y n) ≡ At (ieeeExponent x y n - 1) (significand x y n)
+  ieee-place : (n : ℕ) → isFinite x y n ≡ true → placed (ieeeFormat x y) (ieeeValue x y n) ≡ At (ieeeExponent x y n - 1) (significand x y n)
   ieee-place n h =
-      placed-only (ieeeFormat x y) (ieeeValue x y n) (ieeeExponent x y n - 1) (significand x y n) refl (omega arith) (char-lt n h) (omega (arith, significand-lt n, up-one))
+      placed-only (ieeeFormat x y) (ieeeValue x y n) (ieeeExponent x y n - 1) (significand x y n) refl (omega arith) (char-lt n h) (significand-lt n)
       (ap natAbs (value-at n) ∙ abs-signed (ieeeSign x y n) (significand x y n * unit (ieeeFormat x y) (ieeeExponent x y n - 1)))
-      (⊎-elim (λ z. inl z) (λ (k : 2 ^ y ≤ significand x y n). inr (subst (λ (z : ℕ). 2 ^ z ≤ significand x y n) (let e : y ≡ y + 1 - 1 = omega arith in e) k)) (significand-normal n))
+      (⊎-elim (λ z. inl z) (λ k. inr (hidden (significand x y n) .0 k)) (significand-normal n))
 
-  abbrev bits : ℕ
-  bits = suc (x + y)
+  -- ## Zero
+
+  -- a word without a significand is a zero
+  no-fields : (n : ℕ) → significand x y n ≡ 0 → (ieeeExponent x y n ≡ 0) × (ieeeFraction y n ≡ 0)
+  no-fields n = go (ieeeExponent x y n)
+    where
+      go : (e : ℕ) → pick (eqb e 0) (n % 2 ^ y) (2 ^ y + n % 2 ^ y) ≡ 0 → (e ≡ 0) × (n % 2 ^ y ≡ 0)
+      go zero q = (refl, q)
+      go (suc e) q = absurd (none (rw (ne-eqb (suc e) 0 some) at q))
+        where
+          some : suc e ≡ 0 → ⊥
+          some q = omega arith
+
+          none : 2 ^ y + n % 2 ^ y ≡ 0 → ⊥
+          none q = omega (arith, pow-pos y)
+
+  -- of the two zeros one is minus zero
+  plus-zero : (n : ℕ) → n < 2 ^ suc (x + y) → (n ≡ 2 ^ (x + y) → ⊥) → significand x y n ≡ 0 → ieeeSign x y n ≡ false
+  plus-zero n h m q = go (ieeeSign x y n) refl
+    where
+      minus : fieldsOf x y true 0 0 ≡ 2 ^ (x + y)
+      minus = add-zero ((2 ^ x + 0) * 2 ^ y) ∙ ap (λ (z : ℕ). z * 2 ^ y) (add-zero (2 ^ x)) ∙ sym (pow-add 2 x y)
+
+      go : (b : Bool) → ieeeSign x y n ≡ b → ieeeSign x y n ≡ false
+      go false e = e
+      go true e =
+          let z = no-fields n q in
+          absurd (m (sym (fields-back x y n h) ∙ ap (λ (b : Bool). fieldsOf x y b (ieeeExponent x y n) (ieeeFraction y n)) e ∙ ap₂ (fieldsOf x y true) (z .0) (z .1) ∙ minus))
 
   -- the sign of a value is its word's, unless the word is minus zero
-  sign-is : (n : ℕ) → (ieeeValue x y n ≡ pos 0 → n ≡ 0) → isNegative (ieeeValue x y n) ≡ ieeeSign x y n
-  sign-is n z = go (significand x y n) refl
+  sign-is : (n : ℕ) → n < 2 ^ suc (x + y) → (n ≡ 2 ^ (x + y) → ⊥) → isNegative (ieeeValue x y n) ≡ ieeeSign x y n
+  sign-is n h m = go (significand x y n) refl
     where
       go : (a : ℕ) → significand x y n ≡ a → isNegative (ieeeValue x y n) ≡ ieeeSign x y n
-      go zero q =
-          let v : ieeeValue x y n ≡ pos 0 = ap (λ (a : ℕ). signMagnitude (ieeeSign x y n) (a * 2 ^ ieeePower x y n)) q ∙ ap (signMagnitude (ieeeSign x y n)) (zero-mul (2 ^ ieeePower x y n)) ∙ signed-zero (ieeeSign x y n) in
-          ap isNegative v ∙ sym (ap (ieeeSign x y) (z v) ∙ lt-leb (2 ^ (x + y)) 0 (pow-pos (x + y)))
+      go zero q = let s = plus-zero n h m q in ap (λ (b : Bool). isNegative (signMagnitude b (significand x y n * 2 ^ ieeePower x y n))) s ∙ sym s
       go (suc a) q = neg-signed (ieeeSign x y n) (significand x y n * 2 ^ ieeePower x y n) (mul-pos (let k : 0 < significand x y n = omega arith in k) (pow-pos (ieeePower x y n)))
 
-  -- LAW. Each finite word but minus zero is the word of its value: the value has no other.
-  pub ieee-word : (n : ℕ) → n < 2 ^ suc (x + y) → isFinite x y n ≡ true → (ieeeValue x y n ≡ pos 0 → n ≡ 0) → floatWord (ieeeFormat x y) (suc (x + y)) y (ieeeValue x y n) ≡ Word n
-  ieee-word n b h z =
-      let s = ieeeSign x y n in
+  -- ## Words
+
+  -- LAW. Each finite word but minus zero is the word of its value.
+  pub only-word : (n : ℕ) → n < 2 ^ suc (x + y) → isFinite x y n ≡ true → (n ≡ 2 ^ (x + y) → ⊥) → floatWord (ieeeFormat x y) (suc (x + y)) y (ieeeValue x y n) ≡ Word n
+  only-word n b h m =
       let e = ieeeExponent x y n in
-      let t = ieeeFraction y n in
       ap (floatOf (suc (x + y)) y (isNegative (ieeeValue x y n))) (ieee-place n h)
-      ∙ ap (λ (k : Bool). Word (floatBits (suc (x + y)) y k (e - 1) (significand x y n))) (sign-is n z)
-      ∙ ap (λ (k : ℕ). Word k) (sign-bit x y s e t (e - 1) (significand x y n) (carried e) ∙ fields-back x y n b)
+      ∙ ap (λ (k : Bool). Word (floatBits (suc (x + y)) y k (e - 1) (significand x y n))) (sign-is n b m)
+      ∙ ap (λ (k : ℕ). Word k) (sign-bit x y (ieeeSign x y n) e (ieeeFraction y n) (e - 1) (significand x y n) (carried e) ∙ fields-back x y n b)
     where
       carried : (e : ℕ) → e * 2 ^ y + n % 2 ^ y ≡ (e - 1) * 2 ^ y + pick (eqb e 0) (n % 2 ^ y) (2 ^ y + n % 2 ^ y)
       carried zero = refl
@@ -222,46 +262,53 @@ module _ (d x y : ℕ) (ok : Ieee d x y) where
           some : suc e ≡ 0 → ⊥
           some q = omega arith
 
-  -- LAW. The word that is written is finite, has the value, and is not minus zero.
-  pub record IeeeSays (v : ℤ) (n : ℕ) : Type 0 where
-    pub fit : n < 2 ^ suc (x + y)
-    pub finite : isFinite x y n ≡ true
-    pub value : ieeeValue x y n ≡ v
-    pub plus : v ≡ pos 0 → n ≡ 0
-
-  place-says : (v : ℤ) (c f : ℕ) → Place (ieeeFormat x y) v c f → IeeeSays v (floatBits (suc (x + y)) y (isNegative v) c f)
-  place-says v c f p =
+  place-says : (v : ℤ) (c f : ℕ) → Place (ieeeFormat x y) v c f → Fields x y (isNegative v) c f → IeeeSays x y v (floatBits (suc (x + y)) y (isNegative v) c f)
+  place-says v c f p r =
       let s = isNegative v in
-      let small : f < 2 ^ suc y = omega (arith, p .fits, up-one) in
-      let normal : (c ≡ 0) ⊎ (2 ^ y ≤ f) = ⊎-elim (λ z. inl z) (λ (k : 2 ^ (y + 1 - 1) ≤ f). inr (subst (λ (z : ℕ). 2 ^ z ≤ f) (let e : y + 1 - 1 ≡ y = omega arith in e) k)) (placed-normal (ieeeFormat x y) v c f (omega arith) p) in
-      let r = fields x y s c f (p .below) small normal in
-      let e = r .e in
-      let t = r .t in
-      let le : e < 2 ^ x = omega (arith, r .finite) in
-      let n = fieldsOf x y s e t in
-      let exp : ieeeExponent x y n ≡ e = exponent-of x y s e t le (r .small) in
-      let frac : ieeeFraction y n ≡ t = fraction-of x y s e t le (r .small) in
-      let sgn : ieeeSign x y n ≡ s = sign-of x y s e t le (r .small) in
-      let sig : significand x y n ≡ f = rw (exp, frac) (r .whole) in
-      let char : ieeeExponent x y n - 1 ≡ c = ap (λ (z : ℕ). z - 1) exp ∙ r .char in
-      subst (IeeeSays v) (sym (r .word))
+      let l : r .e < 2 ^ x = omega (arith, r .finite) in
+      rw (r .word)
       (record {
-        fit = fields-lt x y s e t le (r .small);
-        finite = rw exp (lt-ltb e (2 ^ x - 1) (r .finite));
-        value = value-at n ∙ ap (λ (b : Bool). signMagnitude b (significand x y n * unit (ieeeFormat x y) (ieeeExponent x y n - 1))) sgn ∙ ap₂ (λ (a b : ℕ). signMagnitude s (a * unit (ieeeFormat x y) b)) sig char ∙ ap (signMagnitude s) (sym (p .is)) ∙ signed-back v;
-        plus = λ z. sym (r .word) ∙ nil z;
+        fit = fields-lt x y s (r .e) (r .t) l (r .small);
+        finite = rw (exponent-of x y s (r .e) (r .t) l (r .small)) (lt-ltb (r .e) (2 ^ x - 1) (r .finite));
+        value =
+            fields-value s (r .e) (r .t) l (r .small) ∙ ap₂ (λ (a b : ℕ). signMagnitude s (a * unit (ieeeFormat x y) b)) (r .whole) (r .char)
+            ∙ ap (signMagnitude s) (sym (p .is)) ∙ signed-back v;
       })
+
+  -- LAW. The word that is written is finite, and has the value.
+  pub ieee-sound : (v : ℤ) (n : ℕ) → floatWord (ieeeFormat x y) (suc (x + y)) y v ≡ Word n → IeeeSays x y v n
+  ieee-sound v n h = let t = float-is (ieeeFormat x y) (suc (x + y)) y v n h in subst (IeeeSays x y v) (sym (t .3)) (go (t .0) (t .1) (t .2))
     where
-      nil : v ≡ pos 0 → floatBits (suc (x + y)) y (isNegative v) c f ≡ 0
-      nil z =
-          let o = place-zero (ieeeFormat x y) c f (subst (λ (w : ℤ). Place (ieeeFormat x y) w c f) z p) in
-          ap (λ (w : ℤ). floatBits (suc (x + y)) y (isNegative w) c f) z ∙ ap₂ (λ (a b : ℕ). 0 + (a * 2 ^ y + b)) (o .0) (o .1) ∙ omega (arith, zero-mul (2 ^ y))
+      go : (c f : ℕ) → Place (ieeeFormat x y) v c f → IeeeSays x y v (floatBits (suc (x + y)) y (isNegative v) c f)
+      go c f p =
+          let normal : (c ≡ 0) ⊎ (2 ^ y ≤ f) = ⊎-elim (λ z. inl z) (λ k. inr (hidden f .1 k)) (placed-normal (ieeeFormat x y) v c f (omega arith) p) in
+          place-says v c f p (fields x y (isNegative v) c f (p .below) (omega (arith, p .fits, pow-add 2 y 1, pow-suc 2 y)) normal)
 
-  pub ieee-sound : (v : ℤ) (n : ℕ) → floatWord (ieeeFormat x y) (suc (x + y)) y v ≡ Word n → IeeeSays v n
-  ieee-sound v n h =
-      let t = float-is (ieeeFormat x y) (suc (x + y)) y v n h in
-      subst (IeeeSays v) (sym (t .3)) (place-says v (t .0) (t .1) (t .2))
+-- ## Single precision
 
-  -- LAW. Every value of the format has a word.
-  pub ieee-complete : (v : ℤ) → inFormat (ieeeFormat x y) v ≡ true → (n : ℕ) × (floatWord (ieeeFormat x y) (suc (x + y)) y v ≡ Word n)
-  ieee-complete v h = float-some (ieeeFormat x y) (suc (x + y)) y v h
+-- the laws at the widths of code 5
+two : 1 < 8
+two = omega arith
+
+near : bias 8 + 23 ≤ denominatorPower + 1
+near = omega arith
+
+pub single-value : (n : ℕ) → isFinite 8 23 n ≡ true → Value (ieeeFormat 8 23) (ieeeValue 8 23 n)
+single-value = ieee-value 8 23 two near
+
+pub single-sound : (v : ℤ) (n : ℕ) → floatWord (ieeeFormat 8 23) 32 23 v ≡ Word n → IeeeSays 8 23 v n
+single-sound = ieee-sound 8 23 two near
+
+-- THEOREM. Code 5: each finite word but 80000000 is the word that is written of its value.
+pub ieee-only : (n : ℕ) → n < 2 ^ 32 → isFinite 8 23 n ≡ true → (n ≡ 2 ^ 31 → ⊥) → floatWord (ieeeFormat 8 23) 32 23 (ieeeValue 8 23 n) ≡ Word n
+ieee-only n h f m = only-word 8 23 two near n h f m
+
+-- THEOREM. Minus zero, 80000000, is zero, which is written 00000000.
+pub ieee-minus-zero : floatWord (ieeeFormat 8 23) 32 23 (ieeeValue 8 23 (2 ^ 31)) ≡ Word 0
+ieee-minus-zero = ap (floatOf 32 23 false) (placed-zero (ieeeFormat 8 23) (omega arith))
+
+-- THEOREM. No two finite words other than 80000000 have the same value.
+pub ieee-same : (n k : ℕ) → n < 2 ^ 32 → k < 2 ^ 32 → isFinite 8 23 n ≡ true → isFinite 8 23 k ≡ true → (n ≡ 2 ^ 31 → ⊥) → (k ≡ 2 ^ 31 → ⊥) → ieeeValue 8 23 n ≡ ieeeValue 8 23 k → n ≡ k
+ieee-same n k h l f g m o e =
+    let p = sym (ieee-only n h f m) ∙ ap (floatWord (ieeeFormat 8 23) 32 23) e ∙ ieee-only k l g o in
+    cc

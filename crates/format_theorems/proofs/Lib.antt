@@ -1,0 +1,2 @@
+-- The theorems about formats.
+pub mod IeeeWords
