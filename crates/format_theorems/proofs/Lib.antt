@@ -1,2 +1,3 @@
 -- The theorems about formats.
 pub mod IeeeWords
+pub mod OneFit
