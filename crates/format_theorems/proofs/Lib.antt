@@ -1,3 +1,4 @@
 -- The theorems about formats.
 pub mod IeeeWords
 pub mod OneFit
+pub mod NormalWords
