@@ -2,3 +2,4 @@
 pub mod IeeeWords
 pub mod OneFit
 pub mod NormalWords
+pub mod WordTheorems

@@ -20,8 +20,8 @@ use Rattle.numbers.proofs.Magnitudes.{signed-back, signed-mul}
 use Rattle.formats.specs.Format.{unit, limit, inFormat}
 use Rattle.formats.specs.Codes.{denominatorPower, sampleBytes, isCode, ibmFormat, wholeFormat, gainFormat, ieeeFormat, formatOf}
 use Rattle.formats.specs.Value.{signBit, characteristic, fraction, ibmValue, wholeValue, gainValue, gainOf, gainNumber, isFinite, valueIn, isBad, isWord}
-use Rattle.formats.specs.Words.{floatBits}
-use Rattle.formats.proofs.PlacedLaws.{Value, in-format-value, value-in-format}
+use Rattle.formats.specs.Words.{floatBits, gainFits}
+use Rattle.formats.proofs.PlacedLaws.{Value, serves-value, in-format-value, value-in-format}
 use Rattle.formats.proofs.CodeLaws.{Code, ibm, whole32, whole16, gain, ieee, whole8, code-is}
 use Rattle.formats.proofs.WordLaws.{float-some}
 use Rattle.format_theorems.specs.Statements.{HasWord}
@@ -117,17 +117,22 @@ gain-power g h = omega arith
 pub gain-value : (g : ℕ) (s : Bool) (f : ℕ) → g < 256 → gainValue g (signMagnitude s f) ≡ signMagnitude s (f * unit gainFormat (255 - g))
 gain-value g s f h = signed-mul s f (2 ^ (denominatorPower - g)) ∙ ap (λ (k : ℕ). signMagnitude s (f * 2 ^ k)) (gain-power g h)
 
-pub gain-in : (g d : ℕ) → g < 256 → d < 2 ^ 16 → Value gainFormat (gainValue g (signedOf 16 d))
-gain-in g d h l =
-    let z = signedOf 16 d in
-    record {
-      sign = isNegative z;
-      c = 255 - g;
-      f = natAbs z;
-      below = omega arith;
-      fits = few-abs 16 z (mag-signed 16 d (omega arith) l);
-      is = ap (gainValue g) (sym (signed-back z)) ∙ gain-value g (isNegative z) (natAbs z) h;
-    }
+-- a gain and a number of 16 bits
+module _ (g d : ℕ) (h : g < 256) (l : d < 2 ^ 16) where
+  abbrev z : ℤ
+  z = signedOf 16 d
+
+  few : natAbs z < limit gainFormat (isNegative z)
+  few = few-abs 16 z (mag-signed 16 d (omega arith) l)
+
+  is : gainValue g z ≡ signMagnitude (isNegative z) (natAbs z * unit gainFormat (255 - g))
+  is = ap (gainValue g) (sym (signed-back z)) ∙ gain-value g (isNegative z) (natAbs z) h
+
+  gain-in : Value gainFormat (gainValue g z)
+  gain-in = record { sign = isNegative z; c = 255 - g; f = natAbs z; below = omega arith; fits = few; is = is }
+
+  pub gain-serves : gainFits (gainValue g z) g ≡ true
+  gain-serves = rw is (serves-value gainFormat (isNegative z) (natAbs z) (255 - g) few)
 
 -- a word of a gain and a number of 16 bits
 pub record GainFields (g d n : ℕ) : Type 0 where
