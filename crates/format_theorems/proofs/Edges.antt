@@ -1,55 +1,40 @@
--- IEEE words at the edges, worked out by the definitions.
+-- # Words of codes 5 and 8 at the edges
+--
+-- Each line is computed by the definitions.
 use mathlib.Core.Path.{_≡_, refl}
-use mathlib.Core.Bool.{Bool, true, false}
-use Prim.Native.Nat.{ℕ, _+_, _-_, _*_, _^_}
-use lib.IntN.{ℤ, pos, negℤ}
-use Rattle.formats.specs.Format.{first, inFormat}
-use Rattle.formats.specs.Codes.{formatOf}
-use Rattle.formats.specs.Value.{isFinite, ieeeValue}
+use mathlib.Core.Bool.{true, false}
+use Prim.Native.Nat.{_+_, _-_, _*_, _^_}
+use lib.IntN.{pos, negℤ}
+use Rattle.numbers.specs.First.{first}
+use Rattle.formats.specs.Codes.{denominatorPower}
+use Rattle.formats.specs.Value.{wholeValue, valueIn, isWord}
 use Rattle.formats.specs.Words.{wordOf}
 use Rattle.formats.specs.declared.Written.the-variants.{Word, Refused}
 
--- 3F800000 is 1, and C1200000 is -10
-one : ieeeValue 280 8 23 1065353216 ≡ pos (2 ^ 280)
-one = refl
+-- THEOREM. Under code 5, 3F800000 is 1, C1200000 is -10, and both 00000000 and 80000000 are zero.
+pub ieee-numbers : (valueIn 5 0x3F80_0000 ≡ wholeValue (pos 1)) × (valueIn 5 0xC120_0000 ≡ wholeValue (negℤ (pos 10))) × (valueIn 5 0 ≡ pos 0) × (valueIn 5 0x8000_0000 ≡ pos 0)
+ieee-numbers = (refl, refl, refl, refl)
 
-minus-ten : ieeeValue 280 8 23 3240099840 ≡ negℤ (pos (10 * 2 ^ 280))
-minus-ten = refl
+-- THEOREM. The least subnormal number, 00000001, is 2 ^ -149, the largest, 007FFFFF, is (2 ^ 23 - 1) × 2 ^ -149; the least normal number,
+-- 00800000, is 2 ^ -126, the largest, 7F7FFFFF, is (2 ^ 24 - 1) × 2 ^ 104.
+pub ieee-ends : (valueIn 5 1 ≡ pos (2 ^ (denominatorPower - 149))) × (valueIn 5 0x007F_FFFF ≡ pos ((2 ^ 23 - 1) * 2 ^ (denominatorPower - 149)))
+    × (valueIn 5 0x0080_0000 ≡ pos (2 ^ (denominatorPower - 126))) × (valueIn 5 0x7F7F_FFFF ≡ pos ((2 ^ 24 - 1) * 2 ^ (denominatorPower + 104)))
+ieee-ends = (refl, refl, refl, refl)
 
--- 00000001, the least subnormal number, is 2 ^ -149; 80000000 is zero
-least : ieeeValue 280 8 23 1 ≡ pos (2 ^ 131)
-least = refl
+-- THEOREM. The infinities 7F800000 and FF800000, and 7FC00000, 7F800001 and FFFFFFFF, which are not numbers, are no words of code 5; 7F7FFFFF is one.
+pub ieee-others : (isWord 5 0x7F80_0000 ≡ false) × (isWord 5 0xFF80_0000 ≡ false) × (isWord 5 0x7FC0_0000 ≡ false) × (isWord 5 0x7F80_0001 ≡ false) × (isWord 5 0xFFFF_FFFF ≡ false)
+    × (isWord 5 0x7F7F_FFFF ≡ true)
+ieee-others = (refl, refl, refl, refl, refl, refl)
 
-minus-zero : ieeeValue 280 8 23 2147483648 ≡ pos 0
-minus-zero = refl
-
--- 7F7FFFFF is the largest number, 7F800000 infinity, 7FC00000 not a number
-largest : ieeeValue 280 8 23 2139095039 ≡ pos ((2 ^ 24 - 1) * 2 ^ (104 + 280))
-largest = refl
-
-infinity : isFinite 8 23 2139095040 ≡ false
-infinity = refl
-
-not-a-number : isFinite 8 23 2143289344 ≡ false
-not-a-number = refl
-
--- zero is written +0; 16,777,217 doesn't fit; -128 fits code 8 and 128 doesn't
-zero-word : wordOf 280 5 (pos 0) ≡ Word 0
+-- THEOREM. Zero is written 00000000; 2 ^ -149 is written 00000001, and half of it isn't; 16,777,215 is 4B7FFFFF, 16,777,217 isn't written, and
+-- neither is 2 ^ 128.
+pub ieee-written : (wordOf 5 (pos 0) ≡ Word 0) × (wordOf 5 (pos (2 ^ (denominatorPower - 149))) ≡ Word 1) × (wordOf 5 (pos (2 ^ (denominatorPower - 150))) ≡ Refused 14)
+    × (wordOf 5 (wholeValue (pos 16_777_215)) ≡ Word 0x4B7F_FFFF) × (wordOf 5 (wholeValue (pos 16_777_217)) ≡ Refused 14) × (wordOf 5 (pos (2 ^ (denominatorPower + 128))) ≡ Refused 14)
 unfolding first
-zero-word = refl
+ieee-written = (refl, refl, refl, refl, refl, refl)
 
-odd-25-bits : inFormat (formatOf 280 5) (pos (16777217 * 2 ^ 280)) ≡ false
+-- THEOREM. Under code 8, -128 is written 80 and 127 is 7F; 128, -129 and a half are not written.
+pub byte-written : (wordOf 8 (wholeValue (negℤ (pos 128))) ≡ Word 0x80) × (wordOf 8 (wholeValue (pos 127)) ≡ Word 0x7F) × (wordOf 8 (wholeValue (pos 128)) ≡ Refused 14)
+    × (wordOf 8 (wholeValue (negℤ (pos 129))) ≡ Refused 14) × (wordOf 8 (pos (2 ^ (denominatorPower - 1))) ≡ Refused 14)
 unfolding first
-odd-25-bits = refl
-
-lowest-byte : wordOf 280 8 (negℤ (pos (128 * 2 ^ 280))) ≡ Word 128
-unfolding first
-lowest-byte = refl
-
-above-byte : wordOf 280 8 (pos (128 * 2 ^ 280)) ≡ (Refused 14)
-unfolding first
-above-byte = refl
-
--- at the wider denominator, the least double is 1 over 2 ^ 1074
-least-double : ieeeValue 1074 11 52 1 ≡ pos 1
-least-double = refl
+byte-written = (refl, refl, refl, refl, refl)

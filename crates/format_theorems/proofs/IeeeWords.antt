@@ -1,46 +1,46 @@
 -- The words and the values of an IEEE format, at any widths: each finite word but minus zero is the word of its value. Assumes nothing.
 use mathlib.Core.Path.{_≡_, refl, sym, ap, ap₂, _∙_, subst}
 use mathlib.Core.Logic.{_⊎_, inl, inr, ⊎-elim}
-use mathlib.Core.Bool.{Bool, true, false, _&&_}
+use mathlib.Core.Bool.{Bool, true, false}
 use Prim.Native.Nat.{ℕ, zero, suc, _+_, _-_, _*_, _/_, _%_, _^_, _≤_, _<_}
-use native.Mathlib.Nat.{mul-pos, add-assoc, add-mul, mul-assoc, suc-mul, add-zero, zero-mul, one-mul, mul-one, mod-lt, mul-add-mod-self-right, mod-eq-of-lt, mul-le-mul-right, div-add-mod', pow-suc, zero-add, div-lt-iff-lt-mul, le-div-iff-mul-le, mod-eq-sub-mod}
+use native.Mathlib.Nat.{mul-pos, add-mul, suc-mul, add-zero, one-mul, mod-lt, mul-add-mod-self-right, mod-eq-of-lt, mul-le-mul-right, div-add-mod', pow-suc, zero-add, div-lt-iff-lt-mul, le-div-iff-mul-le, mod-eq-sub-mod}
 use native.Mathlib.Omega.{arith}
-use borrow.Author.Tests.{lt-ltb, le-ltb, le-leb, lt-leb, eq-eqb, ne-eqb, ltb-true, leb-true, leb-false}
-use lib.Dec.{T, leb, ltb, eqb}
+use borrow.Author.Tests.{lt-ltb, le-leb, lt-leb, ne-eqb, ltb-true}
+use lib.Dec.{leb, eqb}
 use lib.Pow.{pow-add, pow-pos, pow-mono, high, low}
-use lib.IntN.{ℤ, pos, negsuc, natAbs}
+use lib.IntN.{ℤ, natAbs}
 use Rattle.numbers.specs.Iff.{Iff}
 use Rattle.numbers.specs.Walk.{pick}
 use Rattle.numbers.proofs.SignLaws.{below-or}
 use Rattle.numbers.specs.SignMagnitude.{signMagnitude, isNegative}
-use Rattle.formats.specs.Format.{unit, limit, inFormat, placed, leastServing}
+use Rattle.formats.specs.Format.{unit, placed}
 use Rattle.formats.specs.Codes.{denominatorPower, bias, ieeeFormat}
 use Rattle.formats.specs.Value.{ieeeSign, ieeeExponent, ieeeFraction, isFinite, significand, ieeePower, ieeeValue}
 use Rattle.formats.specs.Words.{floatBits, floatOf, floatWord}
-use Rattle.formats.specs.declared.Placed.the-variants.{At, Nowhere}
-use Rattle.formats.specs.declared.Written.the-variants.{Word, Refused}
-use Rattle.numbers.proofs.Magnitudes.{neg-signed, abs-signed, signed-back, signed-zero}
-use Rattle.formats.proofs.PlacedLaws.{Value, Place, place-zero, placed-is, placed-some, placed-normal, placed-only, value-in-format}
+use Rattle.formats.specs.declared.Placed.the-variants.{At}
+use Rattle.formats.specs.declared.Written.the-variants.{Word}
+use Rattle.numbers.proofs.Magnitudes.{neg-signed, abs-signed, signed-back}
+use Rattle.formats.proofs.PlacedLaws.{Value, Place, placed-normal, placed-only}
 use Rattle.formats.proofs.FitLaws.{placed-zero}
 use Rattle.formats.proofs.WordLaws.{float-is}
 
 -- a word of sign, exponent and fraction
-abbrev pub fieldsOf : ℕ → ℕ → Bool → ℕ → ℕ → ℕ
+abbrev fieldsOf : ℕ → ℕ → Bool → ℕ → ℕ → ℕ
 fieldsOf x y s e t = (pick s (2 ^ x) 0 + e) * 2 ^ y + t
 
 module _ (x y : ℕ) where
   module _ (s : Bool) (e t : ℕ) (he : e < 2 ^ x) (ht : t < 2 ^ y) where
-    pub exponent-of : ieeeExponent x y (fieldsOf x y s e t) ≡ e
+    exponent-of : ieeeExponent x y (fieldsOf x y s e t) ≡ e
     exponent-of = ap (λ (z : ℕ). z % 2 ^ x) (high (pick s (2 ^ x) 0 + e) y ht) ∙ go s
       where
         go : (s : Bool) → (pick s (2 ^ x) 0 + e) % 2 ^ x ≡ e
         go true = ap (λ (z : ℕ). (z + e) % 2 ^ x) (sym (one-mul (2 ^ x))) ∙ mul-add-mod-self-right 1 (2 ^ x) e ∙ mod-eq-of-lt he
         go false = ap (λ (z : ℕ). z % 2 ^ x) (zero-add e) ∙ mod-eq-of-lt he
 
-    pub fraction-of : ieeeFraction y (fieldsOf x y s e t) ≡ t
+    fraction-of : ieeeFraction y (fieldsOf x y s e t) ≡ t
     fraction-of = low (pick s (2 ^ x) 0 + e) y ht
 
-    pub sign-of : ieeeSign x y (fieldsOf x y s e t) ≡ s
+    sign-of : ieeeSign x y (fieldsOf x y s e t) ≡ s
     sign-of = go s
       where
         go : (s : Bool) → leb (2 ^ (x + y)) (fieldsOf x y s e t) ≡ s
@@ -51,7 +51,7 @@ module _ (x y : ℕ) where
             let k : suc e * 2 ^ y ≤ 2 ^ x * 2 ^ y = mul-le-mul-right (2 ^ y) he in
             lt-leb (2 ^ (x + y)) (fieldsOf x y false e t) (let z : (0 + e) * 2 ^ y + t < 2 ^ (x + y) = rw (zero-add e) (omega (arith, k, pow-add 2 x y, suc-mul e (2 ^ y))) in z)
 
-    pub fields-lt : fieldsOf x y s e t < 2 ^ suc (x + y)
+    fields-lt : fieldsOf x y s e t < 2 ^ suc (x + y)
     fields-lt = go s
       where
         k : suc e * 2 ^ y ≤ 2 ^ x * 2 ^ y
@@ -66,7 +66,7 @@ module _ (x y : ℕ) where
             omega (arith, a, k, pow-add 2 x y, suc-mul e (2 ^ y), pow-suc 2 (x + y))
 
   -- any word is that of its fields
-  pub fields-back : (n : ℕ) → n < 2 ^ suc (x + y) → fieldsOf x y (ieeeSign x y n) (ieeeExponent x y n) (ieeeFraction y n) ≡ n
+  fields-back : (n : ℕ) → n < 2 ^ suc (x + y) → fieldsOf x y (ieeeSign x y n) (ieeeExponent x y n) (ieeeFraction y n) ≡ n
   fields-back n h = ap (λ (z : ℕ). z * 2 ^ y + n % 2 ^ y) upper ∙ div-add-mod' n (2 ^ y)
     where
       q : ℕ
@@ -89,16 +89,16 @@ module _ (x y : ℕ) where
 
   -- ## The word of a normal place
 
-  pub record Fields (s : Bool) (c f : ℕ) : Type 0 where
-    pub e : ℕ
-    pub t : ℕ
-    pub finite : e < 2 ^ x - 1
-    pub small : t < 2 ^ y
-    pub word : floatBits (suc (x + y)) y s c f ≡ fieldsOf x y s e t
-    pub char : e - 1 ≡ c
-    pub whole : pick (eqb e 0) t (2 ^ y + t) ≡ f
+  record Fields (s : Bool) (c f : ℕ) : Type 0 where
+    e : ℕ
+    t : ℕ
+    finite : e < 2 ^ x - 1
+    small : t < 2 ^ y
+    word : floatBits (suc (x + y)) y s c f ≡ fieldsOf x y s e t
+    char : e - 1 ≡ c
+    whole : pick (eqb e 0) t (2 ^ y + t) ≡ f
 
-  pub sign-bit : (s : Bool) (e t c f : ℕ) → e * 2 ^ y + t ≡ c * 2 ^ y + f → floatBits (suc (x + y)) y s c f ≡ fieldsOf x y s e t
+  sign-bit : (s : Bool) (e t c f : ℕ) → e * 2 ^ y + t ≡ c * 2 ^ y + f → floatBits (suc (x + y)) y s c f ≡ fieldsOf x y s e t
   sign-bit true e t c f q =
       let p : 2 ^ (suc (x + y) - 1) ≡ 2 ^ x * 2 ^ y = ap (λ (z : ℕ). 2 ^ z) (let w : suc (x + y) - 1 ≡ x + y = omega arith in w) ∙ pow-add 2 x y in
       omega (arith, p, q, add-mul (2 ^ x) e (2 ^ y))
@@ -106,7 +106,7 @@ module _ (x y : ℕ) where
       let z : (0 + e) * 2 ^ y ≡ e * 2 ^ y = ap (λ (w : ℕ). w * 2 ^ y) (zero-add e) in
       omega (arith, q, z)
 
-  pub fields : (s : Bool) (c f : ℕ) → c < 2 ^ x - 2 → f < 2 ^ suc y → (c ≡ 0) ⊎ (2 ^ y ≤ f) → Fields s c f
+  fields : (s : Bool) (c f : ℕ) → c < 2 ^ x - 2 → f < 2 ^ suc y → (c ≡ 0) ⊎ (2 ^ y ≤ f) → Fields s c f
   fields s c f h b n =
       ⊎-elim
       (λ (l : f < 2 ^ y).

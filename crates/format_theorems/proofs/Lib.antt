@@ -3,3 +3,4 @@ pub mod IeeeWords
 pub mod OneFit
 pub mod NormalWords
 pub mod WordTheorems
+pub mod Edges

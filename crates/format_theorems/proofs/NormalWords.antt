@@ -4,11 +4,11 @@
 use mathlib.Core.Path.{_≡_, refl, sym, ap, ap₂, _∙_, subst}
 use mathlib.Core.Logic.{_⊎_, inl, inr, ⊎-elim}
 use mathlib.Core.Bool.{Bool, true, false, not, _||_}
-use Prim.Native.Nat.{ℕ, zero, suc, _+_, _-_, _*_, _/_, _%_, _^_, _≤_, _<_}
+use Prim.Native.Nat.{ℕ, _*_, _^_, _≤_, _<_}
 use native.Mathlib.Nat.{zero-mul}
 use native.Mathlib.Omega.{arith}
 use borrow.Author.Tests.{lt-leb, le-leb, eqb-true, eqb-false, eq-eqb, ne-eqb}
-use lib.Dec.{T, eqb}
+use lib.Dec.{eqb}
 use lib.IntN.{ℤ, pos, natAbs}
 use Rattle.numbers.specs.Iff.{Iff}
 use Rattle.numbers.specs.Walk.{pick}
@@ -22,7 +22,6 @@ use Rattle.formats.specs.Value.{signBit, characteristic, fraction, ibmValue}
 use Rattle.formats.specs.Words.{floatBits, floatOf, firstDigit, isNormal, ibmWord, Writes}
 use Rattle.formats.specs.declared.Placed.the-variants.{At}
 use Rattle.formats.specs.declared.Written.the-variants.{Word}
-use Rattle.formats.proofs.FitLaws.{placed-zero}
 use Rattle.formats.proofs.PlacedLaws.{Place, placed-normal, placed-only, place-zero, value-in-format}
 use Rattle.formats.proofs.WordLaws.{float-is, float-some}
 use Rattle.formats.proofs.NormalLaws.{abs-value, zero-fraction, large, normal-tests}

@@ -2,13 +2,13 @@
 --
 -- For each of the six codes, a value is in the code's format just when some word of the code has it.
 use mathlib.Core.Path.{_≡_, refl, sym, ap, _∙_, subst}
-use mathlib.Core.Bool.{Bool, true, false, not, _&&_}
-use Prim.Native.Nat.{ℕ, zero, suc, _+_, _-_, _*_, _/_, _%_, _^_, _≤_, _<_}
+use mathlib.Core.Bool.{Bool, true, false, not}
+use Prim.Native.Nat.{ℕ, zero, suc, _+_, _-_, _*_, _^_, _<_}
 use native.Mathlib.Omega.{arith}
 use borrow.Author.Tests.{lt-ltb, le-leb, lt-leb, ltb-true, not-true, not-false}
-use lib.Dec.{leb, ltb}
+use lib.Dec.{ltb}
 use lib.Pow.{pow-pos}
-use lib.IntN.{ℤ, pos, negsuc, natAbs, _*ℤ_}
+use lib.IntN.{ℤ, pos, negsuc, natAbs}
 use lib.Signed.{mag}
 use Rattle.numbers.specs.Iff.{Iff}
 use Rattle.numbers.specs.Walk.{pick}
@@ -91,7 +91,7 @@ whole-power c h = omega arith
 pub whole-value : (s : Bool) (f c : ℕ) → c < 1 → wholeValue (signMagnitude s f) ≡ signMagnitude s (f * 2 ^ (denominatorPower + 1 * c))
 whole-value s f c h = signed-mul s f (2 ^ denominatorPower) ∙ ap (λ (k : ℕ). signMagnitude s (f * 2 ^ k)) (whole-power c h)
 
-pub whole-in : (w n : ℕ) → 0 < w → n < 2 ^ w → Value (wholeFormat w) (wholeValue (signedOf w n))
+whole-in : (w n : ℕ) → 0 < w → n < 2 ^ w → Value (wholeFormat w) (wholeValue (signedOf w n))
 whole-in w n p h =
     let z = signedOf w n in
     record {

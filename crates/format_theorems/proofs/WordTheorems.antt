@@ -28,7 +28,6 @@ use Rattle.formats.specs.declared.Written.the-variants.{Word, Refused}
 use Rattle.formats.proofs.PlacedLaws.{Place, served, value-in-format, placed-is, placed-some}
 use Rattle.formats.proofs.WordLaws.{float-some}
 use Rattle.formats.proofs.CodeLaws.{Code, ibm, whole32, whole16, gain, ieee, whole8, code-is}
-use Rattle.format_theorems.specs.Statements.{HasWord}
 use Rattle.format_theorems.proofs.IeeeWords.{single-sound}
 use Rattle.format_theorems.proofs.OneFit.{good-word, bits-of, whole-value, gain-value, gain-serves, gain-fields, gain-word-value, gain-good, ieee-good, word-in, one-fit}
 use Rattle.format_theorems.proofs.NormalWords.{normal-written}
