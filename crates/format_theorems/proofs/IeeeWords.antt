@@ -1,4 +1,7 @@
--- The words and the values of an IEEE format, at any widths: each finite word but minus zero is the word of its value. Assumes nothing.
+-- # Code 5: the word of a value
+--
+-- The words and the values of an IEEE format, at any widths and then at those of single precision: each finite word but minus zero is the
+-- word of its value.
 use mathlib.Core.Path.{_≡_, refl, sym, ap, ap₂, _∙_, subst}
 use mathlib.Core.Logic.{_⊎_, inl, inr, ⊎-elim}
 use mathlib.Core.Bool.{Bool, true, false}
@@ -30,6 +33,7 @@ fieldsOf x y s e t = (pick s (2 ^ x) 0 + e) * 2 ^ y + t
 
 module _ (x y : ℕ) where
   module _ (s : Bool) (e t : ℕ) (he : e < 2 ^ x) (ht : t < 2 ^ y) where
+    -- its fields again
     exponent-of : ieeeExponent x y (fieldsOf x y s e t) ≡ e
     exponent-of = ap (λ (z : ℕ). z % 2 ^ x) (high (pick s (2 ^ x) 0 + e) y ht) ∙ go s
       where
@@ -51,6 +55,7 @@ module _ (x y : ℕ) where
             let k : suc e * 2 ^ y ≤ 2 ^ x * 2 ^ y = mul-le-mul-right (2 ^ y) he in
             lt-leb (2 ^ (x + y)) (fieldsOf x y false e t) (let z : (0 + e) * 2 ^ y + t < 2 ^ (x + y) = rw (zero-add e) (omega (arith, k, pow-add 2 x y, suc-mul e (2 ^ y))) in z)
 
+    -- and its width
     fields-lt : fieldsOf x y s e t < 2 ^ suc (x + y)
     fields-lt = go s
       where
@@ -89,6 +94,7 @@ module _ (x y : ℕ) where
 
   -- ## The word of a normal place
 
+  -- the fields of the word of a place
   record Fields (s : Bool) (c f : ℕ) : Type 0 where
     e : ℕ
     t : ℕ
@@ -98,6 +104,7 @@ module _ (x y : ℕ) where
     char : e - 1 ≡ c
     whole : pick (eqb e 0) t (2 ^ y + t) ≡ f
 
+  -- the sign stands above the rest
   sign-bit : (s : Bool) (e t c f : ℕ) → e * 2 ^ y + t ≡ c * 2 ^ y + f → floatBits (suc (x + y)) y s c f ≡ fieldsOf x y s e t
   sign-bit true e t c f q =
       let p : 2 ^ (suc (x + y) - 1) ≡ 2 ^ x * 2 ^ y = ap (λ (z : ℕ). 2 ^ z) (let w : suc (x + y) - 1 ≡ x + y = omega arith in w) ∙ pow-add 2 x y in
@@ -106,6 +113,7 @@ module _ (x y : ℕ) where
       let z : (0 + e) * 2 ^ y ≡ e * 2 ^ y = ap (λ (w : ℕ). w * 2 ^ y) (zero-add e) in
       omega (arith, q, z)
 
+  -- a normal place has fields: a subnormal number its fraction, any other the hidden bit besides
   fields : (s : Bool) (c f : ℕ) → c < 2 ^ x - 2 → f < 2 ^ suc y → (c ≡ 0) ⊎ (2 ^ y ≤ f) → Fields s c f
   fields s c f h b n =
       ⊎-elim
@@ -143,6 +151,7 @@ module _ (x y : ℕ) (two : 1 < x) (near : bias x + y ≤ denominatorPower + 1) 
   four : 2 ^ 2 ≤ 2 ^ x
   four = pow-mono two
 
+  -- what the last place is worth
   power-is : (d e b : ℕ) → b ≤ d + 1 → d + suc e - b ≡ d + 1 - b + 1 * (suc e - 1)
   power-is d e b h = omega arith
 
@@ -163,6 +172,7 @@ module _ (x y : ℕ) (two : 1 < x) (near : bias x + y ≤ denominatorPower + 1) 
       rw (exponent-of x y s e t h l, fraction-of x y s e t h l, sign-of x y s e t h l)
       (ap (λ (z : ℕ). signMagnitude s (pick (eqb e 0) t (2 ^ y + t) * 2 ^ z)) (power-at e))
 
+  -- the significand is a fraction of the format, and a normal one
   significand-lt : (n : ℕ) → significand x y n < 2 ^ (y + 1)
   significand-lt n = go (eqb (ieeeExponent x y n) 0) (mod-lt n (pow-pos y))
     where
@@ -180,6 +190,7 @@ module _ (x y : ℕ) (two : 1 < x) (near : bias x + y ≤ denominatorPower + 1) 
           some : suc e ≡ 0 → ⊥
           some q = omega arith
 
+  -- a finite word has a characteristic of the format
   char-lt : (n : ℕ) → isFinite x y n ≡ true → ieeeExponent x y n - 1 < 2 ^ x - 2
   char-lt n h = let k = ltb-true (ieeeExponent x y n) (2 ^ x - 1) h in omega (arith, k, four)
 
@@ -262,6 +273,7 @@ module _ (x y : ℕ) (two : 1 < x) (near : bias x + y ≤ denominatorPower + 1) 
           some : suc e ≡ 0 → ⊥
           some q = omega arith
 
+  -- the word of a place has the value
   place-says : (v : ℤ) (c f : ℕ) → Place (ieeeFormat x y) v c f → Fields x y (isNegative v) c f → IeeeSays x y v (floatBits (suc (x + y)) y (isNegative v) c f)
   place-says v c f p r =
       let s = isNegative v in

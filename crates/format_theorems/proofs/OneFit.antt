@@ -47,9 +47,11 @@ pub ibm-fields : (s : Bool) (c f : ℕ) → c < 128 → f < 2 ^ 24 → IbmFields
 ibm-fields true c f h l = record { fit = omega arith; sign = le-leb (2 ^ 31) (2 ^ 31 + (c * 2 ^ 24 + f)) (omega arith); middle = omega arith; low = omega arith }
 ibm-fields false c f h l = record { fit = omega arith; sign = lt-leb (2 ^ 31) (0 + (c * 2 ^ 24 + f)) (omega arith); middle = omega arith; low = omega arith }
 
+-- the value of its parts
 pub ibm-value : (s : Bool) (c f : ℕ) → c < 128 → f < 2 ^ 24 → ibmValue (floatBits 32 24 s c f) ≡ signMagnitude s (f * unit ibmFormat c)
 ibm-value s c f h l = let p = ibm-fields s c f h l in rw (p .sign, p .middle, p .low)
 
+-- a value of the format has a word, and a word has one of its values
 ibm-has : (v : ℤ) → Value ibmFormat v → HasWord 1 v
 ibm-has v t =
     let small : t .f < 2 ^ 24 = omega (arith, t .fits) in
@@ -91,6 +93,7 @@ whole-power c h = omega arith
 pub whole-value : (s : Bool) (f c : ℕ) → c < 1 → wholeValue (signMagnitude s f) ≡ signMagnitude s (f * 2 ^ (denominatorPower + 1 * c))
 whole-value s f c h = signed-mul s f (2 ^ denominatorPower) ∙ ap (λ (k : ℕ). signMagnitude s (f * 2 ^ k)) (whole-power c h)
 
+-- a word has a value of the format, and such a value has a word
 whole-in : (w n : ℕ) → 0 < w → n < 2 ^ w → Value (wholeFormat w) (wholeValue (signedOf w n))
 whole-in w n p h =
     let z = signedOf w n in
@@ -122,6 +125,7 @@ module _ (g d : ℕ) (h : g < 256) (l : d < 2 ^ 16) where
   abbrev z : ℤ
   z = signedOf 16 d
 
+  -- its value is one of the format's, and the gain serves it
   few : natAbs z < limit gainFormat (isNegative z)
   few = few-abs 16 z (mag-signed 16 d (omega arith) l)
 
@@ -146,9 +150,11 @@ gain-fields g d h l = record { fit = omega arith; gain = omega arith; low = omeg
 pub gain-word-value : (g d : ℕ) → g < 256 → d < 2 ^ 16 → valueIn 4 (g * 2 ^ 16 + d) ≡ gainValue g (signedOf 16 d)
 gain-word-value g d h l = let p = gain-fields g d h l in rw (p .gain, p .low)
 
+-- it is a word of code 4
 pub gain-good : (n : ℕ) → n < 2 ^ 24 → isWord 4 n ≡ true
 gain-good n h = good-word 4 n (omega arith) (rw (lt-ltb n (2 ^ 24) h))
 
+-- and a value of the format has one
 gain-has : (v : ℤ) → Value gainFormat v → HasWord 4 v
 gain-has v t =
     let g = 255 - t .c in
@@ -164,6 +170,7 @@ gain-has v t =
 
 -- ## Code 5
 
+-- a finite word is one of code 5, and a value of the format has one
 pub ieee-good : (n : ℕ) → n < 2 ^ 32 → isFinite 8 23 n ≡ true → isWord 5 n ≡ true
 ieee-good n h f = good-word 5 n h (rw f)
 

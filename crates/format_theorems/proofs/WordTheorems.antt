@@ -25,15 +25,12 @@ use Rattle.formats.specs.Words.{wholeOf, wholeWord, gainFits, gainWord, wordOf,
 use Rattle.formats.specs.declared.Placed.{Placed}
 use Rattle.formats.specs.declared.Placed.the-variants.{At, Nowhere}
 use Rattle.formats.specs.declared.Written.the-variants.{Word, Refused}
-use Rattle.formats.proofs.PlacedLaws.{Place, served, value-in-format, placed-is, placed-some}
+use Rattle.formats.proofs.PlacedLaws.{no-zero-one, Place, served, value-in-format, placed-is, placed-some}
 use Rattle.formats.proofs.WordLaws.{float-some}
 use Rattle.formats.proofs.CodeLaws.{Code, ibm, whole32, whole16, gain, ieee, whole8, code-is}
 use Rattle.format_theorems.proofs.IeeeWords.{single-sound}
 use Rattle.format_theorems.proofs.OneFit.{good-word, bits-of, whole-value, gain-value, gain-serves, gain-fields, gain-word-value, gain-good, ieee-good, word-in, one-fit}
 use Rattle.format_theorems.proofs.NormalWords.{normal-written}
-
-no-zero-one : _≡_ {A = ℕ} 0 1 → ⊥
-no-zero-one q = omega arith
 
 -- ## Codes 2, 3 and 8
 
@@ -45,6 +42,7 @@ whole-is w v n h = go (placed (wholeFormat w) v) refl h
     go (At c f) e q = let i : n ≡ bitsOf w (signMagnitude (isNegative v) f) = cc in (c, f, placed-is (wholeFormat w) v c f e, i)
     go Nowhere e q = let z : _≡_ {A = ℕ} 0 1 = cc in absurd (no-zero-one z)
 
+-- it has the value
 whole-says : (w : ℕ) (v : ℤ) (n : ℕ) → 0 < w → wholeWord w v ≡ Word n → (n < 2 ^ w) × (wholeValue (signedOf w n) ≡ v)
 whole-says w v n h e =
     let t = whole-is w v n e in
@@ -53,6 +51,7 @@ whole-says w v n h e =
     let b = bits-of w s (t .1) h (p .fits) in
     (rw (t .3) (b .fit), ap (λ (k : ℕ). wholeValue (signedOf w k)) (t .3) ∙ ap wholeValue (b .back) ∙ whole-value s (t .1) (t .0) (p .below) ∙ ap (signMagnitude s) (sym (p .is)) ∙ signed-back v)
 
+-- and a value of the format is written
 whole-some : (w : ℕ) (v : ℤ) → inFormat (wholeFormat w) v ≡ true → Writes (wholeWord w v)
 whole-some w v e = (bitsOf w (signMagnitude (isNegative v) (natAbs v / unit (wholeFormat w) (leastServing (wholeFormat w) v))), ap (wholeOf w (isNegative v)) (placed-some (wholeFormat w) v e))
 
@@ -77,6 +76,7 @@ module _ (v : ℤ) where
       go true h q = let i : n ≡ least * 2 ^ 16 + bits = cc in (ltb-true least 256 h, i)
       go false h q = let z : _≡_ {A = ℕ} 0 1 = cc in absurd (no-zero-one z)
 
+  -- it has the value
   gain-says : (n : ℕ) → gainWord v ≡ Word n → (n < 2 ^ 24) × (gainOf n ≡ least) × (valueIn 4 n ≡ v)
   gain-says n e =
       let t = gain-is n e in
@@ -94,6 +94,7 @@ module _ (v : ℤ) where
   gain-found : (k : ℕ) → gainFits v k ≡ true → least ≤ k
   gain-found k e = first-le (gainFits v) 256 0 k (omega arith) e
 
+  -- so a value of the format is written
   gain-some : inFormat gainFormat v ≡ true → Writes (gainWord v)
   gain-some h =
       let c = leastServing gainFormat v in

@@ -21,7 +21,8 @@ use Rattle.formats.proofs.Powers.{whole}
 use Rattle.numbers.proofs.Magnitudes.{neg-signed, abs-signed, signed-back, signed-zero}
 use Rattle.formats.proofs.FitLaws.{zero-fits}
 
-no-zero-one : _≡_ {A = ℕ} 0 1 → ⊥
+-- two variants are not the same
+pub no-zero-one : _≡_ {A = ℕ} 0 1 → ⊥
 no-zero-one q = omega arith
 
 module _ (x : Format) where
