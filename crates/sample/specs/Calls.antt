@@ -1,10 +1,11 @@
 -- The single-sample calls: the complete outcome of each.
-use Prim.Native.Nat.{ℕ}
-use mathlib.Core.List.{List, [], _∷_}
+use Prim.Native.Nat.{ℕ, _-_}
+use mathlib.Core.List.{List, [], _∷_, _++_}
 use lib.ListN.{replicate}
 use Rattle.numbers.specs.BigEndian.{bytesOf}
 use Rattle.numbers.specs.Places.{placeNo}
 use Rattle.numbers.specs.Outcome.{Said, taken, refused, Outcome}
+use Rattle.formats.specs.Codes.{sampleBytes, wordLength}
 use Rattle.value.specs.Pair.{pairLength, pairBytes, pairIn}
 use Rattle.value.specs.Writing.{writePair}
 use Rattle.formats.specs.declared.Written.{Written}
@@ -46,11 +47,15 @@ readSaid count (sample.Refused number) = record { said = refused number 0; bytes
 abbrev pub wordOutcome : ℕ → List ℕ → Outcome
 wordOutcome code w = readSaid (notNormal code w) (readWord code w)
 
--- The outcome of writing a pair, by what was found.
-abbrev pub writeSaid : Written → Outcome
-writeSaid (written.Word n) = record { said = taken []; bytes = bytesOf 4 n }
-writeSaid (written.Refused number) = record { said = refused number 0; bytes = replicate 4 0 }
+-- A word in the four bytes of a single word: as many as a sample of the code has, then 00.
+abbrev pub singleWord : ℕ → ℕ → List ℕ
+singleWord code n = bytesOf (sampleBytes code) n ++ replicate (wordLength - sampleBytes code) 0
+
+-- The outcome of writing a pair under a code, by what was found.
+abbrev pub writeSaid : ℕ → Written → Outcome
+writeSaid code (written.Word n) = record { said = taken []; bytes = singleWord code n }
+writeSaid code (written.Refused number) = record { said = refused number 0; bytes = replicate wordLength 0 }
 
 -- The outcome of writing a single pair under a code.
 abbrev pub pairOutcome : ℕ → List ℕ → Outcome
-pairOutcome code b = writeSaid (writePair code (pairIn b))
+pairOutcome code b = writeSaid code (writePair code (pairIn b))

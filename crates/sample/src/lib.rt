@@ -1,4 +1,4 @@
-// Single samples: the canonical pair of a word under codes 1 to 4, and the two calls.
+// Single samples: the canonical pair of a word under a code, and the two calls.
 ghost use mathlib.Core.Path.{_≡_};
 ghost use mathlib.Core.List.{[], _∷_};
 ghost use Prim.Native.Nat.{_+_, _*_, _/_, _%_, _^_, _<_, _≤_};
@@ -7,16 +7,17 @@ ghost use lib.IntN.{pos, natAbs, subℕ};
 ghost use Rattle.numbers.specs.Walk.{pick};
 ghost use Rattle.numbers.specs.Places.{placeNo};
 ghost use Rattle.numbers.specs.TwosComplement.{signedOf};
-ghost use Rattle.formats.specs.Codes.{denominatorPower};
-ghost use Rattle.formats.specs.Value.{fraction, ibmValue, wholeValue, gainValue};
 ghost use Rattle.numbers.specs.SignMagnitude.{signMagnitude};
-ghost use Rattle.value.specs.Pair.{pairBytes};
+ghost use Rattle.formats.specs.Codes.{denominatorPower};
+ghost use Rattle.formats.specs.Value.{fraction, ibmValue, wholeValue, gainValue, ieeeExponent, ieeeFraction, ieeeValue, isBad};
 ghost use Rattle.formats.specs.Words.{isNormal};
+ghost use Rattle.value.specs.Pair.{pairBytes};
 ghost use Rattle.sample.specs.Reading.{pairTaken, notNormal, readWord};
-ghost use Rattle.sample.specs.Calls.{wordRead, pairWritten, wordOutcome, pairOutcome};
+ghost use Rattle.sample.specs.declared.Sample.the-variants.{Refused};
+ghost use Rattle.sample.specs.Calls.{singleWord, wordRead, pairWritten, wordOutcome, pairOutcome};
+use formats::DENOMINATOR_POWER;
+use formats::Written;
 use numbers::Place;
-use value::DENOMINATOR_POWER;
-use value::Written;
 
 // What reading a word finds: the numbers e and m of its canonical pair, or the number of the refusal.
 pub enum Sample {
@@ -52,6 +53,13 @@ pub struct PairWritten {
 const BAD_CODE: u8 = 2;
 
 const BAD_GAIN: u8 = 9;
+
+const NOT_FINITE: u8 = 19;
+
+// The power of two that the last place of a fraction is worth beside C = 0, and beside E = 0 less one step.
+const IBM_BASE: u32 = DENOMINATOR_POWER - (4 * 64 + 24);
+
+const IEEE_BASE: u32 = DENOMINATOR_POWER - (127 + 23);
 
 // ## Reading
 
@@ -111,7 +119,11 @@ fn fraction_of(n: u32) -> u32
 pub fn ibm_parts(first: u8, rest: u32) -> Sample
     ensures { λ r. ⌜ r ≡ pairTaken (ibmValue (first * 2 ^ 24 + rest % 2 ^ 24)) ⌝ }
 {
-    canonical(0x80 <= first, fraction_of(rest), first as u32 * 4 % 512)
+    canonical(
+        0x80 <= first,
+        fraction_of(rest),
+        IBM_BASE + first as u32 * 4 % 512,
+    )
 }
 
 // The same by the whole word.
@@ -146,6 +158,24 @@ pub fn whole16(n: u16) -> Sample
     canonical(0x8000 <= n, magnitude16(n) as u32, DENOMINATOR_POWER)
 }
 
+// The 16 bits of a number of 8 bits, with its sign.
+pub fn extended(n: u8) -> u16
+    ensures { λ r. ⌜ signedOf 16 r ≡ signedOf 8 n ⌝ }
+{
+    if 0x80 <= n {
+        0xff00 + n as u16
+    } else {
+        n as u16
+    }
+}
+
+// Code 8: the pair of an 8-bit number.
+pub fn whole8(n: u8) -> Sample
+    ensures { λ r. ⌜ r ≡ pairTaken (wholeValue (signedOf 8 n)) ⌝ }
+{
+    whole16(extended(n))
+}
+
 // Code 4: the pair of d / 2^g, by the gain g and the 16 bits of d.
 pub fn gain_number(g: u8, d: u16) -> Sample
     ensures { λ r. ⌜ r ≡ pairTaken (gainValue g (signedOf 16 d)) ⌝ }
@@ -167,6 +197,67 @@ pub fn gain(first: u8, g: u8, high: u8, low: u8) -> Sample
     gain_number(g, numbers::be16(high, low))
 }
 
+// Whether a word of four bytes has no value under a code: under code 4 its first byte isn't 00, under code 5 it is an infinity or a
+// not-a-number, whose exponent is all ones. The tests are not of equality, which the compiler would make a switch of.
+pub fn is_bad(code: u32, n: u32) -> bool
+    ensures { λ r. ⌜ r ≡ isBad code n ⌝ }
+{
+    if code < 4 {
+        return false;
+    }
+    if code < 5 {
+        return 0x100_0000 <= n;
+    }
+    if code < 6 {
+        return 0x7f80_0000 <= n % 0x8000_0000;
+    }
+    false
+}
+
+// The exponent E of an IEEE single word.
+fn ieee_exponent(n: u32) -> u32
+    ensures { λ r. ⌜ (r ≡ ieeeExponent 8 23 n) × (r < 256) ⌝ }
+{
+    n / 0x80_0000 % 256
+}
+
+// Its significand, by the exponent: with the hidden bit, which a subnormal number hasn't.
+fn significand_of(e: u32, n: u32) -> u32
+    ensures { λ r. ⌜ (r ≡ pick (eqb e 0) (ieeeFraction 23 n) (2 ^ 23 + ieeeFraction 23 n)) × (r < 2 ^ 24) ⌝ }
+{
+    let t = n % 0x80_0000;
+    if e == 0 { t } else { 0x80_0000 + t }
+}
+
+// The exponent by which its last place is counted: a subnormal number's is that of the least normal ones.
+fn counted_exponent(e: u32) -> u32
+    ensures { λ r. ⌜ (r ≡ pick (eqb e 0) 1 e) × (r ≤ e + 1) ⌝ }
+{
+    if e == 0 { 1 } else { e }
+}
+
+// Code 5: the pair of an IEEE single word that is finite. Of one that isn't, it is the pair of what the same rule gives.
+pub fn ieee_number(n: u32) -> Sample
+    ensures { λ r. ⌜ r ≡ pairTaken (ieeeValue 8 23 n) ⌝ }
+{
+    let e = ieee_exponent(n);
+    canonical(
+        0x8000_0000 <= n,
+        significand_of(e, n),
+        IEEE_BASE + counted_exponent(e),
+    )
+}
+
+// The same of any word.
+fn ieee(n: u32) -> Sample
+    ensures { λ r. ⌜ r ≡ pick (isBad 5 n) (Refused 19) (pairTaken (ieeeValue 8 23 n)) ⌝ }
+{
+    if is_bad(5, n) {
+        return Sample::Refused { number: NOT_FINITE };
+    }
+    ieee_number(n)
+}
+
 // The canonical pair of a word under a code.
 pub fn read(code: u32, word: [u8; 4]) -> Sample
     ensures { λ r. ⌜ r ≡ readWord code word ⌝ }
@@ -177,6 +268,8 @@ pub fn read(code: u32, word: [u8; 4]) -> Sample
         2 => whole32(n),
         3 => whole16(numbers::be16(word[0], word[1])),
         4 => gain(word[0], word[1], word[2], word[3]),
+        5 => ieee(n),
+        8 => whole8(word[0]),
         _ => Sample::Refused { number: BAD_CODE },
     }
 }
@@ -248,6 +341,18 @@ pub fn read_word(code: u32, word: [u8; 4]) -> WordRead
 
 // ## Writing
 
+// The four bytes of a word under a code: as many as a sample has, then 00.
+fn single_word(code: u32, bits: u32) -> [u8; 4]
+    ensures { λ r. ⌜ r ≡ singleWord code bits ⌝ }
+{
+    let b = numbers::bytes32(bits);
+    match code {
+        3 => [b[2], b[3], 0, 0],
+        8 => [b[3], 0, 0, 0],
+        _ => b,
+    }
+}
+
 // One sample, from its pair to its word.
 pub fn write_pair(code: u32, pair: [u8; 6]) -> PairWritten
     ensures { λ r. ⌜ pairWritten r ≡ pairOutcome code pair ⌝ }
@@ -255,7 +360,7 @@ pub fn write_pair(code: u32, pair: [u8; 6]) -> PairWritten
     match value::write(code, value::pair_in(pair)) {
         Written::Word { bits } => PairWritten {
             answer: Answer::Taken,
-            word: numbers::bytes32(bits),
+            word: single_word(code, bits),
         },
         Written::Refused { number } => PairWritten {
             answer: Answer::Refused {

@@ -1,5 +1,5 @@
 -- `sample::is_normal` meets its contract. Assumes nothing.
-use Rattle.value.proofs.NormalWords.{large, normal-tests}
+use Rattle.formats.proofs.NormalLaws.{large, normal-tests}
 use Rattle.formats.specs.Value.{fraction}
 use Rattle.formats.specs.Words.{firstDigit}
 use mathlib.Core.Path.{_≡_, sym, _∙_}
