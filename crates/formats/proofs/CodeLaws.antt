@@ -6,7 +6,7 @@ use native.Mathlib.Omega.{arith}
 use borrow.Author.Tests.{eqb-true, ne-eqb}
 use lib.Dec.{T, eqb}
 use Rattle.numbers.specs.Walk.{pick}
-use Rattle.formats.specs.Codes.{isCode, ibmFormat, ieeeFormat, noFormat, formatOf}
+use Rattle.formats.specs.Codes.{isCode, sampleBytes, wordLength, ibmFormat, ieeeFormat, noFormat, formatOf}
 use Rattle.formats.specs.Steps.{Sound, Float}
 
 -- the six codes
@@ -60,3 +60,20 @@ ibm-float = record { sound = code-sound 1 refl; even = refl; some = omega arith;
 
 pub single-float : Float (ieeeFormat 8 23) 32 23
 single-float = record { sound = code-sound 5 refl; even = refl; some = omega arith; short = omega arith; low = omega arith; room = omega arith }
+
+-- a sample has one to four bytes
+pub width-low : (code : ℕ) → 1 ≤ sampleBytes code
+width-low code = go (eqb code 3) (eqb code 8)
+  where
+    go : (a b : Bool) → 1 ≤ pick a 2 (pick b 1 4)
+    go true b = omega arith
+    go false true = omega arith
+    go false false = omega arith
+
+pub width-high : (code : ℕ) → sampleBytes code ≤ wordLength
+width-high code = go (eqb code 3) (eqb code 8)
+  where
+    go : (a b : Bool) → pick a 2 (pick b 1 4) ≤ 4
+    go true b = omega arith
+    go false true = omega arith
+    go false false = omega arith

@@ -1,6 +1,8 @@
 // What every layer uses: the types of places, byte numbers and checks, numbers of bytes in either order, two's complement.
 ghost use mathlib.Core.Path.{_≡_};
 ghost use mathlib.Core.List.{[], _∷_};
+ghost use Prim.Native.Nat.{_^_, _≤_};
+ghost use lib.IntN.{natAbs};
 ghost use Rattle.numbers.specs.BigEndian.{number, bytesOf};
 ghost use Rattle.numbers.specs.TwosComplement.{signedOf, bitsOf};
 
@@ -105,5 +107,16 @@ pub fn bits32(z: i32) -> u32
         0xffff_ffff - (-1 - z) as u32
     } else {
         z as u32
+    }
+}
+
+// The magnitude of a two's complement word, by subtraction from zero.
+pub fn magnitude32(n: u32) -> u32
+    ensures { λ r. ⌜ (r ≡ natAbs (signedOf 32 n)) × (r ≤ 2 ^ 31) ⌝ }
+{
+    if 0x8000_0000 <= n {
+        std::num::wrapping_sub_u32(0, n)
+    } else {
+        n
     }
 }

@@ -14,27 +14,18 @@ use Rattle.numbers.specs.Places.{bytePlace}
 use Rattle.numbers.specs.declared.Check.the-variants.{Fine, Refused}
 use Rattle.numbers.proofs.CauseLaws.{then-assoc, passed, then-fine}
 use Rattle.formats.specs.Codes.{isCode, sampleBytes}
-use Rattle.formats.specs.Value.{exactValue}
-use Rattle.sample.specs.Reading.{badGain, readWord, pairTaken}
-use Rattle.sample.specs.declared.Sample.the-variants as sample
+use Rattle.formats.proofs.CodeLaws.{width-high}
+use Rattle.numbers.proofs.BoolLaws.{not-false}
 use Rattle.reel.specs.Layout.{firstTrace, traceHeader, elevationScalar, coordinateScalar, number16, samplesOf, codeOf, intervalOf, stride, strideOf, overIn, tracesOf}
-use Rattle.reel.specs.Parts.{wordRefused, traceHeaderCauses}
+use Rattle.reel.specs.Parts.{traceHeaderCauses}
 use Rattle.reel.specs.Causes.{mostSamples, mostTraces, within, neither, limitCauses, sizeCauses, scalarCause, wordCause, traceCauses, behindCauses, causesOf}
 
 -- ## Rows
 
--- a word's refusal under code 4
-pub gain-refused : (w : List ℕ) (at : ℕ) → wordRefused (readWord 4 w) at ≡ refuseIf (badGain 4 w) 9 at
-gain-refused w at = go (badGain 4 w) (exactValue 4 w)
-  where
-    go : (b : Bool) (v : _) → wordRefused (pick b (sample.Refused 9) (pairTaken v)) at ≡ refuseIf b 9 at
-    go true v = refl
-    go false v = refl
-
--- under another code no word is refused
-pub no-gain : (s : List ℕ) (code : ℕ) → (code ≡ 4 → ⊥) → (w k at : ℕ) → firstOf (walk (wordCause s code) w k at) ≡ Fine
-no-gain s code h w zero at = refl
-no-gain s code h w (suc k) at = rw (ne-eqb code 4 h) (no-gain s code h w k (at + w))
+-- under codes other than 4 and 5 no word is refused
+pub none-bad : (s : List ℕ) (code : ℕ) → (code ≡ 4 → ⊥) → (code ≡ 5 → ⊥) → (w k at : ℕ) → firstOf (walk (wordCause s code) w k at) ≡ Fine
+none-bad s code h l w zero at = refl
+none-bad s code h l w (suc k) at = rw (ne-eqb code 4 h, ne-eqb code 5 l) (none-bad s code h l w k (at + w))
 
 -- ## A trace
 
@@ -53,21 +44,6 @@ trace-parts s code n i at =
 pub words-fine : (s : List ℕ) (code n i at : ℕ) → traceCauses s code n i at ≡ Fine → firstOf (walk (wordCause s code) (sampleBytes code) n (at + traceHeader)) ≡ Fine
 words-fine s code n i at e = then-fine (traceHeaderCauses s n i at) _ (sym (trace-parts s code n i at) ∙ e) .1
 
--- ## Codes
-
--- a code is from 1 to 4
-pub code-limits : (code : ℕ) → isCode code ≡ true → (1 ≤ code) × (code ≤ 4)
-code-limits code h = go (leb 1 code) (leb code 4) refl refl h
-  where
-    go : (x y : Bool) → leb 1 code ≡ x → leb code 4 ≡ y → (x && y) ≡ true → (1 ≤ code) × (code ≤ 4)
-    go true true p q e = (leb-true 1 code p, leb-true code 4 q)
-    go true false p q e = absurd (subst T (sym e) tt)
-    go false y p q e = absurd (subst T (sym e) tt)
-
--- a code of four bytes isn't 3
-pub not-three : (code : ℕ) → sampleBytes code ≡ 4 → code ≡ 3 → ⊥
-not-three code h e = let z : _≡_ {A = ℕ} 2 4 = ap sampleBytes (sym e) ∙ h in omega arith
-
 -- ## Where nothing is found
 
 pub both-true : (a b : Bool) → not (a && b) ≡ false → (a ≡ true) × (b ≡ true)
@@ -82,8 +58,7 @@ in-limits a b n number place e =
 
 -- the header's numbers are within their limits
 pub record Numbers (code n i : ℕ) : Type 0 where
-  pub code-low : 1 ≤ code
-  pub code-high : code ≤ 4
+  pub is-code : isCode code ≡ true
   pub n-low : 1 ≤ n
   pub n-high : n ≤ mostSamples
   pub i-low : 1 ≤ i
@@ -94,25 +69,9 @@ header-fine code n i e =
     let a = then-fine (refuseIf (not (isCode code)) 2 3224) _ e in
     let b = then-fine (refuseIf (not (within 1 mostSamples n)) 3 3220) _ (a .1) in
     let c = then-fine (refuseIf (not (within 1 32767 i)) 4 3216) _ (b .1) in
-    let x = in-limits 1 4 code 2 3224 (a .0) in
     let y = in-limits 1 mostSamples n 3 3220 (b .0) in
     let z = in-limits 1 32767 i 4 3216 (c .0) in
-    record { code-low = x .0; code-high = x .1; n-low = y .0; n-high = y .1; i-low = z .0; i-high = z .1 }
-
--- a sample has two or four bytes
-pub width-low : (code : ℕ) → 2 ≤ sampleBytes code
-width-low code = go (eqb code 3)
-  where
-    go : (b : Bool) → 2 ≤ pick b 2 4
-    go true = omega arith
-    go false = omega arith
-
-pub width-high : (code : ℕ) → sampleBytes code ≤ 4
-width-high code = go (eqb code 3)
-  where
-    go : (b : Bool) → pick b 2 4 ≤ 4
-    go true = omega arith
-    go false = omega arith
+    record { is-code = not-false (isCode code) (passed (not (isCode code)) 2 3224 (a .0)); n-low = y .0; n-high = y .1; i-low = z .0; i-high = z .1 }
 
 -- a trace is from 240 to 32,240 bytes
 pub stride-high : (code n : ℕ) → n ≤ mostSamples → stride n (sampleBytes code) ≤ 32240

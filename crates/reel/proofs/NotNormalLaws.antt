@@ -8,16 +8,17 @@ use native.Mathlib.Omega.{arith}
 use lib.Dec.{eqb}
 use lib.ListN.{length}
 use Rattle.numbers.specs.Walk.{pick, bytesAt}
-use Rattle.numbers.specs.BigEndian.{number}
+use Rattle.formats.specs.Value.{wordNumber}
+use Rattle.formats.proofs.CodeLaws.{width-low}
 use Rattle.numbers.proofs.WalkLaws.{sum-none, sum-more, sum-most}
 use Rattle.formats.specs.Words.{isNormal}
 use Rattle.sample.specs.Reading.{notNormal}
 use Rattle.reel.specs.Layout.{firstTrace, traceHeader, stride}
-use Rattle.formats.specs.Codes.{sampleBytes}
+use Rattle.formats.specs.Codes.{wordLength, sampleBytes}
 use Rattle.reel.specs.NotNormal.{notNormalIn, notNormalAmong}
 
 one-most : (code : ℕ) (w : List ℕ) → notNormal code w ≤ 1
-one-most code w = go (eqb code 1 && not (isNormal (number (bytesAt w 0 4))))
+one-most code w = go (eqb code 1 && not (isNormal (wordNumber 1 w)))
   where
     go : (b : Bool) → pick b 1 0 ≤ 1
     go true = omega arith
@@ -26,7 +27,7 @@ one-most code w = go (eqb code 1 && not (isNormal (number (bytesAt w 0 4))))
 module _ (s : List ℕ) (code n : ℕ) where
   pub in-most : (at : ℕ) → notNormalIn s code n at ≤ n
   unfolding notNormalIn
-  in-most at = rw (mul-one n) at (sum-most (λ p. notNormal code (bytesAt s p 4)) (sampleBytes code) 1 (λ p. one-most code (bytesAt s p 4)) n at)
+  in-most at = rw (mul-one n) at (sum-most (λ p. notNormal code (bytesAt s p wordLength)) (sampleBytes code) 1 (λ p. one-most code (bytesAt s p wordLength)) n at)
 
   module _ (w : ℕ) where
     pub among-none : (t at : ℕ) → t ≤ 0 → notNormalAmong s code n w t at ≡ 0
@@ -46,9 +47,5 @@ pub among-room : (s : List ℕ) (code n w t at : ℕ) → w ≡ stride n (sample
 among-room s code n w t at e room =
     le-trans (among-most s code n w t at) (le-trans (mul-le-mul-left t few) (omega (arith, room)))
   where
-    wide : (b : Bool) → n ≤ stride n (pick b 2 4)
-    wide true = omega arith
-    wide false = omega arith
-
     few : n ≤ w
-    few = rw e (wide (eqb code 3))
+    few = rw e (let l : n * 1 ≤ n * sampleBytes code = mul-le-mul-left n (width-low code) in omega (arith, l, mul-one n))

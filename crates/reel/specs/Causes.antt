@@ -1,5 +1,5 @@
--- The causes 1 to 9 and 18 against a reel, in the order of document 01's table and, for 18, of document 02 (CR 2), each with what stands
--- beside it.
+-- The causes 1 to 9, 18 and 19 against a reel, in the order of document 01's table and, for 18 and 19, of document 02 (CR 2, CR 4), each
+-- with what stands beside it.
 use Prim.Native.Nat.{ℕ, _+_, _-_, _*_}
 use mathlib.Core.List.{List, [], _∷_}
 use mathlib.Core.Bool.{Bool, not, _&&_}
@@ -12,9 +12,10 @@ use Rattle.numbers.specs.declared.Check.{Check}
 use Rattle.numbers.specs.declared.Check.the-variants.{Fine, Refused}
 use Rattle.reel.specs.declared.Judged.{Judged}
 use Rattle.reel.specs.declared.Judged.the-variants as variant
-use Rattle.formats.specs.Codes.{isCode, sampleBytes}
+use Rattle.formats.specs.Codes.{wordLength, isCode, sampleBytes}
 use Rattle.scalars.specs.Scalar.{isAllowed}
-use Rattle.sample.specs.Reading.{badGain}
+use Rattle.formats.specs.Value.{isBad, wordNumber}
+use Rattle.sample.specs.Reading.{badNumber}
 use Rattle.reel.specs.Layout.{Field, firstTrace, traceHeader, elevationScalar, coordinateScalar, fieldNumber, number16, intervalOf, samplesOf, codeOf, strideOf, wholeIn, overIn, tracesOf}
 
 -- The most samples of a trace, and the most traces of a reel.
@@ -36,7 +37,7 @@ within a b n = leb a n && leb n b
 abbrev pub neither : ℕ → ℕ → Bool
 neither n m = not (eqb n 0) && not (eqb n m)
 
--- 2, 3, 4: format code not 1 to 4, place 3224; N not 1 to 8,000, place 3220; interval not 1 to 32,767, place 3216.
+-- 2, 3, 4: format code none of 1, 2, 3, 4, 5, 8, place 3224; N not 1 to 8,000, place 3220; interval not 1 to 32,767, place 3216.
 abbrev pub limitCauses : ℕ → ℕ → ℕ → Check
 limitCauses code n i =
     firstOf
@@ -58,11 +59,11 @@ sizeCauses size w t over =
 abbrev pub scalarCause : List ℕ → ℕ → Field → Check
 scalarCause s at f = refuseIf (not (isAllowed (fieldNumber s at f))) 18 (bytePlace at (f .begins))
 
--- 9: the first byte of a gain word not 00.
+-- 9: the first byte of a gain word not 00; 19: an IEEE word that is an infinity or a not-a-number.
 abbrev pub wordCause : List ℕ → ℕ → ℕ → Check
-wordCause s code at = refuseIf (badGain code (bytesAt s at 4)) 9 at
+wordCause s code at = refuseIf (isBad code (wordNumber code (bytesAt s at wordLength))) (badNumber code) at
 
--- 7, 8, 18 for field 69, 18 for field 71, then 9 at the first such word, of the trace at the place `at`, in a reel of n samples a trace,
+-- 7, 8, 18 for field 69, 18 for field 71, then 9 or 19 at the first such word, of the trace at the place `at`, in a reel of n samples a trace,
 -- interval i and code `code`.
 unfoldable pub traceCauses : List ℕ → ℕ → ℕ → ℕ → ℕ → Check
 traceCauses s code n i at =
@@ -72,13 +73,13 @@ traceCauses s code n i at =
     (then (scalarCause s at coordinateScalar)
     (firstOf (walk (wordCause s code) (sampleBytes code) n (at + traceHeader))))))
 
--- 5 and 6, then trace by trace 7, 8, 18, 9, of traces of w bytes.
+-- 5 and 6, then trace by trace 7, 8, 18, then 9 or 19, of traces of w bytes.
 unfoldable pub behindCauses : List ℕ → ℕ → ℕ → ℕ → ℕ → Check
 behindCauses s code n i w =
     then (sizeCauses (length s) w (wholeIn (length s) w) (overIn (length s) w))
     (firstOf (walk (traceCauses s code n i) w (wholeIn (length s) w) firstTrace))
 
--- 1 to 6 in that order; then trace by trace 7, 8, 18, 9.
+-- 1 to 6 in that order; then trace by trace 7, 8, 18, then 9 or 19.
 unfoldable pub causesOf : List ℕ → Check
 causesOf s =
     then (refuseIf (ltb (length s) firstTrace) 1 (length s))

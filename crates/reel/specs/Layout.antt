@@ -3,12 +3,12 @@
 use Prim.Native.Nat.{ℕ, _+_, _-_, _*_, _/_, _%_}
 use mathlib.Core.List.{List, [], _∷_, _++_}
 use lib.ListN.{length, replicate}
-use lib.Dec.{eqb}
 use lib.IntN.{ℤ}
-use Rattle.numbers.specs.Walk.{pick, bytesAt}
+use Rattle.numbers.specs.Walk.{bytesAt}
 use Rattle.numbers.specs.BigEndian.{number}
 use Rattle.numbers.specs.TwosComplement.{signedOf}
 use Rattle.numbers.specs.Places.{bytePlace}
+use Rattle.formats.specs.Codes.{sampleBytes}
 
 -- The card bytes, 40 cards of 80.
 abbrev pub cardBytes : ℕ
@@ -79,10 +79,6 @@ samplesOf s = number16 s (bytePlace 0 3221)
 -- Field 3225, the format code.
 abbrev pub codeOf : List ℕ → ℕ
 codeOf s = number16 s (bytePlace 0 3225)
-
--- The bytes of a sample under a code.
-abbrev pub sampleBytes : ℕ → ℕ
-sampleBytes code = pick (eqb code 3) 2 4
 
 -- From one trace to the next: n samples of v bytes behind the header.
 abbrev pub stride : ℕ → ℕ → ℕ

@@ -9,7 +9,7 @@ use Rattle.numbers.specs.Walk.{pick, walk, bytesAt}
 use Rattle.formats.specs.Value.{exactValue}
 use Rattle.scalars.specs.Scalar.{scaledValues}
 use Rattle.reel.specs.Layout.{Field, cardBytes, firstTrace, traceHeader, binaryFields, traceFields, elevationScalar, coordinateScalar, fieldNumber, intervalOf, samplesOf, codeOf, strideOf, tracesOf}
-use Rattle.formats.specs.Codes.{sampleBytes}
+use Rattle.formats.specs.Codes.{wordLength, sampleBytes}
 use Rattle.reel.specs.Causes.{within}
 
 -- A card byte 00 is taken as the EBCDIC blank 40, which is 64.
@@ -84,7 +84,7 @@ unfoldable pub traceMeaning : List ℕ → ℕ → ℕ → ℕ → ℕ → Trace
 traceMeaning s code n i at =
     record {
       header = headerOf (traceNumber s n i at);
-      values = walk (λ p. exactValue code (bytesAt s p 4)) (sampleBytes code) n (at + traceHeader);
+      values = walk (λ p. exactValue code (bytesAt s p wordLength)) (sampleBytes code) n (at + traceHeader);
     }
 
 -- What a reel means: card text, header numbers, and its traces in order.
@@ -112,6 +112,6 @@ pub record SameMeaning (m₁ m₂ : Meaning) : Type 0 where
   pub coordinates : map (λ (t : Trace). t .header .coordinates) (m₁ .traces) ≡ map (λ (t : Trace). t .header .coordinates) (m₂ .traces)
   pub values : map (λ (t : Trace). t .values) (m₁ .traces) ≡ map (λ (t : Trace). t .values) (m₂ .traces)
 
--- Two reels to which no cause of 1 to 9 and 18 applies mean the same when their meanings are the same.
+-- Two reels to which no cause of 1 to 9, 18 and 19 applies mean the same when their meanings are the same.
 abbrev pub MeanTheSame : List ℕ → List ℕ → Type 0
 MeanTheSame s₁ s₂ = SameMeaning (meaningOf s₁) (meaningOf s₂)

@@ -4,11 +4,11 @@ use mathlib.Core.List.{List}
 use Rattle.numbers.specs.Walk.{walk, sum, bytesAt}
 use Rattle.sample.specs.Reading.{notNormal}
 use Rattle.reel.specs.Layout.{firstTrace, traceHeader, samplesOf, codeOf, strideOf, tracesOf}
-use Rattle.formats.specs.Codes.{sampleBytes}
+use Rattle.formats.specs.Codes.{wordLength, sampleBytes}
 
 -- How many of n words from a place on are not normal.
 unfoldable pub notNormalIn : List ℕ → ℕ → ℕ → ℕ → ℕ
-notNormalIn s code n at = sum (walk (λ p. notNormal code (bytesAt s p 4)) (sampleBytes code) n at)
+notNormalIn s code n at = sum (walk (λ p. notNormal code (bytesAt s p wordLength)) (sampleBytes code) n at)
 
 -- How many words of t traces of w bytes, n words each, from a place on, are not normal.
 unfoldable pub notNormalAmong : List ℕ → ℕ → ℕ → ℕ → ℕ → ℕ → ℕ

@@ -1,4 +1,4 @@
-// A reel's causes, 1 to 9 and 18, and its own numbers.
+// A reel's causes, 1 to 9, 18 and 19, and its own numbers.
 ghost use mathlib.Core.Path.{_≡_};
 ghost use Prim.Native.Nat.{_+_, _-_, _*_, _/_, _%_, _^_, _<_, _≤_};
 ghost use lib.ListN.{length};
@@ -10,11 +10,11 @@ ghost use Rattle.numbers.specs.Places.{placeNo, byteNo, bytePlace};
 ghost use Rattle.formats.specs.Codes.{isCode, sampleBytes};
 ghost use Rattle.reel.specs.Layout.{traceHeader, number16, stride};
 ghost use Rattle.reel.specs.Causes.{within, neither, limitCauses, sizeCauses, scalarCause, wordCause, traceCauses, behindCauses, causesOf, reelJudged};
-ghost use Rattle.reel.specs.Parts.{wordRefused, traceHeaderCauses};
+ghost use Rattle.sample.specs.Reading.{badNumber};
+ghost use Rattle.reel.specs.Parts.{traceHeaderCauses};
 use numbers::ByteNo;
 use numbers::Check;
 use numbers::Place;
-use sample::Sample;
 
 // What checking a reel finds: its own numbers, where no cause applies, or the first cause. The numbers are the format code, N, the
 // interval, the bytes of a sample, the bytes from trace to trace, and T.
@@ -83,11 +83,21 @@ fn check_scalar(reel: &[u8], at: usize, b: ByteNo) -> Check
     Check::Refused { number: 18, place }
 }
 
+// 2: a format code that is none.
+fn check_code(code: usize, place: Place) -> Check
+    ensures { λ r. ⌜ r ≡ refuseIf (not (isCode code)) 2 (placeNo place) ⌝ }
+{
+    if formats::is_code(code) {
+        return Check::Fine;
+    }
+    Check::Refused { number: 2, place }
+}
+
 // 2, 3 and 4: the format code, N and the interval.
 fn check_header(code: usize, n: usize, i: usize) -> Check
     ensures { λ r. ⌜ r ≡ limitCauses code n i ⌝ }
 {
-    let a = check_limits(code, 1, 4, 2, places::field_at(Place(0), ByteNo(3225)));
+    let a = check_code(code, places::field_at(Place(0), ByteNo(3225)));
     let Check::Fine = a else {
         return a;
     };
@@ -118,31 +128,28 @@ fn check_size(size: usize, w: usize, t: usize, over: usize) -> Check
     Check::Fine
 }
 
-// The refusal of a word at a place.
-fn refused(word: Sample, at: usize) -> Check
-    ensures { λ r. ⌜ r ≡ wordRefused word at ⌝ }
+// The number of the refusal of a word without a value.
+fn bad_number(code: u32) -> u8
+    ensures { λ r. ⌜ r ≡ badNumber code ⌝ }
 {
-    match word {
-        Sample::Taken { e: _, m: _ } => Check::Fine,
-        Sample::Refused { number } => Check::Refused {
-            number,
-            place: Place(at),
-        },
-    }
+    if code == 4 { 9 } else { 19 }
 }
 
-// 9: the first of n gain words from start on that is refused.
-fn check_gains(reel: &[u8], n: usize, start: usize) -> Check
-    requires { ⌜ start + n * 4 ≤ length (now reel) ⌝ }
-    ensures { λ r. ⌜ r ≡ firstOf (walk (wordCause (now (reel .entry)) 4) 4 n start) ⌝ }
+// 9 and 19: the first of n words of four bytes from start on that has no value.
+fn check_words(reel: &[u8], code: u32, n: usize, start: usize) -> Check
+    requires { ⌜ (sampleBytes code ≡ 4) × (start + n * 4 ≤ length (now reel)) ⌝ }
+    ensures { λ r. ⌜ r ≡ firstOf (walk (wordCause (now (reel .entry)) code) 4 n start) ⌝ }
 {
     let mut at = start;
     let mut left = n;
     while 0 < left {
-        let word = sample::gain(reel[at], reel[at + 1], reel[at + 2], reel[at + 3]);
-        let Sample::Taken { e: _, m: _ } = word else {
-            return refused(word, at);
-        };
+        let word = numbers::be32(reel[at], reel[at + 1], reel[at + 2], reel[at + 3]);
+        if sample::is_bad(code, word) {
+            return Check::Refused {
+                number: bad_number(code),
+                place: Place(at),
+            };
+        }
         at += 4;
         left -= 1;
     }
@@ -169,7 +176,7 @@ fn check_head(reel: &[u8], n: usize, i: usize, at: usize) -> Check
     check_scalar(reel, at, ByteNo(71))
 }
 
-// 7, 8, 18 and 9, of the trace at a place. Only gain words can be refused.
+// 7, 8, 18, and 9 or 19, of the trace at a place. Only words of codes 4 and 5 can be refused.
 fn check_trace(reel: &[u8], code: usize, n: usize, i: usize, v: usize, at: usize) -> Check
     requires { ⌜ (v ≡ sampleBytes code) × (at + (240 + n * v) ≤ length (now reel)) ⌝ }
     ensures { λ r. ⌜ r ≡ traceCauses (now (reel .entry)) code n i at ⌝ }
@@ -178,13 +185,16 @@ fn check_trace(reel: &[u8], code: usize, n: usize, i: usize, v: usize, at: usize
     let Check::Fine = a else {
         return a;
     };
-    if code == 4 {
-        return check_gains(reel, n, at + 240);
+    if code < 4 {
+        return Check::Fine;
+    }
+    if code < 6 {
+        return check_words(reel, code as u32, n, at + 240);
     }
     Check::Fine
 }
 
-// 7, 8, 18 and 9, trace by trace.
+// 7, 8, 18, and 9 or 19, trace by trace.
 fn check_traces(reel: &[u8], code: usize, n: usize, i: usize, v: usize, w: usize, t: usize) -> Check
     requires { ⌜ (v ≡ sampleBytes code) × (w ≡ stride n v) × (3600 + t * w ≤ length (now reel)) ⌝ }
     ensures { λ r. ⌜ r ≡ firstOf (walk (traceCauses (now (reel .entry)) code n i) w t 3600) ⌝ }
@@ -202,27 +212,7 @@ fn check_traces(reel: &[u8], code: usize, n: usize, i: usize, v: usize, w: usize
     Check::Fine
 }
 
-// Whether a code is 1 to 4.
-pub fn is_code(code: usize) -> bool
-    ensures { λ r. ⌜ r ≡ isCode code ⌝ }
-{
-    if code < 1 {
-        return false;
-    }
-    code <= 4
-}
-
-// The bytes of a sample.
-pub fn width_of(code: usize) -> usize
-    ensures { λ r. ⌜ (r ≡ sampleBytes code) × (2 ≤ r) × (r ≤ 4) ⌝ }
-{
-    if code == 3 {
-        return 2;
-    }
-    4
-}
-
-// 5 to 9 and 18.
+// 5 to 9, 18 and 19.
 fn check_behind(reel: &[u8], code: usize, n: usize, i: usize, v: usize, w: usize) -> Check
     requires { ⌜ (v ≡ sampleBytes code) × (w ≡ stride n v) × (w ≤ 40000) × (3600 ≤ length (now reel)) ⌝ }
     ensures { λ r. ⌜ r ≡ behindCauses (now (reel .entry)) code n i w ⌝ }
@@ -236,7 +226,7 @@ fn check_behind(reel: &[u8], code: usize, n: usize, i: usize, v: usize, w: usize
     check_traces(reel, code, n, i, v, w, t)
 }
 
-// 2 to 9 and 18.
+// 2 to 9, 18 and 19.
 fn check_numbers(reel: &[u8], code: usize, n: usize, i: usize) -> Check
     requires { ⌜ 3600 ≤ length (now reel) ⌝ }
     ensures { λ r. ⌜ r ≡ then (limitCauses code n i) (behindCauses (now (reel .entry)) code n i (stride n (sampleBytes code))) ⌝ }
@@ -245,11 +235,11 @@ fn check_numbers(reel: &[u8], code: usize, n: usize, i: usize) -> Check
     let Check::Fine = a else {
         return a;
     };
-    let v = width_of(code);
+    let v = formats::width_of(code);
     check_behind(reel, code, n, i, v, 240 + n * v)
 }
 
-// The causes 1 to 9 and 18.
+// The causes 1 to 9, 18 and 19.
 fn check_causes(reel: &[u8]) -> Check
     ensures { λ r. ⌜ r ≡ causesOf (now (reel .entry)) ⌝ }
 {
@@ -276,7 +266,7 @@ fn own_numbers(reel: &[u8]) -> Judged
     let code = binary_number(reel, ByteNo(3225));
     let samples = binary_number(reel, ByteNo(3221));
     let interval = binary_number(reel, ByteNo(3217));
-    let width = width_of(code);
+    let width = formats::width_of(code);
     let stride = 240 + samples * width;
     Judged::Fine {
         code,
@@ -288,7 +278,7 @@ fn own_numbers(reel: &[u8]) -> Judged
     }
 }
 
-// Whether a cause of 1 to 9 and 18 applies to a reel, and its own numbers where none does.
+// Whether a cause of 1 to 9, 18 and 19 applies to a reel, and its own numbers where none does.
 pub fn judge_reel(reel: &[u8]) -> Judged
     ensures { λ r. ⌜ r ≡ reelJudged (now (reel .entry)) ⌝ }
 {

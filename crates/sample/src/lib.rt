@@ -148,7 +148,7 @@ fn magnitude16(n: u16) -> u16
 pub fn whole32(n: u32) -> Sample
     ensures { λ r. ⌜ r ≡ pairTaken (wholeValue (signedOf 32 n)) ⌝ }
 {
-    canonical(0x8000_0000 <= n, value::magnitude32(n), DENOMINATOR_POWER)
+    canonical(0x8000_0000 <= n, numbers::magnitude32(n), DENOMINATOR_POWER)
 }
 
 // Code 3: the pair of a 16-bit number.

@@ -31,7 +31,7 @@ const SCALARS: [i16; 9] = [-10000, -1000, -100, -10, 1, 10, 100, 1000, 10000];
 fn magnitude(z: i32) -> u32
     ensures { λ r. ⌜ (r ≡ natAbs z) × (r ≤ 2 ^ 31) ⌝ }
 {
-    value::magnitude32(numbers::bits32(z))
+    numbers::magnitude32(numbers::bits32(z))
 }
 
 // The greater of two.

@@ -39,17 +39,6 @@ const NOT_CANONICAL: u8 = 13;
 
 const UNFIT: u8 = 14;
 
-// The magnitude of a two's complement word, by subtraction from zero.
-pub fn magnitude32(n: u32) -> u32
-    ensures { λ r. ⌜ (r ≡ natAbs (signedOf 32 n)) × (r ≤ 2 ^ 31) ⌝ }
-{
-    if 0x8000_0000 <= n {
-        std::num::wrapping_sub_u32(0, n)
-    } else {
-        n
-    }
-}
-
 // The lesser of two numbers.
 fn lesser(a: u32, b: u32) -> u32
     ensures { λ r. ⌜ r ≡ min a b ⌝ }
@@ -241,7 +230,7 @@ impl Pair {
         ensures { λ r. ⌜ PartsOf self r ⌝ }
     {
         let bits = numbers::bits32(self.m);
-        let o = magnitude32(bits);
+        let o = numbers::magnitude32(bits);
         if o == 0 {
             if numbers::bits16(self.e) == 0 {
                 return Parts::Zero;

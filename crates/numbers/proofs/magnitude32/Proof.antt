@@ -1,9 +1,9 @@
--- `value::magnitude32` meets its contract. Assumes nothing.
+-- `numbers::magnitude32` meets its contract. Assumes nothing.
 use Rattle.numbers.proofs.Magnitudes.{abs-high, abs-low}
 use native.Mathlib.Omega.{arith}
 use borrow.Author.Needs.{needs}
-use Rattle.value.proofs.magnitude32.Statement.{statement}
-use Rattle.value.proofs.magnitude32.Tie as tie
+use Rattle.numbers.proofs.magnitude32.Statement.{statement}
+use Rattle.numbers.proofs.magnitude32.Tie as tie
 
 returns : tie.Need-returns
 returns c = rw (abs-high 32 (c .before .before .args .n) (c .before .before .fits .n .fits) (c .before .if1 .taken)) (omega arith)
