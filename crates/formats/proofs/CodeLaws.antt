@@ -5,9 +5,13 @@ use Prim.Native.Nat.{ℕ, _-_, _*_, _+_, _^_, _≤_, _<_}
 use native.Mathlib.Omega.{arith}
 use borrow.Author.Tests.{eqb-true, ne-eqb}
 use lib.Dec.{T, eqb}
-use Rattle.numbers.specs.Walk.{pick}
+use Rattle.numbers.specs.Walk.{pick, bytesAt}
 use Rattle.formats.specs.Codes.{isCode, sampleBytes, wordLength, ibmFormat, ieeeFormat, noFormat, formatOf}
+use Rattle.formats.specs.Value.{wordNumber}
 use Rattle.formats.specs.Steps.{Sound, Float}
+use Rattle.numbers.specs.BigEndian.{number}
+use Rattle.numbers.proofs.WalkLaws.{bytes-front}
+use mathlib.Core.List.{List}
 
 -- the six codes
 pub data Code : ℕ → Type 0 where
@@ -77,3 +81,7 @@ width-high code = go (eqb code 3) (eqb code 8)
     go true b = omega arith
     go false true = omega arith
     go false false = omega arith
+
+-- the number of the word at a place
+pub word-there : (s : List ℕ) (code at : ℕ) → wordNumber code (bytesAt s at wordLength) ≡ number (bytesAt s at (sampleBytes code))
+word-there s code at = ap number (bytes-front s at wordLength (sampleBytes code) (width-high code))

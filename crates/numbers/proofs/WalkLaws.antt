@@ -214,6 +214,13 @@ stored vs out h =
     let e : length out ≤ length vs = omega arith in
     sets-eq vs out 0 (omega arith) ∙ rw (zero-add, drop-of-length-le out e) (append-nil vs)
 
+-- the first of some bytes
+pub bytes-front : (s : List ℕ) (at k j : ℕ) → j ≤ k → bytesAt (bytesAt s at k) 0 j ≡ bytesAt s at j
+unfolding bytesAt
+bytes-front s at k j h =
+    walk-same (λ a. getD (walk (λ b. getD s b 0) 1 k at) a 0) (λ a. getD s a 0) 1 1 j 0 at
+    (λ i l. let e : 0 + i * 1 ≡ i = omega arith in ap (λ (x : ℕ). getD (walk (λ b. getD s b 0) 1 k at) x 0) e ∙ walk-at 0 (λ b. getD s b 0) 1 k at i (omega arith))
+
 -- the four bytes from an offset on, one by one
 pub four-bytes : (s : List ℕ) (at : ℕ) → bytesAt s at 4 ≡ getD s at 0 ∷ getD s (at + 1) 0 ∷ getD s (at + 2) 0 ∷ getD s (at + 3) 0 ∷ []
 unfolding bytesAt

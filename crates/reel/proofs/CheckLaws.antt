@@ -5,7 +5,7 @@ use mathlib.Core.Bool.{Bool, true, false, not, _&&_}
 use Prim.Native.Nat.{ℕ, zero, suc, _+_, _-_, _*_, _≤_}
 use native.Mathlib.Nat.{mul-le-mul, div-mul-le-self}
 use native.Mathlib.Omega.{arith}
-use borrow.Author.Tests.{leb-true, ne-eqb, ltb-false}
+use borrow.Author.Tests.{leb-true, ne-eqb, ltb-false, not-false}
 use lib.Dec.{T, leb, ltb, eqb}
 use lib.ListN.{length}
 use Rattle.numbers.specs.Walk.{pick, walk}
@@ -15,7 +15,6 @@ use Rattle.numbers.specs.declared.Check.the-variants.{Fine, Refused}
 use Rattle.numbers.proofs.CauseLaws.{then-assoc, passed, then-fine}
 use Rattle.formats.specs.Codes.{isCode, sampleBytes}
 use Rattle.formats.proofs.CodeLaws.{width-high}
-use Rattle.numbers.proofs.BoolLaws.{not-false}
 use Rattle.reel.specs.Layout.{firstTrace, traceHeader, elevationScalar, coordinateScalar, number16, samplesOf, codeOf, intervalOf, stride, strideOf, overIn, tracesOf}
 use Rattle.reel.specs.Parts.{traceHeaderCauses}
 use Rattle.reel.specs.Causes.{mostSamples, mostTraces, within, neither, limitCauses, sizeCauses, scalarCause, wordCause, traceCauses, behindCauses, causesOf}

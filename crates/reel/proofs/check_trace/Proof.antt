@@ -1,6 +1,6 @@
 -- `reel::check_trace` meets its contract. Assumes nothing.
-use Rattle.reel.proofs.CheckLaws.{trace-parts, no-gain}
-use Rattle.reel.specs.Causes.{wordCause}
+use Rattle.reel.proofs.CheckLaws.{trace-parts, none-bad}
+use Rattle.reel.specs.Causes.{wordCause, traceCauses}
 use Rattle.reel.specs.Layout.{traceHeader}
 use Rattle.formats.specs.Codes.{sampleBytes}
 use Rattle.reel.specs.Parts.{traceHeaderCauses}
@@ -8,8 +8,9 @@ use Rattle.numbers.proofs.CauseLaws.{then-stop, then-next}
 use Rattle.numbers.specs.declared.Check.the-variants.{Fine}
 use Rattle.numbers.specs.Cause.{firstOf}
 use Rattle.numbers.specs.Walk.{walk}
-use Prim.Native.Nat.{ℕ, _+_}
-use mathlib.Core.Path.{_≡_, sym, ap, _∙_}
+use Prim.Native.Nat.{ℕ, _+_, _≤_, _<_}
+use borrow.Author.Tests.{ne-eqb}
+use mathlib.Core.Path.{_≡_, sym, ap, subst, _∙_}
 use native.Mathlib.Omega.{arith}
 use borrow.Author.Needs.{needs}
 use Rattle.reel.proofs.check_trace.Statement.{statement}
@@ -24,35 +25,36 @@ returns c =
     let e = c .before .before .check-head .ensures in
     e ∙ then-stop _ _ (sym e ∙ c .enum-told2 .given .1) ∙ sym (trace-parts (a .reel .now) (a .code) (a .n) (a .i) (a .at))
 
-check-gains-requires : tie.Need-check-gains-requires
-check-gains-requires c κs =
-    let s = c .before .before .before .before .before in
-    let four : s .args .v ≡ 4 = s .pre .0 ∙ ap sampleBytes (c .if1 .taken) in
-    let room = rw four at (s .pre .1) in
-    omega arith
+-- the words of a code that isn't 4 or 5 have no cause
+none : (c : tie.After-enum-told) → let a = c .before .before .before .before .args in (a .code ≡ 4 → ⊥) → (a .code ≡ 5 → ⊥) → Fine ≡ traceCauses (a .reel .now) (a .code) (a .n) (a .i) (a .at)
+none c h l =
+    let a = c .before .before .before .before .args in
+    sym (none-bad (a .reel .now) (a .code) h l (sampleBytes (a .code)) (a .n) (a .at + traceHeader)) ∙ then-next _ _ (fine c) ∙ sym (trace-parts (a .reel .now) (a .code) (a .n) (a .i) (a .at))
 
 returns-2 : tie.Need-returns-2
-returns-2 c =
-    let b = c .before .before in
-    let t = b .before .before .before .before .args in
-    c .check-gains .ensures ∙ ap (λ (k : ℕ). firstOf (walk (wordCause (t .reel .now) k) (sampleBytes k) (t .n) (t .at + traceHeader))) (sym (c .before .if1 .taken))
-    ∙ then-next _ _ (fine b) ∙ sym (trace-parts (t .reel .now) (t .code) (t .n) (t .i) (t .at))
+returns-2 c = none (c .before) (λ e. omega (arith, c .if1 .taken, e)) (λ e. omega (arith, c .if1 .taken, e))
+
+-- codes 4 and 5 have words of four bytes
+four : (code : ℕ) → 4 ≤ code → code < 6 → sampleBytes code ≡ 4
+four code h l = rw (ne-eqb code 3 (λ e. omega (arith, h, e)), ne-eqb code 8 (λ e. omega (arith, l, e)))
+
+check-words-requires : tie.Need-check-words-requires
+check-words-requires c κs =
+    let s = c .before .before .before .before .before .before in
+    let w = four (s .args .code) (c .before .if1 .left) (c .if2 .taken) in
+    let room = rw (s .pre .0 ∙ w) at (s .pre .1) in
+    (w, omega arith)
 
 returns-3 : tie.Need-returns-3
 returns-3 c =
-    let b = c .before in
+    let b = c .before .before .before in
     let t = b .before .before .before .before .args in
-    sym (no-gain (t .reel .now) (t .code) (c .if1 .left) (sampleBytes (t .code)) (t .n) (t .at + traceHeader)) ∙ then-next _ _ (fine b) ∙ sym (trace-parts (t .reel .now) (t .code) (t .n) (t .i) (t .at))
+    let w = four (t .code) (c .before .before .if1 .left) (c .before .if2 .taken) in
+    c .check-words .ensures ∙ ap (λ (k : ℕ). firstOf (walk (wordCause (t .reel .now) (t .code)) k (t .n) (t .at + traceHeader))) (sym w)
+    ∙ then-next _ _ (fine b) ∙ sym (trace-parts (t .reel .now) (t .code) (t .n) (t .i) (t .at))
+
+returns-4 : tie.Need-returns-4
+returns-4 c = none (c .before .before) (λ e. omega (arith, c .if2 .left, e)) (λ e. omega (arith, c .if2 .left, e))
 
 pub check-trace-spec : {M : Type 1} → statement M
-check-trace-spec =
-    tie.close
-    (tie.spec
-    (λ c κs. omega (arith, c .before .pre .1))
-    (λ c. search needs)
-    (λ c. search needs)
-    returns
-    (λ c. search needs)
-    check-gains-requires
-    returns-2
-    returns-3)
+check-trace-spec = tie.close (tie.spec (λ c κs. search needs) (λ c. search needs) (λ c. search needs) returns returns-2 (λ c. search needs) (λ c. search needs) check-words-requires returns-3 returns-4)
