@@ -1,6 +1,6 @@
 //! SEG-Y revision 0 reels and their canonical records: the five calls of document 01 and the two of
-//! document 02's CR 1, with the scalars of CR 2 and the count of CR 3, in plain Rust, written from the
-//! papers alone. The differential test compares the library with them.
+//! document 02's CR 1, with the scalars of CR 2, the count of CR 3 and the codes of CR 4, in plain Rust,
+//! written from the papers alone. The differential test compares the library with them.
 //!
 //! A refused call changes no byte of its output. So each call on a whole reel or record makes two
 //! passes: the first looks for causes to refuse, the second writes.
@@ -77,7 +77,7 @@ pub struct WordRead {
 }
 
 /// The number of the cause, and what stands beside it in document 01's table, or beside numbers 17
-/// and 18 in document 02.
+/// to 19 in document 02.
 #[derive(Clone, Copy, Debug, PartialEq, Eq)]
 pub struct Refused {
     pub number: u64,
@@ -91,7 +91,7 @@ fn refused<T>(number: u64, beside: usize) -> Result<T, Refused> {
     })
 }
 
-/// Reads one word. Under code 3 it is the first two bytes.
+/// Reads one word. Under code 3 it is the first two bytes, under code 8 the first.
 pub fn read_word(code: u32, word: [u8; 4]) -> Result<WordRead, Refused> {
     let Some(code) = Code::numbered(code) else {
         return refused(2, 0);
@@ -102,6 +102,9 @@ pub fn read_word(code: u32, word: [u8; 4]) -> Result<WordRead, Refused> {
         Code::Whole16 => Pair::of_whole16([word[0], word[1]]),
         Code::Gain if word[0] != 0 => return refused(9, 0),
         Code::Gain => Pair::of_gain(word),
+        Code::Ieee if !is_finite(word) => return refused(19, 0),
+        Code::Ieee => Pair::of_ieee(word),
+        Code::Whole8 => Pair::of_whole8([word[0]]),
     };
     Ok(WordRead {
         pair: pair.bytes(),
@@ -109,7 +112,8 @@ pub fn read_word(code: u32, word: [u8; 4]) -> Result<WordRead, Refused> {
     })
 }
 
-/// Writes one pair. Under code 3 the word is the first two bytes, and the rest is 00.
+/// Writes one pair. Under code 3 the word is the first two bytes, under code 8 the first, and the rest
+/// is 00.
 pub fn write_pair(code: u32, pair: [u8; 6]) -> Result<[u8; 4], Refused> {
     let Some(code) = Code::numbered(code) else {
         return refused(11, 0);
@@ -123,6 +127,8 @@ pub fn write_pair(code: u32, pair: [u8; 6]) -> Result<[u8; 4], Refused> {
         Code::Whole32 => pair.whole32(),
         Code::Whole16 => pair.whole16().map(|[high, low]| [high, low, 0, 0]),
         Code::Gain => pair.gain(),
+        Code::Ieee => pair.ieee(),
+        Code::Whole8 => pair.whole8().map(|[byte]| [byte, 0, 0, 0]),
     };
     word.map_or(refused(14, 0), Ok)
 }
@@ -167,6 +173,8 @@ pub fn read_reel(reel: &[u8], out: &mut [u8]) -> Result<ReelRead, Refused> {
             Code::Whole32 => put_pairs(words, pairs, Pair::of_whole32),
             Code::Whole16 => put_pairs(words, pairs, Pair::of_whole16),
             Code::Gain => put_pairs(words, pairs, Pair::of_gain),
+            Code::Ieee => put_pairs(words, pairs, Pair::of_ieee),
+            Code::Whole8 => put_pairs(words, pairs, Pair::of_whole8),
         }
     }
 
@@ -212,6 +220,8 @@ pub fn write_reel(record: &[u8], code: u32, out: &mut [u8]) -> Result<Taken, Ref
             Code::Whole32 => put_words(pairs, words, Pair::whole32),
             Code::Whole16 => put_words(pairs, words, Pair::whole16),
             Code::Gain => put_words(pairs, words, Pair::gain),
+            Code::Ieee => put_words(pairs, words, Pair::ieee),
+            Code::Whole8 => put_words(pairs, words, Pair::whole8),
         }
     }
     Ok(shape.taken(length))
@@ -322,6 +332,8 @@ enum Code {
     Whole32 = 2,
     Whole16 = 3,
     Gain = 4,
+    Ieee = 5,
+    Whole8 = 8,
 }
 
 impl Code {
@@ -331,15 +343,18 @@ impl Code {
             2 => Some(Code::Whole32),
             3 => Some(Code::Whole16),
             4 => Some(Code::Gain),
+            5 => Some(Code::Ieee),
+            8 => Some(Code::Whole8),
             _ => None,
         }
     }
 
-    /// The bytes of a word.
+    /// The bytes of a word on a reel.
     fn width(self) -> usize {
         match self {
+            Code::Whole8 => 1,
             Code::Whole16 => 2,
-            _ => 4,
+            Code::Ibm | Code::Whole32 | Code::Gain | Code::Ieee => 4,
         }
     }
 }
@@ -380,7 +395,7 @@ impl Shape {
     }
 }
 
-/// Looks for the causes 1 to 9, and for 18 between 8 and 9.
+/// Looks for the causes 1 to 9, for 18 between 8 and 9, and for 19 where 9 stands.
 fn check_reel(reel: &[u8]) -> Result<(Code, Shape), Refused> {
     if reel.len() < REEL_HEADERS {
         return refused(1, reel.len());
@@ -429,10 +444,14 @@ fn check_reel(reel: &[u8]) -> Result<(Code, Shape), Refused> {
                 return refused(18, place + group.scalar);
             }
         }
-        if let Code::Gain = code {
-            if let Some(word) = words.chunks_exact(4).position(|word| word[0] != 0) {
-                return refused(9, place + TRACE_HEADER + 4 * word);
-            }
+        let mut words = words.chunks_exact(code.width());
+        let (number, found) = match code {
+            Code::Gain => (9, words.position(|word| word[0] != 0)),
+            Code::Ieee => (19, words.position(|word| !is_finite(array(word)))),
+            Code::Ibm | Code::Whole32 | Code::Whole16 | Code::Whole8 => continue,
+        };
+        if let Some(word) = found {
+            return refused(number, place + TRACE_HEADER + 4 * word);
         }
     }
     Ok((code, shape))
@@ -496,6 +515,8 @@ fn check_record(record: &[u8], code: Option<Code>) -> Result<Shape, Refused> {
             Some(Code::Whole32) => check_pairs(pairs, Pair::whole32),
             Some(Code::Whole16) => check_pairs(pairs, Pair::whole16),
             Some(Code::Gain) => check_pairs(pairs, Pair::gain),
+            Some(Code::Ieee) => check_pairs(pairs, Pair::ieee),
+            Some(Code::Whole8) => check_pairs(pairs, Pair::whole8),
         };
         let pair_place = |pair| samples_place + FIELD_HEAD + PAIR_BYTES * pair;
         match found {
@@ -605,6 +626,20 @@ fn is_normal(word: [u8; 4]) -> bool {
     }
 }
 
+/// The parts of an IEEE word: its sign bit, its 8-bit exponent and its 23-bit fraction.
+fn ieee_parts(word: [u8; 4]) -> (bool, i16, i32) {
+    let bits = u32::from_be_bytes(word);
+    let exponent = (bits >> 23 & 0xFF) as i16;
+    (bits >> 31 == 1, exponent, (bits & 0x007F_FFFF) as i32)
+}
+
+/// Whether an IEEE word has a value. Those of the largest exponent are the infinities and the
+/// not-a-numbers.
+fn is_finite(word: [u8; 4]) -> bool {
+    let (_, exponent, _) = ieee_parts(word);
+    exponent != 255
+}
+
 /// The canonical sample, of the value `mantissa` × 2^`exponent`.
 #[derive(Clone, Copy)]
 struct Pair {
@@ -680,6 +715,23 @@ impl Pair {
         Pair::of_value(i32::from(i16::from_be_bytes([high, low])), -i16::from(gain))
     }
 
+    /// The word has been found to have a value. With f the fraction over 2^23 that is 1.f times
+    /// 2^(exponent - 127); where the exponent is 0 it is subnormal, 0.f times 2^-126. Both zeros are
+    /// zero.
+    fn of_ieee(word: [u8; 4]) -> Pair {
+        let (negative, exponent, fraction) = ieee_parts(word);
+        let (magnitude, power) = if exponent == 0 {
+            (fraction, -126)
+        } else {
+            ((1 << 23) + fraction, exponent - 127)
+        };
+        Pair::of_value(if negative { -magnitude } else { magnitude }, power - 23)
+    }
+
+    fn of_whole8(word: [u8; 1]) -> Pair {
+        Pair::of_value(i32::from(i8::from_be_bytes(word)), 0)
+    }
+
     /// The normal word. The least characteristic at which the fraction stays below 2^24 leaves its
     /// first hexadecimal digit other than 0, unless that characteristic is 0. There the fraction is
     /// longest, so where the mantissa would have to be shifted down no characteristic serves.
@@ -719,6 +771,34 @@ impl Pair {
         };
         let [high, low] = i16::try_from(whole).ok()?.to_be_bytes();
         Some([0, gain, high, low])
+    }
+
+    /// The word whose first bit is that of the highest power of two in the value, if that power is
+    /// from -126 to 127 and the mantissa has at most 24 bits. Below are the subnormal words, whose last
+    /// bit is always 2^-149. For zero it is the word of plus zero.
+    fn ieee(self) -> Option<[u8; 4]> {
+        if self.mantissa == 0 {
+            return Some([0; 4]);
+        }
+        let magnitude = self.mantissa.unsigned_abs();
+        let length = 32 - magnitude.leading_zeros() as i32;
+        let last = i32::from(self.exponent);
+        let first = last + length - 1;
+        let bits = if first > 127 || length > 24 || last < -149 {
+            return None;
+        } else if first < -126 {
+            magnitude << (last + 149)
+        } else {
+            let fraction = (magnitude << (24 - length)) - (1 << 23);
+            ((first + 127) as u32) << 23 | fraction
+        };
+        let sign = u32::from(self.mantissa < 0);
+        Some((sign << 31 | bits).to_be_bytes())
+    }
+
+    fn whole8(self) -> Option<[u8; 1]> {
+        let whole = i8::try_from(self.whole()?).ok()?;
+        Some(whole.to_be_bytes())
     }
 
     /// The value, where it is whole and within 64 bits.

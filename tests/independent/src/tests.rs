@@ -1,7 +1,8 @@
-//! Document 01's samples at the edges and its example, and what document 02's CR 1, CR 2 and CR 3 make
-//! of it.
+//! Document 01's samples at the edges and its example, and what document 02's CR 1 to CR 4 make of it.
 
 use super::*;
+
+const CODES: [u32; 6] = [1, 2, 3, 4, 5, 8];
 
 fn pair(exponent: i16, mantissa: i32) -> [u8; 6] {
     Pair { exponent, mantissa }.bytes()
@@ -61,11 +62,12 @@ fn negative_with_a_fraction() {
 fn zero() {
     reads_not_normal(0x8000_0000, 0, 0);
     reads_not_normal(0x7F00_0000, 0, 0);
-    for code in 1..=4 {
+    for code in CODES {
         reads(code, 0, 0, 0);
         writes(code, 0, 0, 0);
     }
     reads(4, 0x00FF_0000, 0, 0);
+    reads(5, 0x8000_0000, 0, 0);
 }
 
 #[test]
@@ -114,10 +116,284 @@ fn single_samples_are_refused_in_order() {
     assert_eq!(read_word(257, word(0x0100_0000)), refused(2, 0));
     assert_eq!(write_pair(0, pair(1, 0)), refused(11, 0));
     for (exponent, mantissa) in [(1, 0), (0, 2), (-281, 1), (252, 1), (0, i32::MIN)] {
-        for code in 1..=4 {
+        for code in CODES {
             assert_eq!(write_pair(code, pair(exponent, mantissa)), refused(13, 0));
         }
     }
+}
+
+/// The numbers of no code: those beside the six, and those that are one of the six in some of their
+/// bytes.
+#[test]
+fn numbers_of_no_code() {
+    let beside = (0..=300).filter(|number| !CODES.contains(number));
+    let others = CODES
+        .into_iter()
+        .flat_map(|code| [code << 8, code << 24, code | 1 << 16, code | 1 << 31]);
+    for number in beside.chain(others).chain([u32::MAX]) {
+        for bits in [0, 0x4110_0000, 0x7F80_0000] {
+            assert_eq!(read_word(number, word(bits)), refused(2, 0), "{number}");
+        }
+        assert_eq!(write_pair(number, pair(0, 1)), refused(11, 0), "{number}");
+        assert_eq!(write_pair(number, pair(0, 2)), refused(11, 0), "{number}");
+        assert_eq!(
+            write_reel(&example_record(), number, &mut []),
+            refused(11, 0),
+            "{number}"
+        );
+    }
+    for number in (0..=u16::MAX).filter(|&number| !CODES.contains(&u32::from(number))) {
+        let mut reel = example();
+        reel[3224..3226].copy_from_slice(&number.to_be_bytes());
+        assert_eq!(read_reel(&reel, &mut []), refused(2, 3224), "{number}");
+    }
+}
+
+/// Words of code 5 with their pairs: 1 and its neighbours, the ends of the normal words and of the
+/// subnormal ones, and what lies between.
+const IEEE: [(u32, i16, i32); 26] = [
+    (0x3F80_0000, 0, 1),
+    (0xBF80_0000, 0, -1),
+    (0x3F7F_FFFF, -24, 16_777_215),
+    (0x3F80_0001, -23, 8_388_609),
+    (0x4000_0000, 1, 1),
+    (0x3F00_0000, -1, 1),
+    (0xC2ED_4000, -3, -949),
+    (0x4B7F_FFFF, 0, 16_777_215),
+    (0x4B80_0000, 24, 1),
+    (0x4B80_0001, 1, 8_388_609),
+    (0x7F7F_FFFF, 104, 16_777_215),
+    (0xFF7F_FFFF, 104, -16_777_215),
+    (0x7F00_0000, 127, 1),
+    (0x7F00_0001, 104, 8_388_609),
+    (0x0080_0000, -126, 1),
+    (0x8080_0000, -126, -1),
+    (0x0080_0001, -149, 8_388_609),
+    (0x0100_0000, -125, 1),
+    (0x0100_0001, -148, 8_388_609),
+    (0x007F_FFFF, -149, 8_388_607),
+    (0x807F_FFFF, -149, -8_388_607),
+    (0x0040_0000, -127, 1),
+    (0x0000_0001, -149, 1),
+    (0x8000_0001, -149, -1),
+    (0x0000_0002, -148, 1),
+    (0x0000_0003, -149, 3),
+];
+
+#[test]
+fn ieee_words() {
+    for (bits, exponent, mantissa) in IEEE {
+        reads(5, bits, exponent, mantissa);
+        writes(5, exponent, mantissa, bits);
+    }
+}
+
+/// Of every word of the largest exponent none has a value.
+#[test]
+fn infinities_and_not_a_numbers() {
+    for first in [0x7F80_0000, 0xFF80_0000] {
+        for fraction in 0..1 << 23 {
+            assert_eq!(read_word(5, word(first | fraction)), refused(19, 0));
+        }
+    }
+}
+
+/// One bit too many, one power too high, and beside the subnormal words a bit too low.
+#[test]
+fn values_that_no_ieee_word_has() {
+    for sign in [1, -1] {
+        for (exponent, mantissa) in [
+            (0, 16_777_217),
+            (1, 33_554_431),
+            (0, i32::MAX),
+            (128, 1),
+            (127, 3),
+            (105, 16_777_215),
+            (104, 16_777_217),
+            (251, 1),
+            (-150, 1),
+            (-150, 3),
+            (-150, 16_777_215),
+            (-149, 16_777_217),
+            (-280, 1),
+            (-280, i32::MAX),
+        ] {
+            misfits(5, exponent, sign * mantissa);
+        }
+    }
+}
+
+/// What the host's own 32-bit float of these bits has, or None where that is no number. A 64-bit float
+/// has it exactly.
+fn value_by_the_host(bits: u32) -> Option<f64> {
+    let value = f64::from(f32::from_bits(bits));
+    value.is_finite().then_some(value)
+}
+
+/// The value of a canonical pair as a 64-bit float of the host's: 31 bits and a power of two within its
+/// range, so it is exact.
+fn value_of_pair(bytes: [u8; 6]) -> f64 {
+    let Pair { exponent, mantissa } = Pair::of_bytes(&bytes);
+    let power = f64::from_bits(((i64::from(exponent) + 1023) as u64) << 52);
+    f64::from(mantissa) * power
+}
+
+/// Reading an IEEE word gives a canonical pair of the value that the host has, and writing that pair
+/// gives the word again, or 00000000 for a zero. True if the word has a value.
+fn as_the_host_has_it(bits: u32) -> bool {
+    let Some(value) = value_by_the_host(bits) else {
+        assert_eq!(read_word(5, word(bits)), refused(19, 0), "{bits:08X}");
+        return false;
+    };
+    let read = read_word(5, word(bits)).expect("a word that has a value");
+    assert!(!read.not_normal, "{bits:08X}");
+    assert!(Pair::of_bytes(&read.pair).is_canonical(), "{bits:08X}");
+    assert!(value_of_pair(read.pair) == value, "{bits:08X}");
+    let again = if value == 0.0 { 0 } else { bits };
+    assert_eq!(write_pair(5, read.pair), Ok(word(again)), "{bits:08X}");
+    true
+}
+
+/// A row of 32-bit numbers, the same at every run.
+fn numbers(mut state: u64) -> impl Iterator<Item = u32> {
+    std::iter::repeat_with(move || {
+        state = state
+            .wrapping_mul(6_364_136_223_846_793_005)
+            .wrapping_add(1_442_695_040_888_963_407);
+        (state >> 32) as u32
+    })
+}
+
+/// Under every sign and exponent: fractions of one bit and of two, their complements, those about the
+/// ends, and a thousand others; then four million words of any kind.
+#[test]
+fn ieee_words_by_the_host() {
+    let mut fractions: Vec<u32> = (0..64).collect();
+    for high in 0..23 {
+        for low in 0..=high {
+            fractions.push(1 << high | 1 << low);
+            fractions.push((2 << high) - (1 << low));
+        }
+    }
+    fractions.extend(numbers(1975).take(1_000).map(|number| number >> 9));
+    let complements: Vec<u32> = fractions
+        .iter()
+        .map(|fraction| 0x7F_FFFF - fraction)
+        .collect();
+    fractions.extend(complements);
+    let mut counts = [0u64; 2];
+    for first in 0..512 {
+        for &fraction in &fractions {
+            counts[usize::from(as_the_host_has_it(first << 23 | fraction))] += 1;
+        }
+    }
+    let each = fractions.len() as u64;
+    assert_eq!(counts, [2 * each, 510 * each]);
+    assert!(each > 3_000);
+    for bits in numbers(1985).take(4_000_000) {
+        as_the_host_has_it(bits);
+    }
+}
+
+/// All words of code 5. Too long for every run: `cargo test --release -- --ignored --nocapture`.
+#[test]
+#[ignore = "2^32 words take a minute or two"]
+fn every_ieee_word_by_the_host() {
+    let mut counts = [0u64; 2];
+    for bits in 0..=u32::MAX {
+        counts[usize::from(as_the_host_has_it(bits))] += 1;
+    }
+    assert_eq!(counts, [2 << 23, 510 << 23]);
+    println!("{} words have a value, {} have none", counts[1], counts[0]);
+}
+
+/// A pair has a word of code 5 exactly when the host's 64-bit float of its value stays what it is as a
+/// 32-bit float, and the word is that float's.
+fn pair_as_the_host_has_it(exponent: i16, mantissa: i32) -> bool {
+    let value = value_of_pair(pair(exponent, mantissa));
+    let rounded = value as f32;
+    let fits = f64::from(rounded) == value;
+    let written = if fits {
+        Ok(word(rounded.to_bits()))
+    } else {
+        refused(14, 0)
+    };
+    assert_eq!(
+        write_pair(5, pair(exponent, mantissa)),
+        written,
+        "e {exponent}, m {mantissa}"
+    );
+    fits
+}
+
+#[test]
+fn pairs_to_ieee_words_by_the_host() {
+    let mut mantissas = Vec::new();
+    for length in 1..=31 {
+        let most = ((1u32 << length) - 1) as i32;
+        let least = 1 << (length - 1) | 1;
+        mantissas.extend([most, least]);
+        for number in numbers(length).take(40) {
+            mantissas.push(least | (number as i32 & most) | 1);
+        }
+    }
+    let mut counts = [0u64; 2];
+    for exponent in LEAST_EXPONENT..=MOST_EXPONENT {
+        for &mantissa in &mantissas {
+            for mantissa in [mantissa, -mantissa] {
+                counts[usize::from(pair_as_the_host_has_it(exponent, mantissa))] += 1;
+            }
+        }
+    }
+    assert!(counts.iter().all(|&count| count > 100_000), "{counts:?}");
+    let mut row = numbers(2001);
+    let mut next = || row.next().expect("a row without an end");
+    for _ in 0..2_000_000 {
+        let exponent = -280 + (next() % 532) as i16;
+        let mantissa = (next() | 1) as i32 >> (next() % 31) | 1;
+        pair_as_the_host_has_it(exponent, mantissa);
+    }
+}
+
+/// All 256 samples of code 8, whatever stands behind them; each is written again with 00 behind it.
+#[test]
+fn one_byte_samples() {
+    for (bits, exponent, mantissa) in [
+        (0x0100_0000, 0, 1),
+        (0xFF00_0000, 0, -1),
+        (0x7F00_0000, 0, 127),
+        (0x8000_0000, 7, -1),
+        (0x8100_0000, 0, -127),
+        (0x4000_0000, 6, 1),
+        (0xFE00_0000, 1, -1),
+    ] {
+        reads(8, bits, exponent, mantissa);
+        writes(8, exponent, mantissa, bits);
+    }
+    for byte in 0..=255u8 {
+        let whole = if byte < 128 {
+            i32::from(byte)
+        } else {
+            i32::from(byte) - 256
+        };
+        let as_16_bits = read_word(3, word((whole as u32) << 16)).expect("any word is taken");
+        let only = [byte, 0, 0, 0];
+        for behind in [[0, 0, 0], [0, 0, 1], [0x80, 0, 0], [0xFF; 3], [byte; 3]] {
+            let read = read_word(8, [byte, behind[0], behind[1], behind[2]]);
+            assert_eq!(read, Ok(as_16_bits), "{byte:02X}");
+        }
+        assert_eq!(write_pair(8, as_16_bits.pair), Ok(only), "{byte:02X}");
+    }
+    for whole in (-70_000..-128).chain(128..=70_000i32) {
+        let twos = whole.trailing_zeros();
+        misfits(8, twos as i16, whole >> twos);
+    }
+    misfits(8, 7, 1);
+    misfits(8, 8, -1);
+    misfits(8, -1, 1);
+    misfits(8, 0, 257);
+    misfits(8, 32, 1);
+    misfits(8, 251, -1);
 }
 
 /// The reel of the paper's example: one trace of the words 41100000 and C276A000.
@@ -197,13 +473,130 @@ fn example_with_a_short_output() {
 #[test]
 fn example_has_a_sample_that_is_not_whole() {
     let mut out = [0xA5; 4000];
-    for code in [2, 3] {
+    for code in [2, 3, 8] {
         assert_eq!(
             write_reel(&example_record(), code, &mut out),
             refused(14, 3458)
         );
     }
     assert!(out.iter().all(|&byte| byte == 0xA5));
+}
+
+/// The example's record as a reel of code 5: the words of 1 and -949/8. The reel is read again.
+#[test]
+fn example_in_code_5() {
+    let mut reel = reel_of(5, &[&[0x3F80_0000, 0xC2ED_4000]]);
+    reel[3600 + 68..3600 + 72].copy_from_slice(&[0xD8, 0xF0, 0xD8, 0xF0]);
+    reel[3600 + 114..3600 + 118].copy_from_slice(&[0x00, 0x02, 0x07, 0xD0]);
+    let mut out = [0xA5; 4000];
+    let taken = Taken {
+        traces: 1,
+        samples: 2,
+        length: 3848,
+    };
+    assert_eq!(write_reel(&example_record(), 5, &mut out), Ok(taken));
+    assert_eq!(out[..3848], reel);
+    assert!(out[3848..].iter().all(|&byte| byte == 0xA5));
+    assert_eq!(
+        write_reel(&example_record(), 5, &mut out[..3847]),
+        refused(10, 3848)
+    );
+    counted(&reel, 1, 2, 0);
+    assert!(read_reel(&reel, &mut out).is_ok());
+    assert_eq!(out[..3471], example_record());
+    assert_eq!(look_up(&reel, 0, 3225), Ok(5));
+}
+
+/// A reel of one-byte samples: a trace of N samples has 240 + N bytes. Three traces of 1, -128 and 127.
+#[test]
+fn reel_of_one_byte_samples() {
+    let mut reel = reel_of(8, &[&[0]]);
+    reel.truncate(3600);
+    reel[3220..3222].copy_from_slice(&3u16.to_be_bytes());
+    for trace in 1..=3 {
+        let start = reel.len();
+        reel.resize(start + 240, 0);
+        reel[start..start + 4].copy_from_slice(&[0, 0, 0, trace]);
+        reel[start + 68..start + 72].copy_from_slice(&[0xD8, 0xF0, 0xD8, 0xF0]);
+        reel[start + 114..start + 118].copy_from_slice(&[0x00, 0x03, 0x07, 0xD0]);
+        reel.extend([0x01, 0x80, 0x7F]);
+    }
+    assert_eq!(reel.len(), 3600 + 3 * 243);
+    counted(&reel, 3, 3, 0);
+    for trace in 1..=3 {
+        assert_eq!(look_up(&reel, trace, 1), Ok(trace as i32));
+    }
+    let mut record = [0xA5; 3885];
+    assert!(read_reel(&reel, &mut record).is_ok());
+    for trace in 0..3 {
+        let pairs = 3266 + 204 * trace + 186;
+        let held = [pair(0, 1), pair(7, -1), pair(0, 127)].concat();
+        assert_eq!(record[pairs..pairs + 18], held);
+    }
+    for (code, length) in [(1, 252), (2, 252), (3, 246), (4, 252), (5, 252), (8, 243)] {
+        let mut out = vec![0xA5; 3600 + 3 * length];
+        let taken = Taken {
+            traces: 3,
+            samples: 3,
+            length: out.len() as u64,
+        };
+        assert_eq!(write_reel(&record, code, &mut out), Ok(taken));
+        if code == 8 {
+            assert_eq!(out, reel);
+        }
+        let mut again = [0xA5; 3885];
+        assert!(read_reel(&out, &mut again).is_ok());
+        assert_eq!(again, record, "code {code}");
+    }
+    reel.push(0);
+    assert_eq!(read_reel(&reel, &mut record), refused(5, 3600 + 3 * 243));
+    reel.truncate(3600 + 3 * 243 - 1);
+    assert_eq!(read_reel(&reel, &mut record), refused(5, 3600 + 2 * 243));
+}
+
+/// The first word without a value is refused by 19 at its own place, wherever it stands, by reading and
+/// by look-up alike; and so is the first of several.
+#[test]
+fn words_without_a_value_on_a_reel() {
+    let one = 0x3F80_0000;
+    for bits in [
+        0x7F80_0000,
+        0xFF80_0000,
+        0x7F80_0001,
+        0x7FC0_0000,
+        0x7FFF_FFFF,
+        0xFFFF_FFFF,
+    ] {
+        for trace in 0..3 {
+            for sample in 0..3 {
+                let mut words = [[one; 3]; 3];
+                words[trace][sample] = bits;
+                for (later_trace, later_sample) in
+                    [(trace, sample), (trace, 2), (2, sample), (2, 2)]
+                {
+                    words[later_trace][later_sample] = bits;
+                    let traces: Vec<&[u32]> = words.iter().map(|words| &words[..]).collect();
+                    let reel = reel_of(5, &traces);
+                    let place = 3600 + 252 * trace + 240 + 4 * sample;
+                    let mut out = [0xA5; 4000];
+                    for room in [0, 4000] {
+                        assert_eq!(read_reel(&reel, &mut out[..room]), refused(19, place));
+                    }
+                    assert!(out.iter().all(|&byte| byte == 0xA5));
+                    for (trace, byte) in [(0, 3217), (1, 115), (3, 1), (4, 1), (1, 2)] {
+                        assert_eq!(look_up(&reel, trace, byte), refused(19, place));
+                    }
+                    // Under the other codes these bytes are samples like others; under code 4 the
+                    // first byte of the first word isn't 00.
+                    counted(&reel_of(1, &traces), 3, 3, 0);
+                    counted(&reel_of(2, &traces), 3, 3, 0);
+                    counted(&reel_of(8, &traces), 3, 12, 0);
+                    let gains = reel_of(4, &traces);
+                    assert_eq!(read_reel(&gains, &mut out), refused(9, 3840));
+                }
+            }
+        }
+    }
 }
 
 #[test]
@@ -318,12 +711,16 @@ fn words_normal_and_not() {
 #[test]
 fn words_of_other_codes() {
     for (bits, _, _) in NOT_NORMAL.into_iter().chain(NORMAL) {
-        for code in [2, 3] {
+        for code in [2, 3, 8] {
             let read = read_word(code, word(bits)).expect("any word is taken");
             assert!(!read.not_normal, "{bits:08X}");
         }
         let gain = read_word(4, word(bits & 0x00FF_FFFF)).expect("the first byte is 00");
         assert!(!gain.not_normal, "{bits:08X}");
+        match read_word(5, word(bits)) {
+            Ok(read) => assert!(!read.not_normal, "{bits:08X}"),
+            said => assert_eq!(said, refused(19, 0), "{bits:08X}"),
+        }
     }
     for (bits, _, _) in NOT_NORMAL {
         assert_eq!(read_word(4, word(bits)), refused(9, 0), "{bits:08X}");
@@ -405,9 +802,14 @@ fn normal_words_by_search() {
     assert_eq!(counts, [1 + 256 * 60 + 2 * 300, 255 + 254 * 300]);
 }
 
-/// A reel of 32-bit words, trace by trace.
+/// A reel of 32-bit words, trace by trace: under code 3 each is two samples, under code 8 four.
 fn reel_of(code: u16, traces: &[&[u32]]) -> Vec<u8> {
-    let samples = traces[0].len() as u16 * if code == 3 { 2 } else { 1 };
+    let in_a_word = match code {
+        3 => 2,
+        8 => 4,
+        _ => 1,
+    };
+    let samples = traces[0].len() as u16 * in_a_word;
     let mut reel = example();
     reel.truncate(3600);
     reel[3220..3222].copy_from_slice(&samples.to_be_bytes());
@@ -454,6 +856,8 @@ fn words_of_a_reel_are_counted() {
         counted(&reel_of(1, &traces), 3, 3, not_normal);
         counted(&reel_of(2, &traces), 3, 3, 0);
         counted(&reel_of(3, &traces), 3, 6, 0);
+        counted(&reel_of(5, &traces), 3, 3, 0);
+        counted(&reel_of(8, &traces), 3, 12, 0);
     }
 }
 
@@ -470,6 +874,7 @@ fn words_of_every_kind_are_counted() {
     counted(&reel_of(1, &alone), 55, 1, 31);
     counted(&reel_of(2, &alone), 55, 1, 0);
     counted(&reel_of(3, &alone), 55, 2, 0);
+    counted(&reel_of(8, &alone), 55, 4, 0);
     counted(&reel_of(1, &[&[0x4201_0000; 8_000]]), 1, 8_000, 8_000);
 }
 
@@ -950,12 +1355,18 @@ fn look_up_gives_bare_numbers() {
     }
 }
 
-/// 7, 8, 18 for field 69, 18 for field 71, 9; trace by trace. The reel is of gain words, and its
-/// second trace has every cause at first.
+/// 7, 8, 18 for field 69, 18 for field 71, then 9 for gain words and 19 for IEEE words; trace by trace.
+/// The second trace has every cause at first.
 #[test]
-fn causes_of_scalars_on_a_reel_in_order() {
+fn causes_of_a_trace_in_order() {
+    causes_in_order(4, [0x01, 0x00, 0x00, 0x00], 9);
+    causes_in_order(5, [0xFF, 0x80, 0x00, 0x00], 19);
+}
+
+/// The last cause of a trace is that of its first word, which is this one.
+fn causes_in_order(code: u8, wrong: [u8; 4], last: u64) {
     let mut reel = example();
-    reel[3224..3226].copy_from_slice(&[0x00, 0x04]);
+    reel[3224..3226].copy_from_slice(&[0x00, code]);
     reel[3840..3848].fill(0);
     let trace = reel[3600..].to_vec();
     reel.extend(&trace);
@@ -963,7 +1374,7 @@ fn causes_of_scalars_on_a_reel_in_order() {
     let start = 3848;
     reel[start + 114..start + 118].copy_from_slice(&[0x00, 0x03, 0x00, 0x03]);
     reel[start + 68..start + 72].copy_from_slice(&[0x00, 0x07, 0x00, 0x02]);
-    reel[start + 240] = 0x01;
+    reel[start + 240..start + 244].copy_from_slice(&wrong);
     reel[start + 248 + 68] = 0x01;
 
     let mut out = [0xA5; 4000];
@@ -972,7 +1383,7 @@ fn causes_of_scalars_on_a_reel_in_order() {
         (refused(8, start + 116), 116..118),
         (refused(18, start + 68), 68..70),
         (refused(18, start + 70), 70..72),
-        (refused(9, start + 240), 240..241),
+        (refused(last, start + 240), 240..244),
         (refused(18, start + 248 + 68), 248 + 68..248 + 70),
     ] {
         for room in [0, 4000] {
