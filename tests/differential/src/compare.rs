@@ -32,14 +32,14 @@ const LIST_CARDS: usize = 5;
 const TAKE_CARDS: usize = 6;
 
 /// The largest number of a cause.
-const MOST_NUMBER: usize = 18;
+const MOST_NUMBER: usize = 19;
 /// The causes of each call.
 const CAUSES: [&[usize]; CALLS.len()] = [
-    &[2, 9],
+    &[2, 9, 19],
     &[11, 13, 14],
-    &[1, 2, 3, 4, 5, 6, 7, 8, 9, 10, 18],
+    &[1, 2, 3, 4, 5, 6, 7, 8, 9, 10, 18, 19],
     &[10, 11, 12, 13, 14],
-    &[1, 2, 3, 4, 5, 6, 7, 8, 9, 15, 16, 18],
+    &[1, 2, 3, 4, 5, 6, 7, 8, 9, 15, 16, 18, 19],
     &[10, 12, 13],
     &[10, 12, 13, 17],
 ];

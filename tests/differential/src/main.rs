@@ -1,5 +1,8 @@
 //! Compares the library's C interface with an independent implementation of documents 01 and 02: the
 //! same calls, whose answers and whose every output byte, before and after, must agree.
+//!
+//! With the argument `every-word` it compares all words of code 5, and nothing else: each is read,
+//! written and read again, and its value is that of the host's own float.
 
 mod compare;
 mod library;
@@ -13,23 +16,35 @@ mod scalars;
 
 fn main() {
     let mut compare = compare::Comparison::new();
-    samples::words(&mut compare);
-    samples::pairs(&mut compare);
-    reels::reels(&mut compare);
-    reels::look_ups(&mut compare);
-    records::records(&mut compare);
-    scalars::scalars(&mut compare);
-    normal::counts(&mut compare);
-    listings::listings(&mut compare);
-    listings::causes_of_listings(&mut compare);
-    reels::long_reels(&mut compare);
-    normal::long_reels(&mut compare);
-    records::long_records(&mut compare);
-    listings::long_listings(&mut compare);
+    let arguments: Vec<String> = std::env::args().skip(1).collect();
+    match &arguments[..] {
+        [] => everything(&mut compare),
+        [word] if word == "every-word" => samples::every_ieee_word(&mut compare),
+        _ => {
+            eprintln!("usage: differential [every-word]");
+            std::process::exit(1);
+        }
+    }
+    println!("differential: {} calls compared, 0 differ", compare.calls());
+}
+
+fn everything(compare: &mut compare::Comparison) {
+    samples::words(compare);
+    samples::pairs(compare);
+    reels::reels(compare);
+    reels::look_ups(compare);
+    records::records(compare);
+    scalars::scalars(compare);
+    normal::counts(compare);
+    listings::listings(compare);
+    listings::causes_of_listings(compare);
+    reels::long_reels(compare);
+    normal::long_reels(compare);
+    records::long_records(compare);
+    listings::long_listings(compare);
 
     compare.stage("the whole run");
     if !compare.report() {
         std::process::exit(1);
     }
-    println!("differential: {} calls compared, 0 differ", compare.calls());
 }

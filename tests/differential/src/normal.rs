@@ -201,6 +201,8 @@ fn there_and_back(
     let mut other = reel.to_vec();
     put(&mut other, 3224, 2);
     counted(compare, &other, shape, 0);
+    put(&mut other, 3224, 5);
+    compare.read_reel(&other, length);
     put(&mut other, 3224, 4);
     compare.read_reel(&other, length);
     for trace in 0..shape.traces {
@@ -209,18 +211,18 @@ fn there_and_back(
         }
     }
     counted(compare, &other, shape, 0);
-    if shape.samples <= 4_000 {
-        let mut halves = reel.to_vec();
-        put(&mut halves, 3220, 2 * shape.samples as u16);
-        put(&mut halves, 3224, 3);
-        for trace in 0..shape.traces {
-            put(&mut halves, shape.trace(trace) + 114, 0);
+    for (code, in_a_word) in [(3, 2), (8, 4)] {
+        let samples = in_a_word * shape.samples;
+        if samples > 8_000 {
+            continue;
         }
-        let shape = Shape {
-            samples: 2 * shape.samples,
-            ..shape
-        };
-        counted(compare, &halves, shape, 0);
+        let mut parts = reel.to_vec();
+        put(&mut parts, 3220, samples as u16);
+        put(&mut parts, 3224, code);
+        for trace in 0..shape.traces {
+            put(&mut parts, shape.trace(trace) + 114, 0);
+        }
+        counted(compare, &parts, Shape { samples, ..shape }, 0);
     }
 }
 
@@ -276,7 +278,7 @@ const CAUSES: [u64; 10] = [1, 2, 3, 4, 5, 7, 8, 9, 10, 18];
 /// Refused reels whose words are not normal: none count. Under code 4 such words are refused by 9.
 fn refusals(compare: &mut Comparison, random: &mut Random) {
     compare.stage("words that aren't normal on refused reels");
-    let mut seen = [0; 19];
+    let mut seen = [0; 20];
     for turn in 0..5_000 {
         let shape = Shape {
             traces: 1 + random.below(3),

@@ -135,7 +135,7 @@ pub fn damage_in_place(random: &mut Random, kind: usize, shape: Shape, record: &
         6 => put(
             bytes,
             3206 + 24,
-            random.pick(&[1, 2, 3, 4, 5, 256, 0x8000, 65_535]),
+            random.pick(&[1, 2, 3, 4, 5, 8, 256, 0x8000, 65_535]),
         ),
         7 => {
             if let Some(header) = header {
@@ -290,8 +290,8 @@ pub fn records(compare: &mut Comparison) {
     }
 
     compare.stage("records of one sample");
-    for count in 0..40_000 {
-        let code = CODES[count % 4];
+    for count in 0..60_000 {
+        let code = CODES[count % CODES.len()];
         let shape = Shape::new(code, 1, 1);
         let mut record = Record::valid(&mut random, shape, true).bytes;
         let any = match random.below(4) {
@@ -304,7 +304,7 @@ pub fn records(compare: &mut Comparison) {
     }
 
     compare.stage("records, valid and damaged");
-    for _ in 0..90_000 {
+    for _ in 0..110_000 {
         let shape = Shape::any(&mut random, 300);
         let fitting = !random.once_in(4);
         let mut record = Record::valid(&mut random, shape, fitting);

@@ -4,7 +4,7 @@ use crate::compare::{print_input, Comparison};
 use crate::library::ReelAnswer;
 use crate::normal::words_come_back;
 use crate::random::Random;
-use crate::samples::{bad_code, pair, random_word, structured_word, CODES};
+use crate::samples::{bad_code, no_value, pair, random_word, structured_word, CODES, NO_VALUES};
 use crate::scalars::{damage_scalar, put_on_reel};
 
 /// What the numbers and words of a made reel are like.
@@ -12,11 +12,13 @@ use crate::scalars::{damage_scalar, put_on_reel};
 pub enum Words {
     Random,
     Structured,
-    /// Whole numbers of 16 bits, which every code has.
+    /// Whole numbers of 16 bits, which every code has but code 8; there of 8 bits.
     Whole,
+    /// Whole numbers of 8 bits, which every code has.
+    Small,
 }
 
-pub const ALL_WORDS: [Words; 3] = [Words::Random, Words::Structured, Words::Whole];
+pub const ALL_WORDS: [Words; 4] = [Words::Random, Words::Structured, Words::Whole, Words::Small];
 
 #[derive(Clone, Copy)]
 pub struct Shape {
@@ -57,10 +59,10 @@ impl Shape {
     }
 
     pub fn width(&self) -> usize {
-        if self.code == 3 {
-            2
-        } else {
-            4
+        match self.code {
+            3 => 2,
+            8 => 1,
+            _ => 4,
         }
     }
 
@@ -82,8 +84,9 @@ fn word(random: &mut Random, code: u32, words: Words) -> [u8; 4] {
     match words {
         Words::Random => random_word(random, code),
         Words::Structured => structured_word(random, code),
-        Words::Whole => {
-            let number = random.next() as i16;
+        Words::Whole | Words::Small => {
+            let small = words == Words::Small || code == 8;
+            let number = random.next() as i16 >> if small { 8 } else { 0 };
             let twos = number.trailing_zeros().min(15);
             let whole = if number == 0 {
                 pair(0, 0)
@@ -155,8 +158,8 @@ pub fn other_number(random: &mut Random, number: u16) -> u16 {
     }
 }
 
-/// The kinds of damage lead to the causes 1 to 9 (without 6, which takes a long reel) and to 18; two
-/// put other valid numbers in place of N and the code.
+/// The kinds of damage lead to the causes 1 to 9 (without 6, which takes a long reel), to 18 and to 19;
+/// two put other valid numbers in place of N and the code.
 pub const DAMAGES: usize = 14;
 
 /// Damages a reel in one way. What an earlier damage has cut off can't be damaged any more.
@@ -209,15 +212,18 @@ pub fn damage(random: &mut Random, kind: usize, shape: Shape, reel: &mut Vec<u8>
         ),
         7 if traces => put(reel, trace + 116, other_number(random, shape.interval)),
         8 | 9 if traces => {
-            let sample = random.below(shape.samples);
-            let byte = 1 << random.below(8);
-            reel[trace + 240 + sample * shape.width()] ^= byte;
+            let place = trace + 240 + random.below(shape.samples) * shape.width();
+            if shape.code == 5 {
+                reel[place..place + 4].copy_from_slice(&no_value(random));
+            } else {
+                reel[place] ^= 1 << random.below(8);
+            }
         }
         10 => {
             let most = random.pick(&[2, 20, 8000]);
             put(reel, 3220, 1 + random.below(most) as u16);
         }
-        11 => put(reel, 3224, random.pick(&[1, 2, 3, 4])),
+        11 => put(reel, 3224, random.pick(&CODES) as u16),
         12 | 13 if traces => damage_scalar(random, &mut reel[trace..]),
         _ => {}
     }
@@ -348,7 +354,7 @@ pub fn reels(compare: &mut Comparison) {
 
     compare.stage("reels, valid and damaged");
     let mut come_back = [0; 2];
-    for _ in 0..72_000 {
+    for _ in 0..90_000 {
         let shape = Shape::any(&mut random, 300);
         let words = random.pick(&ALL_WORDS);
         let mut made = reel(&mut random, shape, words);
@@ -378,6 +384,8 @@ pub fn reels(compare: &mut Comparison) {
         );
     }
 
+    words_without_a_value(compare, &mut random);
+
     compare.stage("reels of 8,000 samples");
     for code in CODES {
         for words in ALL_WORDS {
@@ -398,6 +406,58 @@ pub fn reels(compare: &mut Comparison) {
     }
 }
 
+/// Words of code 5 that have no value: one at every sample of small reels, and the same bytes under the
+/// other codes; then some of them.
+fn words_without_a_value(compare: &mut Comparison, random: &mut Random) {
+    compare.stage("a word of code 5 without a value, at every sample");
+    for (samples, traces) in [(1, 1), (1, 3), (2, 2), (3, 3), (5, 2), (9, 1), (17, 1)] {
+        let shape = Shape::new(5, samples, traces);
+        let valid = reel(random, shape, Words::Structured);
+        for trace in 0..traces {
+            for sample in 0..samples {
+                let place = shape.trace(trace) + 240 + 4 * sample;
+                for bits in NO_VALUES {
+                    let mut made = valid.clone();
+                    made[place..place + 4].copy_from_slice(&bits.to_be_bytes());
+                    for room in [0, shape.record_length()] {
+                        let answer = compare.read_reel(&made, room);
+                        if (answer.number, answer.beside) != (19, place as u64) {
+                            compare.differs("a word without a value isn't refused by 19", || {
+                                println!("at place {place}: {answer:?}");
+                                print_input(&made, &[answer.beside]);
+                            });
+                        }
+                    }
+                    some_look_ups(compare, random, &made, shape, 2);
+                    for code in [1, 2, 4] {
+                        put(&mut made, 3224, code);
+                        compare.read_reel(&made, shape.record_length());
+                    }
+                }
+            }
+        }
+    }
+
+    compare.stage("several words of code 5 without a value");
+    for _ in 0..10_000 {
+        let shape = Shape {
+            code: 5,
+            traces: 1 + random.below(4),
+            ..Shape::any(random, 60)
+        };
+        let mut made = reel(random, shape, Words::Random);
+        for _ in 0..1 + random.below(3) {
+            damage(random, 8, shape, &mut made);
+        }
+        for _ in 0..random.pick(&[0, 0, 1, 2]) {
+            let kind = random.pick(&[5, 6, 7, 12]);
+            damage(random, kind, shape, &mut made);
+        }
+        compare.read_reel(&made, random.pick(&[0, shape.record_length()]));
+        some_look_ups(compare, random, &made, shape, 2);
+    }
+}
+
 pub fn look_ups(compare: &mut Comparison) {
     let mut random = Random::seeded(5);
     compare.stage("every byte number");
@@ -408,6 +468,9 @@ pub fn look_ups(compare: &mut Comparison) {
         (3, 3, 2),
         (4, 2, 3),
         (3, 300, 1),
+        (5, 2, 3),
+        (8, 1, 2),
+        (8, 5, 3),
     ] {
         let shape = Shape::new(code, samples, traces);
         let made = reel(&mut random, shape, Words::Random);
@@ -499,4 +562,22 @@ pub fn long_reels(compare: &mut Comparison) {
     let place = made.len() - 4;
     made[place] = 1;
     compare.read_reel(&made, length);
+
+    let shape = Shape::new(5, 1, 100_000);
+    let mut made = reel(&mut random, shape, Words::Structured);
+    compare.read_reel(&made, length);
+    made[place..].copy_from_slice(&no_value(&mut random));
+    compare.read_reel(&made, length);
+    compare.look_up(&made, 1, 1);
+
+    let shape = Shape::new(8, 1, 100_000);
+    let mut made = reel(&mut random, shape, Words::Random);
+    let taken = compare.read_reel(&made, length);
+    let record = compare.written(taken).to_vec();
+    for code in CODES {
+        write_and_read_again(compare, &record, code, 24_500_000);
+    }
+    compare.look_up(&made, 100_000, 1);
+    made.extend_from_within(shape.trace(99_999)..);
+    compare.read_reel(&made, length + 192);
 }

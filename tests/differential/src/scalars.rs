@@ -397,10 +397,16 @@ fn same_values(compare: &mut Comparison, random: &mut Random) {
     }
 }
 
-/// Every set of the causes of a trace, on a reel and in a record, with or without room.
+/// Every set of the causes of a trace, on a reel and in a record, with or without room. The last is 9
+/// under code 4, 19 under code 5.
 fn several_causes(compare: &mut Comparison, random: &mut Random) {
     compare.stage("several causes in one trace");
-    let shape = Shape::new(4, 2, 2);
+    causes_of_a_trace(compare, random, 4, [0x01, 0, 0, 0]);
+    causes_of_a_trace(compare, random, 5, [0xFF, 0x80, 0, 0]);
+}
+
+fn causes_of_a_trace(compare: &mut Comparison, random: &mut Random, code: u32, wrong: [u8; 4]) {
+    let shape = Shape::new(code, 2, 2);
     let (second, second_held) = (shape.trace_length(), 198);
     for causes in 0..1 << 5 {
         for trace in 0..2 {
@@ -417,7 +423,7 @@ fn several_causes(compare: &mut Comparison, random: &mut Random) {
                 }
             }
             if has(4) {
-                made[start + 240] = 1;
+                made[start + 240..start + 244].copy_from_slice(&wrong);
                 record[held + 180] = 5;
             }
             for room in [0, 5000] {
