@@ -1,4 +1,4 @@
-"""Writing of reels from records, worked out from document 01 and document 02's CR 2 alone.
+"""Writing of reels from records, worked out from document 01 and document 02's CR 2 and CR 4 alone.
 
     python3 tools/vectors/records.py          checks this file on the paper's statements
 
@@ -22,7 +22,7 @@ from reels import (  # noqa: E402
     number_bytes, pair_of_word, random_reel, read_reel, record_length, sample_size, scalar_of, smallest,
     some_bytes, some_groups, some_sample, tagged, trace_size, trace_starts, words,
 )
-from samples import NORMAL, NOT_NORMAL, is_canonical, pair_bytes, signed, v_of_pair, word_of_v  # noqa: E402
+from samples import CODES, NORMAL, NOT_NORMAL, is_canonical, pair_bytes, signed, v_of_pair, word_of_v  # noqa: E402
 
 # ----------------------------------------------------- where things stand
 
@@ -197,7 +197,7 @@ def reel_of(record, code):
 
 def write_reel(record, code, room):
     """What is said of any bytes and any code when the output has that much room."""
-    if code not in (1, 2, 3, 4):
+    if code not in CODES:
         return "refused", 11, 0
     cause = first_cause(record)
     if cause:
@@ -374,12 +374,20 @@ def check_example():
     assert write_into(record, 1, b"\xA5" * 3850) == (
         ("taken", 1, 2, 3848, written), written + b"\xA5\xA5")
     assert write_into(record, 1, b"\xA5" * 3847) == (("refused", 10, 3848), b"\xA5" * 3847)
-    for code in (2, 3):  # -949/8 isn't whole
+    for code in (2, 3, 8):  # -949/8 isn't whole
         assert write_reel(record, code, 0) == ("refused", 14, 3266 + 183 + 3 + 6)
     said = write_reel(record, 4, 3848)
     assert said[:4] == ("taken", 1, 2, 3848)
     assert said[4][3224:3226] == b"\x00\x04" and said[4][-8:] == bytes.fromhex("00000001 0003FC4B")
-    for code in (0, 5, 256, 257, 65537, 2 ** 32 - 1):
+    said = write_reel(record, 5, 3848)
+    assert said[:4] == ("taken", 1, 2, 3848)
+    assert said[4][3224:3226] == b"\x00\x05" and said[4][-8:] == bytes.fromhex("3F800000 C2ED4000")
+    small = make_record(2000, 2, [[pair_bytes(7, -1), pair_bytes(0, 127)]])
+    said = write_reel(small, 8, 3842)
+    assert said[:4] == ("taken", 1, 2, 3842)
+    assert said[4][3224:3226] == b"\x00\x08" and said[4][-2:] == bytes.fromhex("807F")
+    assert write_reel(small, 8, 3841) == ("refused", 10, 3842)
+    for code in (0, 6, 7, 9, 256, 257, 261, 264, 65537, 2 ** 32 - 1):
         assert write_reel(record, code, 3848) == ("refused", 11, 0)
         assert write_reel(b"", code, 0) == ("refused", 11, 0)
     assert record == make_record(2000, 2, [[pair_bytes(0, 1), pair_bytes(-3, -949)]])
@@ -399,11 +407,11 @@ def check_places():
 
 def check_round_trip(rnd):
     """The written reel means what the reel meant that the record was read from; its words are normal."""
-    for code in (1, 2, 3, 4):
+    for code in CODES:
         for t, n in ((0, 3), (1, 1), (2, 7), (3, 40)):
             reel = random_reel(rnd, code, n, t)
             record = read_reel(reel, 1 << 20)[1]
-            for target in (1, 2, 3, 4):
+            for target in CODES:
                 said = write_reel(record, target, 1 << 20)
                 if target == code or t == 0:
                     assert said[0] == "taken"

@@ -1,4 +1,4 @@
-"""Reading of whole reels, worked out from document 01 and document 02's CR 2 and CR 3 alone.
+"""Reading of whole reels, worked out from document 01 and document 02's CR 2, CR 3 and CR 4 alone.
 
     python3 tools/vectors/reels.py            checks this file on the paper's statements
     python3 tools/vectors/reels.py --line     answers as the program does: a reel in, its line out
@@ -8,7 +8,7 @@ nothing with the code they test. What is said of a reel is a tuple:
     ("taken", T, N, length, count)     by reading; the count is that of the words that are not normal
     ("found", number)                  by look-up
     ("refused", number, beside)        by either; beside is the place or length of the table, or the
-                                       place of number 18
+                                       place of numbers 18 and 19
 """
 
 import random
@@ -20,7 +20,9 @@ from pathlib import Path
 sys.path.insert(0, str(Path(__file__).resolve().parent))
 sys.dont_write_bytecode = True
 
-from samples import NORMAL, NOT_NORMAL, not_normal, pair_bytes, pair_of_v, signed, v_of_word  # noqa: E402
+from samples import (  # noqa: E402
+    CODES, NO_VALUES, NORMAL, NOT_NORMAL, is_finite, not_normal, pair_bytes, pair_of_v, signed, v_of_word,
+)
 
 # ------------------------------------------------------------- the layout
 
@@ -52,7 +54,7 @@ POWERS = range(-4, 5)
 
 
 def sample_size(code):
-    return {1: 4, 2: 4, 3: 2, 4: 4}[code]
+    return {1: 4, 2: 4, 3: 2, 4: 4, 5: 4, 8: 1}[code]
 
 
 def trace_size(code, n):
@@ -89,17 +91,17 @@ def words(reel, start):
     return [first + i * size for i in range(binary_number(reel, COUNT))]
 
 
-# -------------------------------------------------- causes 1 to 9 and 18
+# --------------------------------------------- causes 1 to 9, 18 and 19
 
 
 def first_cause(reel):
-    """The refusal by the first of causes 1 to 9 and 18 that the reel has, or None."""
+    """The refusal by the first of causes 1 to 9, 18 and 19 that the reel has, or None."""
     if len(reel) < HEADERS:
         return "refused", 1, len(reel)
     code = binary_number(reel, CODE)
     n = binary_number(reel, COUNT)
     interval = binary_number(reel, INTERVAL)
-    if code not in (1, 2, 3, 4):
+    if code not in CODES:
         return "refused", 2, 3224
     if not 1 <= n <= MOST_N:
         return "refused", 3, 3220
@@ -124,6 +126,10 @@ def first_cause(reel):
             for place in words(reel, start):
                 if reel[place] != 0x00:
                     return "refused", 9, place
+        if code == 5:
+            for place in words(reel, start):
+                if not is_finite(reel[place : place + 4]):
+                    return "refused", 19, place
     return None
 
 
@@ -194,7 +200,7 @@ def is_normal(word):
 
 
 def count_not_normal(reel):
-    """How many words of a reel without a cause of 1 to 9 or 18 are not normal; 0 for codes 2 to 4."""
+    """How many words of a reel without a cause of 1 to 9, 18 or 19 are not normal; 0 for other codes than 1."""
     if binary_number(reel, CODE) != 1:
         return 0
     places = (place for start in trace_starts(reel) for place in words(reel, start))
@@ -219,7 +225,7 @@ def trace_numbers(reel, start):
 
 
 def record_of(reel):
-    """The record of a reel without a cause of 1 to 9 or 18."""
+    """The record of a reel without a cause of 1 to 9, 18 or 19."""
     code = binary_number(reel, CODE)
     size = sample_size(code)
     starts = trace_starts(reel)
@@ -303,7 +309,7 @@ UNSCALED = [b for b in TRACE_FIELDS if b not in GROUPS and not any(b in group fo
 
 
 def meaning(reel):
-    """Card text, header numbers, T and sample values of a reel without a cause of 1 to 9 or 18."""
+    """Card text, header numbers, T and sample values of a reel without a cause of 1 to 9, 18 or 19."""
     code = binary_number(reel, CODE)
     size = sample_size(code)
     starts = trace_starts(reel)
@@ -370,6 +376,14 @@ def gain(g, d, first=0x00):
     return bytes([first, g]) + d.to_bytes(2, "big", signed=True)
 
 
+def ieee(s, exponent, f):
+    return (s * 2 ** 31 + exponent * 2 ** 23 + f).to_bytes(4, "big")
+
+
+def whole8(number):
+    return number.to_bytes(1, "big", signed=True)
+
+
 def some_bytes(rnd, count):
     """Random bytes, the same under every Python."""
     return rnd.getrandbits(8 * count).to_bytes(count, "big") if count else b""
@@ -379,6 +393,9 @@ def some_sample(rnd, code):
     """A random sample that its code takes."""
     if code == 4:
         return b"\x00" + some_bytes(rnd, 3)
+    if code == 5:  # now and then a subnormal number
+        exponent = rnd.getrandbits(16) % 255 if rnd.getrandbits(3) else 0
+        return ieee(rnd.getrandbits(1), exponent, rnd.getrandbits(23))
     return some_bytes(rnd, sample_size(code))
 
 
@@ -463,7 +480,7 @@ def check_example():
 
 
 def check_records(rnd):
-    for code in (1, 2, 3, 4):
+    for code in CODES:
         for t in (0, 1, 2, 5):
             for n in (1, 2, 7, 100):
                 reel = random_reel(rnd, code, n, t)
@@ -490,9 +507,13 @@ def check_pairs(rnd):
     def check(code, word):
         assert pair_of_word(code, word) == pair_bytes(*pair_of_v(v_of_word(code, word)))
 
-    for code in (1, 2, 3, 4):
+    for code in CODES:
         for _ in range(300):
             check(code, some_sample(rnd, code))
+    for word in ("00000000", "80000000", "00000001", "807FFFFF", "00800000", "3F800000", "7F7FFFFF"):
+        check(5, bytes.fromhex(word))
+    for number in range(-128, 128):
+        check(8, whole8(number))
     for word in ("80000000", "7F000000", "00000001", "7F800000", "7FFFFFFF", "42010000"):
         check(1, bytes.fromhex(word))
     for number in (0, 1, -1, 2, -2, 2 ** 31 - 1, -(2 ** 31)):
@@ -527,6 +548,8 @@ def check_not_normal(rnd):
         assert read_reel(reel(2, *traces), BUFFER)[0] == ("taken", 3, 3, 3885, 0)
         assert read_reel(reel(3, *traces), BUFFER)[0] == ("taken", 3, 6, 3939, 0)
         assert read_reel(reel(4, *traces), BUFFER)[0] == ("refused", 9, 3840)
+        assert read_reel(reel(5, *traces), BUFFER)[0] == ("taken", 3, 3, 3885, 0)
+        assert read_reel(reel(8, *traces), BUFFER)[0] == ("taken", 3, 12, 4047, 0)
         assert read_reel(reel(1, *traces), 3884)[0] == ("refused", 10, 3885)
         assert read_reel(reel(1, *traces) + b"\x00", BUFFER)[0] == ("refused", 5, 3600 + 3 * 252)
     # every kind of word
@@ -548,6 +571,8 @@ def check_meaning(rnd):
         2: [whole32(1), whole32(-3)],
         3: [whole16(1), whole16(-3)],
         4: [gain(1, 2), gain(0, -3)],
+        5: [ieee(0, 127, 0), ieee(1, 128, 0x400000)],
+        8: [whole8(1), whole8(-3)],
     }
     reels = [
         make_reel(2000, 2, code, [make_trace(samples, rest=bytes(180) + some_bytes(rnd, 60))] * 2,
@@ -555,9 +580,12 @@ def check_meaning(rnd):
         for code, samples in by_code.items()
     ]
     assert all(same(a, b) for a in reels for b in reels)
+    # zeros of either sign
+    zeros = [make_reel(2000, 1, 5, [make_trace([ieee(s, 0, 0)])]) for s in (0, 1)]
+    assert same(*zeros) and same(zeros[1], make_reel(2000, 1, 8, [make_trace([whole8(0)])]))
     # one byte changed, wherever it stands
-    for _ in range(300):
-        before = reels[rnd.getrandbits(2)]
+    for _ in range(400):
+        before = reels[rnd.getrandbits(16) % len(reels)]
         after = bytearray(before)
         place = rnd.getrandbits(32) % len(after) if rnd.getrandbits(1) else (
             HEADERS - 400 + rnd.getrandbits(32) % (len(after) - HEADERS + 400))
@@ -630,6 +658,8 @@ def check_scalars(rnd):
     assert said(reel({69: 7, 71: 7})) == ("refused", 18, 3600 + 68)
     bad = make_reel(2000, 1, 4, [make_trace([gain(0, 1, 0x01)], {71: 7})])
     assert said(bad) == ("refused", 18, 3600 + 70)
+    bad = make_reel(2000, 1, 5, [make_trace([NO_VALUES[0]], {71: 7})])
+    assert said(bad) == ("refused", 18, 3600 + 70)
     for scalar in SCALARS:
         made = reel({41: -5, 69: scalar, 71: scalar, 85: 6})
         assert look_up(made, 1, 41) == ("found", -5) and look_up(made, 1, 85) == ("found", 6)
@@ -665,7 +695,9 @@ def check_causes():
     assert said(b"") == ("refused", 1, 0)
     assert said(good[:3599]) == ("refused", 1, 3599)
     assert said(bytes(3600)) == ("refused", 2, 3224)
-    assert said(make_reel(0, 0, 5)) == ("refused", 2, 3224)
+    for code in range(0, 65536):
+        if code not in CODES:
+            assert said(bytes(3224) + code.to_bytes(2, "big") + bytes(374)) == ("refused", 2, 3224)
     assert said(make_reel(0, 0, 1)) == ("refused", 3, 3220)
     assert said(make_reel(0, 1, 1)) == ("refused", 4, 3216)
     assert said(make_reel(1, 1, 1)) == ("taken", 0, 1, 3273, 0)
@@ -685,6 +717,32 @@ def check_causes():
         "refused", 8, 3600 + 248 + 116)
     assert said(make_reel(2000, 2, 4, [fine, trace({}, gain(0, 1), gain(1, 2, 0x80))])) == (
         "refused", 9, 3600 + 248 + 244)
+    # a word without a value: its own place, after 7, 8 and 18, before 10; the first counts, and look-up refuses it too
+    one = ieee(0, 127, 0)
+    for word in NO_VALUES:
+        for i in (1, 2):
+            for k in (1, 2):
+                made = [[one, one], [one, one]]
+                made[i - 1][k - 1] = word
+                for last in (one, word):
+                    made[1][1] = last if (i, k) != (2, 2) else word
+                    reel = make_reel(2000, 2, 5, [trace({}, *samples) for samples in made])
+                    cause = "refused", 19, 3600 + (i - 1) * 248 + 240 + (k - 1) * 4
+                    assert said(reel) == cause == read_reel(reel, 0)[0] == look_up(reel, 0, 3217) == look_up(reel, 9, 2)
+        for fields, cause in (({115: 3}, ("refused", 7, 3714)), ({117: 1}, ("refused", 8, 3716)),
+                              ({69: 7}, ("refused", 18, 3668)), ({71: 7}, ("refused", 18, 3670))):
+            assert said(make_reel(2000, 2, 5, [trace(fields, word, one)])) == cause
+        assert said(make_reel(2000, 2, 5, [trace({}, word, one)]) + b"\x00") == ("refused", 5, 3848)
+        assert said(make_reel(2000, 2, 5, [trace({}, one, word), trace({115: 3}, one, one)])) == ("refused", 19, 3844)
+        assert said(make_reel(2000, 2, 5, [trace({115: 3}, one, one), trace({}, one, word)])) == ("refused", 7, 3714)
+        assert said(make_reel(2000, 4, 8, [trace({}, word)])) == ("taken", 1, 4, 3483, 0)
+    # a trace of N one-byte samples has 240 + N bytes
+    bytes_of = [trace({}, whole8(1), whole8(-128), whole8(127))] * 2
+    reel = make_reel(2000, 3, 8, bytes_of)
+    assert len(reel) == 3600 + 2 * 243 and said(reel) == ("taken", 2, 3, 3681, 0)
+    assert said(reel[:-1]) == ("refused", 5, 3843) and said(reel + b"\x00") == ("refused", 5, 4086)
+    pairs = pair_bytes(0, 1) + pair_bytes(7, -1) + pair_bytes(0, 127)
+    assert record_of(reel)[-7 - 18 : -7] == pairs
     # trace by trace
     assert said(make_reel(2000, 2, 4, [
         trace({}, gain(0, 1), gain(0, 1, 0x01)), trace({115: 3}, gain(0, 1), gain(0, 1))])) == (

@@ -1,11 +1,12 @@
-"""Test vectors for single samples, worked out from document 01 and document 02's CR 3 alone.
+"""Test vectors for single samples, worked out from document 01 and document 02's CR 3 and CR 4 alone.
 
 Run from the root of the repository:  python3 tools/vectors/samples.py [--check]
 It rewrites crates/sample_vectors/stdin and crates/sample_vectors/stdout; with
 --check it compares them with what it would write, and writes nothing.
 
 The rules are written here as literally as possible, by whole numbers and by
-trying every case, so that they share nothing with the code they test.
+trying every case, so that they share nothing with the code they test. Words of
+code 5 are compared with Python's own floats as well.
 
 A line of stdin is 24 bytes, a line of stdout 36, line feed included:
     r CODE(8 hex) WORD(8 hex)----        read a word
@@ -14,8 +15,11 @@ A line of stdin is 24 bytes, a line of stdout 36, line feed included:
     NUMBER(3 decimal) PLACE(16 hex) WORD(8 hex)---- -         a pair that was written
 """
 
+import math
+import struct
 import sys
 from collections import Counter
+from fractions import Fraction
 from pathlib import Path
 
 FOLDER = Path(__file__).resolve().parents[2] / "crates" / "sample_vectors"
@@ -23,14 +27,27 @@ FOLDER = Path(__file__).resolve().parents[2] / "crates" / "sample_vectors"
 # ---------------------------------------------------------------- the rules
 
 SCALE = 16 ** 70  # the value of a sample is V / SCALE
+CODES = (1, 2, 3, 4, 5, 8)
 
 
 def signed(some_bytes):
     return int.from_bytes(some_bytes, "big", signed=True)
 
 
+def ieee_parts(word):
+    """Sign, exponent and fraction of an IEEE single, each as a whole number."""
+    bits = int.from_bytes(word, "big")
+    return bits // 2 ** 31, bits // 2 ** 23 % 256, bits % 2 ** 23
+
+
+def is_finite(word):
+    """Whether an IEEE single has a value: with the exponent 255 it is an infinity or a not-a-number."""
+    _, exponent, _ = ieee_parts(word)
+    return exponent != 255
+
+
 def v_of_word(code, word):
-    """V of a word. The code is 1 to 4, and a gain word begins with 00."""
+    """V of a word of one of the codes. A gain word begins with 00, and an IEEE single has a value."""
     if code == 1:
         bits = int.from_bytes(word, "big")
         s = bits // 2 ** 31
@@ -46,6 +63,22 @@ def v_of_word(code, word):
         g = word[1]
         d = signed(word[2:4])
         return d * 2 ** (280 - g)
+    if code == 5:
+        s, exponent, f = ieee_parts(word)
+        if exponent == 0:  # 0.f times 2^-126
+            v = f * 2 ** (280 - 126 - 23)
+        else:  # 1.f times 2^(exponent - 127)
+            v = (2 ** 23 + f) * 2 ** (280 + exponent - 127 - 23)
+        return -v if s == 1 else v
+    if code == 8:
+        return signed(word[0:1]) * SCALE
+
+
+# For each exponent from 0 to 254 of an IEEE single: V at the fraction 0, and what each 1 in the fraction adds.
+IEEE_ROWS = [
+    (v_of_word(5, bits.to_bytes(4, "big")), v_of_word(5, (bits + 1).to_bytes(4, "big")) - v_of_word(5, bits.to_bytes(4, "big")))
+    for bits in range(0, 255 * 2 ** 23, 2 ** 23)
+]
 
 
 def is_canonical(e, m):
@@ -73,7 +106,7 @@ def v_of_pair(e, m):
 
 
 def word_of_v(code, v):
-    """The word for V under a code from 1 to 4, or None if V doesn't fit."""
+    """The word for V under one of the codes, or None if V doesn't fit."""
     if code == 1:
         if v == 0:
             return bytes(4)
@@ -108,6 +141,22 @@ def word_of_v(code, v):
             if rest == 0 and -(2 ** 15) <= d <= 2 ** 15 - 1:
                 return bytes([0, g]) + d.to_bytes(2, "big", signed=True)
         return None
+    if code == 5:
+        if v == 0:
+            return bytes(4)
+        s = 1 if v < 0 else 0
+        found = []
+        for exponent, (first, step) in enumerate(IEEE_ROWS):
+            f, rest = divmod(abs(v) - first, step)
+            if rest == 0 and 0 <= f < 2 ** 23:
+                found.append((s * 2 ** 31 + exponent * 2 ** 23 + f).to_bytes(4, "big"))
+        assert len(found) <= 1
+        return found[0] if found else None
+    if code == 8:
+        n, rest = divmod(v, SCALE)
+        if rest != 0 or not -(2 ** 7) <= n <= 2 ** 7 - 1:
+            return None
+        return n.to_bytes(1, "big", signed=True) + bytes(3)
 
 
 def not_normal(code, word):
@@ -121,16 +170,18 @@ def pair_bytes(e, m):
 
 def read(code, word):
     """Number, six bytes, and 1 or 0 for a single word."""
-    if code not in (1, 2, 3, 4):
+    if code not in CODES:
         return 2, bytes(6), 0
     if code == 4 and word[0] != 0:
         return 9, bytes(6), 0
+    if code == 5 and not is_finite(word):
+        return 19, bytes(6), 0
     return 0, pair_bytes(*pair_of_v(v_of_word(code, word))), not_normal(code, word)
 
 
 def write(code, pair):
     """Number and four bytes for a single pair."""
-    if code not in (1, 2, 3, 4):
+    if code not in CODES:
         return 11, bytes(4)
     e, m = signed(pair[0:2]), signed(pair[2:6])
     if not is_canonical(e, m):
@@ -141,7 +192,7 @@ def write(code, pair):
     return 0, word
 
 
-# ------------------------------------------------- the paper's own examples
+# ------------------------------------------------- the papers' own examples
 
 # (code, word, e, m, 1 if the word is not normal)
 EDGES_READ = [
@@ -155,6 +206,22 @@ EDGES_READ = [
     (1, "7FFFFFFF", 228, 16777215, 0),
     (2, "80000000", 31, -1, 0),
     (4, "00010002", 0, 1, 0),
+    (5, "00000000", 0, 0, 0),
+    (5, "80000000", 0, 0, 0),
+    (5, "00000001", -149, 1, 0),
+    (5, "807FFFFF", -149, -8388607, 0),
+    (5, "00400000", -127, 1, 0),
+    (5, "00800000", -126, 1, 0),
+    (5, "00800001", -149, 8388609, 0),
+    (5, "3F800000", 0, 1, 0),
+    (5, "C2ED4000", -3, -949, 0),
+    (5, "4B7FFFFF", 0, 16777215, 0),
+    (5, "7F000000", 127, 1, 0),
+    (5, "7F7FFFFF", 104, 16777215, 0),
+    (8, "FF000000", 0, -1, 0),
+    (8, "80000000", 7, -1, 0),
+    (8, "7F000000", 0, 127, 0),
+    (8, "01FFFFFF", 0, 1, 0),
 ]
 
 # (code, e, m, number, word), the value in the remark
@@ -168,7 +235,30 @@ EDGES_WRITE = [
     (4, 15, 1, 14, "00000000"),  # 32,768
     (4, -255, 1, 0, "00FF0001"),
     (4, -256, 1, 14, "00000000"),
+    (5, 0, 0, 0, "00000000"),
+    (5, -149, 1, 0, "00000001"),
+    (5, -150, 1, 14, "00000000"),
+    (5, -149, -8388607, 0, "807FFFFF"),
+    (5, -126, 1, 0, "00800000"),
+    (5, -127, 1, 0, "00400000"),
+    (5, 104, -16777215, 0, "FF7FFFFF"),
+    (5, 104, 16777217, 14, "00000000"),
+    (5, 105, 16777215, 14, "00000000"),
+    (5, 127, -1, 0, "FF000000"),
+    (5, 128, 1, 14, "00000000"),
+    (5, 0, 16777217, 14, "00000000"),
+    (8, 7, -1, 0, "80000000"),  # -128
+    (8, 7, 1, 14, "00000000"),  # 128
+    (8, 0, -127, 0, "81000000"),
+    (8, 0, -129, 14, "00000000"),
+    (8, -1, 1, 14, "00000000"),
 ]
+
+# Words of code 5 without a value: infinities, and not-a-numbers, quiet and signalling.
+NO_VALUES = [bytes.fromhex(word) for word in (
+    "7F800000", "FF800000", "7F800001", "FF800001", "7FBFFFFF", "FFBFFFFF", "7FC00000", "FFC00000", "7FC00001",
+    "7FA5A5A5", "7FFFFFFF", "FFFFFFFF",
+)]
 
 
 def check_edges():
@@ -177,6 +267,13 @@ def check_edges():
     for code, e, m, number, word in EDGES_WRITE:
         got = write(code, pair_bytes(e, m))
         assert got == (number, bytes.fromhex(word)), (code, e, m)
+    for word in NO_VALUES:
+        assert read(5, word) == (19, bytes(6), 0), word.hex()
+    for byte in range(256):
+        n = byte if byte < 128 else byte - 256
+        for rest in (bytes(3), b"\xFF" * 3, bytes([0, 0, byte])):
+            assert v_of_word(8, bytes([byte]) + rest) == n * SCALE
+        assert word_of_v(8, n * SCALE) == bytes([byte, 0, 0, 0])
     assert pair_bytes(-3, -949) == bytes.fromhex("FFFDFFFFFC4B")
     assert v_of_pair(4, 2097151) == 33554416 * SCALE
     assert v_of_pair(1, 16777215) == 33554430 * SCALE
@@ -204,7 +301,7 @@ def check_normal():
     for words, counted in ((NOT_NORMAL, 1), (NORMAL, 0)):
         for word in words:
             assert read(1, word)[2] == counted, word.hex()
-            assert [read(code, word)[2] for code in (0, 2, 3, 4, 5)] == [0] * 5
+            assert [read(code, word)[2] for code in (0, 2, 3, 4, 5, 6, 8)] == [0] * 7
     fractions = {0}
     for digits in range(1, 7):  # so many after the leading zeros
         low, high = 16 ** (digits - 1), 16 ** digits - 1
@@ -215,6 +312,48 @@ def check_normal():
             c, first_digit = first % 128, f // 16 ** 5
             normal = word == bytes(4) if f == 0 else first_digit != 0 or c == 0
             assert not_normal(1, word) == (0 if normal else 1), word.hex()
+
+
+def check_ieee():
+    """Words and pairs of code 5 against Python's own floats: a 32-bit one is unpacked and packed as it is."""
+    rnd = Numbers(1985)
+
+    def check_word(word):
+        host = struct.unpack(">f", word)[0]
+        assert is_finite(word) == math.isfinite(host), word.hex()
+        if is_finite(word):
+            assert Fraction(v_of_word(5, word), SCALE) == Fraction(host), word.hex()
+            assert word_of_v(5, v_of_word(5, word)) == struct.pack(">f", host if host else 0.0), word.hex()
+
+    def check_pair(e, m):
+        exact = math.ldexp(m, e)  # a 64-bit float has every such value
+        assert Fraction(exact) == Fraction(v_of_pair(e, m), SCALE)
+        try:
+            word = struct.pack(">f", exact)
+        except OverflowError:
+            word = None
+        if word is not None and struct.unpack(">f", word)[0] != exact:
+            word = None
+        assert word_of_v(5, v_of_pair(e, m)) == word, (e, m)
+        return word is not None
+
+    for first in range(512):
+        for f in (0, 1, 2, 2 ** 22 - 1, 2 ** 22, 2 ** 22 + 1, 2 ** 23 - 2, 2 ** 23 - 1, rnd.bits(23)):
+            check_word((first * 2 ** 23 + f).to_bytes(4, "big"))
+    for word in NO_VALUES:
+        check_word(word)
+    for _ in range(2000):
+        check_word(rnd.bits(32).to_bytes(4, "big"))
+        check_word((rnd.bits(1) * 2 ** 31 + rnd.bits(rnd.between(1, 23))).to_bytes(4, "big"))
+    fit = Counter()
+    for e in (*range(-280, -160, 20), *range(-160, -120), *range(-120, 100, 20), *range(100, 130), *range(130, 252, 30)):
+        for bits in (1, 2, 22, 23, 24, 25, 31):
+            for m in (2 ** bits - 1, 2 ** (bits - 1) | 1, rnd.bits(bits) | 1):
+                fit[check_pair(e, m)] += 1
+                fit[check_pair(e, -m)] += 1
+    for _ in range(2000):
+        fit[check_pair(rnd.between(-160, 130), (rnd.bits(rnd.between(1, 25)) | 1) * (1 - 2 * rnd.bits(1)))] += 1
+    assert min(fit.values()) > 1000, fit
 
 
 # -------------------------------------------------------------- the vectors
@@ -237,12 +376,13 @@ class Numbers:
         return low + self.bits(64) % (high - low + 1)
 
 
-BAD_CODES = [0, 5, 6, 8, 255, 256, 257, 65537, 0x80000000, 0xFFFFFFFF]
+BAD_CODES = [0, 6, 7, 9, 255, 256, 257, 65537, 0x80000000, 0xFFFFFFFF]
 
 # a good code in some of the bytes, or in another order
 MORE_BAD_CODES = [
     258, 259, 260, 65540, 0x00040000, 0x01000000, 0x02000000, 0x03000000,
     0x04000000, 0x01000001, 0x7FFFFFFF, 0x80000001, 0x80000004, 0xFFFFFFFC,
+    261, 264, 65541, 0x00080000, 0x05000000, 0x08000000, 0x80000005, 0x80000008, 10, 12, 13, 16,
 ]
 
 
@@ -263,11 +403,11 @@ class Vectors:
             f"w {code:08x} {pair.hex()}",
             f"{number:03d} {0:016x} {word.hex()}---- -",
             f"write, {'taken' if number == 0 else 'number %d' % number}"
-            + (f", code {code}" if code in (1, 2, 3, 4) else ""),
+            + (f", code {code}" if code in CODES else ""),
         )
 
     def w_all(self, pair):
-        for code in (1, 2, 3, 4):
+        for code in CODES:
             self.w(code, pair)
 
     def pair(self, code, e, m):
@@ -283,7 +423,7 @@ class Vectors:
             f"r {code:08x} {word.hex()}----",
             f"{number:03d} {0:016x} {pair.hex()} {counted}",
             f"read, {'taken' if number == 0 else 'number %d' % number}"
-            + (f", code {code}" if code in (1, 2, 3, 4) else "")
+            + (f", code {code}" if code in CODES else "")
             + (", not normal" if counted else ""),
         )
         if number == 0:
@@ -303,6 +443,12 @@ class Vectors:
 
     def gain(self, g, d, first=0):
         self.r(4, bytes([first, g]) + d.to_bytes(2, "big", signed=True))
+
+    def ieee(self, s, exponent, f):
+        self.r(5, (s * 2 ** 31 + exponent * 2 ** 23 + f).to_bytes(4, "big"))
+
+    def whole8(self, n, tail):
+        self.r(8, n.to_bytes(1, "big", signed=True) + tail.to_bytes(3, "big"))
 
 
 def near_powers(bits):
@@ -413,12 +559,15 @@ def bad_codes(x, rnd):
         x.pair(code, 1, 0)
     for _ in range(40):
         code = rnd.bits(32)
-        if code > 4:
+        if code not in CODES:
             x.r(code, rnd.bits(32).to_bytes(4, "big"))
             x.w(code, rnd.bits(48).to_bytes(6, "big"))
 
 
 def not_canonical(x, rnd):
+    def any_code():
+        return CODES[rnd.between(0, len(CODES) - 1)]
+
     some_e = (-280, -4, -1, 0, 1, 31, 251)
     beyond = (-32768, -32767, -536, -512, -282, -281, 252, 253, 256, 512, 32766, 32767)
     # m even
@@ -426,7 +575,7 @@ def not_canonical(x, rnd):
         for m in (2, -(2 ** 31)):
             x.pair_all(e, m)
         for m in (-2, 6, 2 ** 16, 2 ** 30, -(2 ** 31) + 2, 2 ** 31 - 2):
-            x.pair(rnd.between(1, 4), e, m)
+            x.pair(any_code(), e, m)
     # m 0 and e not 0
     for e in some_e + beyond:
         x.pair_all(e, 0)
@@ -434,12 +583,12 @@ def not_canonical(x, rnd):
     for e in beyond:
         x.pair_all(e, 1)
         for m in (-1, 2, 2 ** 31 - 1, -(2 ** 31)):
-            x.pair(rnd.between(1, 4), e, m)
-    for _ in range(30):
-        x.pair(rnd.between(1, 4), rnd.between(-280, 251), (rnd.bits(31) - 2 ** 30) * 2)
-        x.pair(rnd.between(1, 4), rnd.between(252, 32767), rnd.bits(31))
-        x.pair(rnd.between(1, 4), rnd.between(-32768, -281), -rnd.bits(31))
-        x.w(rnd.between(1, 4), rnd.bits(48).to_bytes(6, "big"))
+            x.pair(any_code(), e, m)
+    for _ in range(40):
+        x.pair(any_code(), rnd.between(-280, 251), (rnd.bits(31) - 2 ** 30) * 2)
+        x.pair(any_code(), rnd.between(252, 32767), rnd.bits(31))
+        x.pair(any_code(), rnd.between(-32768, -281), -rnd.bits(31))
+        x.w(any_code(), rnd.bits(48).to_bytes(6, "big"))
 
 
 def canonical(x, rnd):
@@ -515,19 +664,90 @@ def words_of_segyio(x, rnd):
 
 
 def same_bytes(x, rnd):
-    """Words that aren't normal, and the same bytes under the other codes and under no code."""
-    for word in NOT_NORMAL:
-        for code in (1, 2, 3, 4, 0, 5):
+    """Words that aren't normal, or have no value, and the same bytes under the other codes and under no code."""
+    for word in NOT_NORMAL + NO_VALUES:
+        for code in (*CODES, 0, 6):
             x.r(code, word)
+
+
+def ieee_words(x, rnd):
+    # every exponent: the smallest and the largest fraction, those beside them, and any
+    for exponent in range(256):
+        for f in (0, 1, 2 ** 23 - 1):
+            x.ieee(rnd.bits(1), exponent, f)
+        x.ieee(0, exponent, rnd.bits(23))
+        x.ieee(1, exponent, rnd.bits(23))
+    # every single bit of the fraction, and all from it down
+    for k in range(23):
+        for exponent in (0, 1, 127, 150, 254, 255):
+            x.ieee(rnd.bits(1), exponent, 2 ** k)
+            x.ieee(rnd.bits(1), exponent, 2 ** (k + 1) - 1)
+    # subnormal numbers of every length, and whole numbers
+    for bits in range(1, 24):
+        for _ in range(4):
+            x.ieee(rnd.bits(1), 0, 2 ** (bits - 1) + rnd.bits(bits - 1))
+        x.r(5, struct.pack(">f", 2 ** bits - 1))
+        x.r(5, struct.pack(">f", -(2 ** bits)))
+    for _ in range(150):
+        x.ieee(rnd.bits(1), rnd.bits(8), rnd.bits(23) // 2 ** 12 * 2 ** rnd.between(0, 12))
+
+
+def ieee_pairs(x, rnd):
+    def both(e, m):
+        x.pair(5, e, m)
+        x.pair(5, e, -m)
+
+    # the low end: the last bit is 2^-149, at most 23 bits below 2^-126
+    for e in range(-153, -122):
+        for m in (1, 3, 2 ** 22 + 1, 2 ** 23 - 1, 2 ** 23 + 1, 2 ** 24 - 1, 2 ** 24 + 1):
+            both(e, m)
+        for bits in (-127 - e, -126 - e):  # the largest subnormal number, the smallest normal one's power
+            if 1 <= bits <= 31:
+                both(e, 2 ** bits - 1)
+                both(e, 2 ** (bits - 1) | 1)
+    # the high end: the first bit is 2^127
+    for e in range(97, 130):
+        for bits in (128 - e, 129 - e):  # just fits, just doesn't
+            if 1 <= bits <= 31:
+                both(e, 2 ** bits - 1)
+                both(e, 2 ** (bits - 1) | 1)
+        both(e, 2 ** 24 - 1)
+    # mantissas of every length
+    for bits in range(1, 32):
+        for e in (-100, -1, 0, 7, 90):
+            x.pair(5, e, 2 ** bits - 1)
+            x.pair(5, e, -(2 ** (bits - 1) | 1))
+    for e in (-280, -200, -151, 128, 129, 200, 251):
+        both(e, 1)
+        both(e, 2 ** 24 - 1)
+
+
+def one_byte_words(x, rnd):
+    # every byte; the last three are ignored
+    for n in range(-128, 128):
+        x.whole8(n, 0)
+        x.whole8(n, rnd.between(1, 2 ** 24 - 1))
+    for n in (0, 1, -1, 127, -128):
+        for tail in (0x000001, 0x000080, 0x008000, 0x800000, 0x7FFFFF, 0xFFFFFF, 0x010101):
+            x.whole8(n, tail)
+    # whole numbers about the ends of a byte, and such as aren't whole
+    for e in range(-3, 12):
+        for m in (1, 3, 31, 63, 65, 127, 129, 255, 257, 2 ** 31 - 1):
+            x.pair(8, e, m)
+            x.pair(8, e, -m)
+    for e in (-280, -150, -8, 31, 32, 64, 251):
+        x.pair(8, e, 1)
+        x.pair(8, e, -1)
 
 
 def main():
     check_edges()
     check_normal()
+    check_ieee()
     x = Vectors()
     for seed, part in enumerate(
         (edges, ibm_words, whole_words, gain_words, bad_codes, not_canonical, canonical, words_of_segyio,
-         same_bytes)
+         same_bytes, ieee_words, ieee_pairs, one_byte_words)
     ):
         part(x, Numbers(1975 + seed))
     assert all(len(line) == 23 for line in x.lines)
