@@ -1,4 +1,4 @@
-"""Test vectors for writing reels, worked out from document 01 and document 02's CR 2 alone.
+"""Test vectors for writing reels, worked out from document 01 and document 02's CR 2 and CR 4 alone.
 
 Run from the root of the repository:  python3 tools/vectors/write_vectors.py [--check | --list]
 It rewrites crates/write_vectors/stdin and crates/write_vectors/stdout; with
@@ -44,11 +44,10 @@ from records import (  # noqa: E402
     place_of_samples, place_of_trace, reel_length, refilled, relengthed, retagged, some_fields,
     some_traces, with_bytes, write_into,
 )
-from samples import pair_bytes  # noqa: E402
+from samples import CODES, pair_bytes  # noqa: E402
 
 FOLDER = Path(__file__).resolve().parents[2] / "crates" / "write_vectors"
 
-CODES = (1, 2, 3, 4)
 MOST = 60000  # of room and of a record
 MOST_STDIN = 1000000
 FILLING = b"\xA5"
@@ -107,7 +106,7 @@ class Cases:
         """A record that is refused, by any code and with any room if none is named."""
         turn = len(self.all)
         if code is None:
-            code = CODES[turn % 4]
+            code = CODES[turn % 6]
         if room is None:
             room = (4600, 0, 5000, 3600, 4096)[turn % 5]
         self.put(what, record, code, room, f"refused {number} {beside}")
@@ -118,7 +117,7 @@ def pairs(some):
 
 
 def whole(*numbers):
-    """The pairs of whole numbers of 16 bits, which fit every code."""
+    """The pairs of whole numbers of 16 bits, which fit every code but 8; of 8 bits they fit that too."""
     return [pair_of_word(3, whole16(number)) for number in numbers]
 
 
@@ -134,17 +133,24 @@ def good_records(x, rnd):
     x.taken("the paper's example, exact room", record, 1, 1, 2)
     x.refused("the paper's example, one byte short", record, 10, 3848, 1, 3847)
     x.taken("the paper's example, code 4", record, 4, 1, 2, 152)
+    x.taken("the paper's example, code 5", record, 5, 1, 2, 1)
     x.refused("the paper's example, code 3, no room", record, 14, 3458, 3, 0)
-    # random headers and samples
-    for code in CODES:
-        for t, n, more in ((1, 40, 1), (2, 17, 0), (4, 6, 300)):
+    # random headers and samples, of each code in two of the shapes
+    shapes = ((1, 40, 1), (2, 17, 0), (4, 6, 300))
+    for turn, code in enumerate(CODES):
+        for t, n, more in (shapes[turn % 3], shapes[(turn + 1) % 3]):
             record = joined(some_fields(rnd, some_traces(rnd, code, n, t), 1 + rnd.getrandbits(14)))
             x.taken(f"any record of {t} traces of {n} samples, code {code}", record, code, t, n, more)
-    # whole numbers of 16 bits under every code
+    # whole numbers of 16 bits under every code that has them, and of 8 bits
     numbers = (0, 1, -1, 2, 127, 128, 255, 256, -256, 32767, -32767, 16384, -16384, -32768)
     record = joined(some_fields(rnd, [whole(*numbers), whole(*numbers[::-1])], 32767))
-    for code in CODES:
+    for code in (1, 2, 3, 4, 5):
         x.taken(f"whole numbers of 16 bits, code {code}", record, code, 2, len(numbers))
+    x.refused("whole numbers of 16 bits, code 8", record, 14, place_of_pair(1, len(numbers), 6), 8)
+    numbers = (0, 1, -1, 2, 64, -64, 127, -127, -128)
+    record = joined(some_fields(rnd, [whole(*numbers), whole(*numbers[::-1])], 32767))
+    for code in (5, 8):
+        x.taken(f"whole numbers of 8 bits, code {code}", record, code, 2, len(numbers))
     # all FF, then all 00, in every field that is free, with N and interval 1
     record = make_record(1, 1, [whole(-1), whole(0)], b"\xFF" * 3200, rest=b"\xFF" * 60,
                          trace_rest=[b"\xFF" * 180, bytes(180)])
@@ -158,7 +164,9 @@ def good_records(x, rnd):
 
 def no_traces(x, rnd):
     every = bytes(1 + i % 255 for i in range(3200))  # every card byte but 00
-    for code, interval, n, more in ((1, 1, 1, 0), (2, 32767, 8000, 1), (3, 256, 255, 400), (4, 255, 256, 0)):
+    for code, interval, n, more in (
+        (1, 1, 1, 0), (2, 32767, 8000, 1), (3, 256, 255, 400), (5, 2, 7, 3), (8, 4096, 4095, 5), (4, 255, 256, 0),
+    ):
         record = make_record(interval, n, [], every[code:] + every[:code], rest=some_bytes(rnd, 60))
         x.taken(f"no traces, code {code}", record, code, 0, n, more)
     x.refused("no traces, one byte short", record, 10, 3600, 4, 3599)
@@ -202,15 +210,27 @@ FITS = {
         (1, 16383), (1, -16383), (13, 3), (-1, 1), (-1, -32767), (-1, 32767), (-3, -949), (-15, -1),
         (-16, 1), (-240, -1), (-254, 32767), (-255, 1), (-255, -1), (-255, 32767), (-255, -32767),
     ],
+    5: [
+        (0, 0), (0, 1), (0, -1), (-3, -949),
+        (-149, 1), (-149, -1), (-149, 3), (-149, 8388607), (-149, -8388607), (-149, 8388609), (-149, 16777215),
+        (-148, 1), (-148, 4194303), (-148, -8388607), (-127, 1), (-127, -3), (-126, 1), (-126, -1), (-125, 16777215),
+        (104, 16777215), (104, -16777215), (104, 1), (105, 8388607), (127, 1), (127, -1), (126, 3), (125, -7),
+        (0, 16777215), (0, -16777215), (24, 1), (1, 8388609), (7, -1), (31, -1), (-24, 16777215),
+    ],
+    8: [
+        (0, 0), (0, 1), (0, -1), (0, 127), (0, -127), (7, -1), (6, 1), (6, -1), (1, 63), (1, -63), (5, 3), (5, -3),
+        (0, 3), (3, 15), (4, -7), (1, 1),
+    ],
 }
 DOESNT_FIT = {
     1: [
-        (0, 16777217), (1, 16777215), (2, -0x7FFFFF), (3, 0x3FFFFF), (-279, 0xFFFFFF), (-280, 16777217),
-        (251, 3), (229, -0xFFFFFF),
+        (0, 16777217), (1, 16777215), (2, -0x7FFFFF), (-279, 0xFFFFFF), (-280, 16777217), (251, 3),
     ],
-    2: [(31, 1), (32, -1), (-1, -1), (1, 2 ** 30 + 1), (30, -3)],
-    3: [(15, 1), (16, -1), (0, 32769), (0, -32769), (-1, 1)],
-    4: [(15, 1), (16, -1), (0, 32769), (0, -32769), (-256, 1), (-255, 32769), (-280, -1)],
+    2: [(31, 1), (32, -1), (-1, -1), (1, 2 ** 30 + 1)],
+    3: [(15, 1), (16, -1), (0, -32769), (-1, 1)],
+    4: [(15, 1), (0, 32769), (-256, 1), (-255, -32769), (-280, -1)],
+    5: [(0, 16777217), (-150, 1), (-150, -16777215), (128, 1), (105, -16777215), (127, 3), (-149, 16777217)],
+    8: [(7, 1), (8, -1), (0, 129), (0, -129), (-1, 1)],
 }
 
 
@@ -233,19 +253,24 @@ def edges(x, rnd):
     # the same record fits one code and not another
     traces = [whole(1, 2), pairs([(0, 5), (0, 32769)]), pairs([(-1, 1), (0, 3)])]
     record = joined(some_fields(rnd, traces))
-    x.taken("fits code 1 alone", record, 1, 3, 2, 7)
+    x.taken("fits codes 1 and 5, code 1", record, 1, 3, 2, 7)
+    x.taken("fits codes 1 and 5, code 5", record, 5, 3, 2, 7)
     x.refused("fits code 1 and not 2", record, 14, place_of_pair(3, 2, 1), 2)
     x.refused("fits code 1 and not 4", record, 14, place_of_pair(2, 2, 2), 4)
+    record = joined(some_fields(rnd, [whole(1, -2), pairs([(-127, 1), (-150, 1)])]))
+    x.taken("fits code 1 and not 5, code 1", record, 1, 2, 2)
+    x.refused("fits code 1 and not 5, code 5", record, 14, place_of_pair(2, 2, 2), 5)
 
 
 def room(x, rnd):
-    for code, t, n in ((2, 1, 3), (3, 3, 4), (4, 2, 2)):
+    for code, t, n in ((2, 1, 3), (3, 3, 4), (4, 2, 2), (5, 1, 5), (8, 2, 9)):
         record = joined(some_fields(rnd, some_traces(rnd, code, n, t)))
         length = reel_length(t, n, code)
         x.refused(f"code {code}, one byte short", record, 10, length, code, length - 1)
     record = joined(some_fields(rnd, [whole(*range(30)), whole(*range(-30, 0))]))
     x.refused("room for code 3, but code 2", record, 10, 4320, 2, 4200)
     x.taken("room for code 3", record, 3, 2, 30, 120)
+    x.refused("room for code 8, but code 3", record, 10, 4200, 3, 4140)
     record = joined(some_fields(rnd, some_traces(rnd, 1, 4, 1)))
     x.refused("room for the record, but not for the reel", record, 10, 3856, 1, record_length(1, 4))
 
@@ -254,9 +279,9 @@ def room(x, rnd):
 
 
 def bad_codes(x, rnd):
-    for code in (0, 5, 6, 7, 8, 16, 64, 127, 128, 129, 132, 254, 255):
+    for code in (0, 6, 7, 9, 10, 13, 16, 64, 127, 128, 129, 132, 133, 136, 254, 255):
         x.refused(f"code {code}, an empty record", b"", 11, 0, code, code)
-    x.refused("code 5, a good record", make_record(traces=[whole(1, 2)]), 11, 0, 5, 4000)
+    x.refused("code 6, a good record", make_record(traces=[whole(1, 2)]), 11, 0, 6, 4000)
 
 
 # ---------------------------------------------------------- the form: 12
@@ -265,8 +290,8 @@ def bad_codes(x, rnd):
 def wrong_tags(x, rnd):
     # fields 0 and 1, then two for each trace, then the last
     for traces, k, tags in (
-        (0, 0, (0x02, 0x81)), (0, 1, (0x03, 0x05)), (0, 2, (0x06,)), (1, 2, (0x04,)), (2, 4, (0x13,)),
-        (1, 3, (0x03, 0x05)), (2, 5, (0x44,)), (1, 4, (0x03, 0x85)),
+        (0, 0, (0x02,)), (0, 1, (0x05,)), (0, 2, (0x06,)), (1, 2, (0x04,)), (2, 4, (0x13,)), (1, 3, (0x05,)),
+        (2, 5, (0x44,)), (1, 4, (0x03, 0x85)),
     ):
         for tag in tags:
             fields = some_fields(rnd, some_traces(rnd, 3, 1, traces), n=1)
@@ -277,8 +302,8 @@ def wrong_tags(x, rnd):
 
 def wrong_lengths(x, rnd):
     for traces, k, lengths in (
-        (0, 0, (0x0C81, 0x8C80)), (0, 1, (0x003B, 0x013C)), (1, 2, (0x00B5, 0x01B4)),
-        (1, 3, (0x010C, 0x0006)), (2, 5, (0x0012,)), (0, 2, (0x0005,)), (1, 4, (0x0104,)),
+        (0, 0, (0x8C80,)), (0, 1, (0x003B,)), (1, 2, (0x01B4,)), (1, 3, (0x010C, 0x0006)), (2, 5, (0x0012,)),
+        (0, 2, (0x0005,)), (1, 4, (0x0104,)),
     ):
         for length in lengths:
             fields = some_fields(rnd, some_traces(rnd, 3, 2, traces), n=2)
@@ -288,8 +313,7 @@ def wrong_lengths(x, rnd):
             x.refused(f"length {length:04X} in tag {tag:02X}", joined(fields), 12, place)
     # the content follows the length
     for traces, k, lengths in (
-        (0, 0, (0, 3280)), (0, 1, (62,)), (1, 2, (240,)), (1, 3, (6, 18)), (2, 5, (0,)), (0, 2, (2,)),
-        (1, 4, (8,)),
+        (0, 0, (0,)), (0, 1, (62,)), (1, 2, (240,)), (1, 3, (6, 18)), (2, 5, (0,)), (0, 2, (2,)), (1, 4, (8,)),
     ):
         for length in lengths:
             fields = some_fields(rnd, some_traces(rnd, 3, 2, traces), n=2)
@@ -303,8 +327,8 @@ def wrong_lengths(x, rnd):
 
 def cut_short(x, rnd):
     for traces, k, kept in (
-        (0, 0, (0, 1, 2, 3, 4, 100, 3202)), (0, 1, (0, 1, 3, 62)), (1, 2, (1, 3, 182)), (2, 4, (2,)),
-        (1, 3, (0, 2, 14)), (2, 5, (9,)), (0, 2, (0, 2, 6)), (2, 6, (0, 6)),
+        (0, 0, (0, 1, 2, 3, 4, 100, 3202)), (0, 1, (0, 3, 62)), (1, 2, (1, 182)), (2, 4, (2,)),
+        (1, 3, (0, 2, 14)), (2, 5, (9,)), (0, 2, (0, 6)), (2, 6, (2,)),
     ):
         for some in kept:
             fields = some_fields(rnd, some_traces(rnd, 3, 2, traces), n=2)
@@ -334,7 +358,7 @@ def missing_and_twice(x, rnd):
 
 
 def counts_and_more(x, rnd):
-    for t, count in ((0, 1), (1, 0), (2, 1), (2, 0x102), (1, 0x01010001), (1, 0x80000001)):
+    for t, count in ((0, 1), (1, 0), (2, 0x102), (1, 0x01010001), (1, 0x80000001)):
         fields = some_fields(rnd, some_traces(rnd, 3, 1, t), n=1)
         fields[-1] = refilled(fields[-1], count.to_bytes(4, "big"))
         x.refused(f"count {count} with {t} traces", joined(fields), 12, place_of_end(t, 1))
@@ -354,7 +378,7 @@ def counts_and_more(x, rnd):
 
 def wrong_numbers(x, rnd):
     good = make_record()
-    for places in ((0,), (1600,), (3199,), (79, 80, 1000)):
+    for places in ((0,), (3199,), (79, 80, 1000)):
         record = good
         for i in places:
             record = with_bytes(record, place_of_card(i), b"\x00")
@@ -363,7 +387,7 @@ def wrong_numbers(x, rnd):
     for number, t in ((0, 0), (32768, 1)):
         x.refused(f"interval {number}", joined(some_fields(
             rnd, [whole(1, 2)] * t, n=2, fields={3217: number}, trace_fields={1: {117: number}})), 13, 3222)
-    for number, t in ((8001, 0), (32768, 1), (65535, 0)):
+    for number, t in ((8001, 0), (32768, 1)):
         x.refused(f"N {number}", joined(some_fields(
             rnd, [whole(1, 2)] * t, n=2, fields={3221: number}, trace_fields={1: {115: number}})), 13, 3226)
     x.refused("N 0, and traces without samples", joined(some_fields(rnd, [[]], n=0)), 13, 3226)
@@ -371,8 +395,7 @@ def wrong_numbers(x, rnd):
         x.refused(f"code {number} in the record", joined(some_fields(
             rnd, [whole(1, 2)] * t, n=2, fields={3225: number})), 13, 3230, code=3)
     for what, place in (
-        ({3217: 0, 3221: 0}, 3222), ({3217: 40000, 3225: 1}, 3222), ({3221: 9000, 3225: 2}, 3226),
-        ({3217: 0, 3221: 0, 3225: 4}, 3222),
+        ({3217: 40000, 3225: 1}, 3222), ({3221: 9000, 3225: 2}, 3226), ({3217: 0, 3221: 0, 3225: 4}, 3222),
     ):
         x.refused(f"binary fields {what}", joined(some_fields(rnd, [], n=2, fields=what)), 13, place)
     # fields beside them may be anything
@@ -385,10 +408,10 @@ def wrong_trace_numbers(x, rnd):
     def record(t, faults):
         return joined(some_fields(rnd, [whole(i, 2, 3) for i in range(t)], 770, trace_fields=faults))
 
-    for t, i, number in ((1, 1, 0), (2, 2, 2), (1, 1, 259), (3, 3, 4)):
+    for t, i, number in ((1, 1, 0), (1, 1, 259), (3, 3, 4)):
         x.refused(f"field 115 {number} in trace {i} of {t}, N 3", record(t, {i: {115: number}}),
                   13, place_of_field(i, 3, 115))
-    for t, i, number in ((1, 1, 0), (2, 2, 771), (1, 1, 2), (3, 3, 769)):
+    for t, i, number in ((1, 1, 0), (2, 2, 771), (1, 1, 2)):
         x.refused(f"field 117 {number} in trace {i} of {t}, interval 770", record(t, {i: {117: number}}),
                   13, place_of_field(i, 3, 117))
     for faults, i, b in (
@@ -403,9 +426,9 @@ def wrong_trace_numbers(x, rnd):
 def wrong_pairs(x, rnd):
     places = ((1, 1, 1, 1), (1, 4, 1, 4), (2, 3, 2, 2), (2, 3, 1, 3), (3, 2, 3, 2), (2, 4, 2, 1))
     for turn, (e, m) in enumerate((
-        (0, 2), (-280, 2 ** 30), (251, -6), (0, -(2 ** 31)),  # m even
+        (0, 2), (-280, 2 ** 30), (0, -(2 ** 31)),  # m even
         (-281, 1), (252, -1), (-32768, 1), (32767, 1),  # e out of range
-        (1, 0), (-1, 0), (256, 0),  # m 0 and e not 0
+        (1, 0), (256, 0),  # m 0 and e not 0
     )):
         t, n, i, k = places[turn % len(places)]
         traces = some_traces(rnd, 1, n, t)
@@ -454,9 +477,8 @@ def scalars(x, rnd):
 
     # 13: another scalar than the smallest power's
     for field, scalar, numbers in (
-        (69, 0, [0]), (71, 0, [LONG]), (69, -1, [LEAST_NUMBER]), (71, -1, [0, LONG]), (69, 7, [MOST_NUMBER]),
-        (69, 1, [LONG - 1] * 7), (71, 1, [1 - LONG] * 4), (69, -1000, [0]), (71, 10, [1 - LONG, 5]),
-        (69, 10000, [21]), (71, 0x1027, [LONG]),  # 10000 is 2710
+        (69, 0, [0]), (71, 0, [LONG]), (69, -1, [LEAST_NUMBER]), (69, 7, [MOST_NUMBER]),
+        (69, 1, [LONG - 1] * 7), (71, 1, [1 - LONG] * 4), (69, 10000, [21]), (71, 0x1027, [LONG]),  # 10000 is 2710
     ):
         x.refused(f"field {field} is {scalar}, numbers {numbers}", record(group(field, scalar, *numbers)),
                   13, place_of_field(1, 1, field))
@@ -500,14 +522,10 @@ def order(x, rnd):
     x.refused("tag 01 cut short, its first card byte 00", b"\x01\x0C\x80\x00", 12, 0)
     a = fields(fields={3217: 0})
     x.refused("tag 02 of wrong length, its interval 0", joined([a[0], relengthed(a[1], 61), a[2]]), 12, 3203)
-    x.refused("tag 02 cut short, its interval 0", joined(a[:2])[:-1], 12, 3203)
     a = fields(one, trace_fields={1: {115: 3}})
     x.refused("tag 03 of wrong length, its field 115 wrong", joined(a[:2] + [relengthed(a[2], 181)] + a[3:]),
               12, 3266)
-    x.refused("tag 03 cut short, its field 115 wrong", joined(a[:3])[:-1], 12, 3266)
     a = fields([even, one[0]])
-    x.refused("tag 04 of wrong length, its first pair even", joined(a[:3] + [relengthed(a[3], 6)] + a[4:]),
-              12, place_of_samples(1, 2))
     x.refused("tag 04 cut short, its first pair even", joined(a[:4])[:-1], 12, place_of_samples(1, 2))
     # 13 in an earlier field before 12 in a later one
     a = fields(one)
@@ -559,7 +577,7 @@ def order(x, rnd):
     x.refused("14, then 13 in the next pair", joined(a), 13, place_of_pair(1, 2, 2))
     # 14, first sample first, before 10
     record = joined(fields([one[0], unfit], [unfit, one[0]]))
-    for code, some in ((1, 4096), (2, 0), (3, 4087), (4, 4095)):
+    for code, some in ((1, 4096), (2, 0), (3, 4087), (4, 4095), (5, 4096), (8, 4083)):
         x.refused(f"14 in traces 1 and 2, room {some}", record, 14, place_of_pair(1, 2, 2), code, some)
     # 12 and 13 before 10
     a = fields(one)
@@ -570,7 +588,7 @@ def order(x, rnd):
     a = fields([unfit, even], fields={3217: 0})
     x.refused("11, 12, 13, 14 and 10", joined([retagged(a[0], 0)] + a[1:]), 11, 0, 0, 0)
     x.refused("11, 14 and 10", joined(fields([unfit, unfit])), 11, 0, 6, 3600)
-    x.refused("11 and 10", joined(fields(one)), 11, 0, 5, 3847)
+    x.refused("11 and 10", joined(fields(one)), 11, 0, 9, 3847)
 
 
 # ----------------------------------------------------------- small changes
@@ -579,7 +597,7 @@ def order(x, rnd):
 def small_changes(x, rnd):
     """Good records with a byte changed where it counts, or cut, or with bytes added."""
     for turn in range(8):
-        code, n, t = 1 + rnd.getrandbits(2), 1 + rnd.getrandbits(2), 1 + rnd.getrandbits(1)
+        code, n, t = CODES[rnd.getrandbits(16) % 6], 1 + rnd.getrandbits(2), 1 + rnd.getrandbits(1)
         record = bytearray(joined(some_fields(rnd, some_traces(rnd, code, n, t))))
         i, k = 1 + rnd.getrandbits(16) % t, 1 + rnd.getrandbits(16) % n
         first, span = (
@@ -600,7 +618,7 @@ def any_bytes(x, rnd):
             record = bytes.fromhex(front) + some_bytes(rnd, rnd.getrandbits(5))
             x.refused(f"some {len(record)} bytes, code {code}", record, 12, 0, code, 1 + rnd.getrandbits(9))
     for _ in range(8):
-        record, code = some_bytes(rnd, rnd.getrandbits(6)), rnd.getrandbits(8) | 8
+        record, code = some_bytes(rnd, rnd.getrandbits(6)), rnd.getrandbits(8) | 16
         x.refused(f"any {len(record)} bytes, code {code}", record, 11, 0, code, rnd.getrandbits(9))
 
 
