@@ -1,4 +1,4 @@
-"""Runs the program on many reels and compares its line with document 01's rules and those of document 02's CR 2 and CR 3.
+"""Runs the program on many reels and compares its line with document 01's rules and those of document 02's CR 2, CR 3 and CR 4.
 
     python3 tests/check_reel.py PATH_OF_PROGRAM [ITS ARGUMENTS]
 
@@ -23,12 +23,11 @@ sys.dont_write_bytecode = True
 sys.path.insert(0, str(Path(__file__).resolve().parents[1] / "tools" / "vectors"))
 
 from reels import (  # noqa: E402
-    GROUPS, SCALARS, example, gain, make_reel, make_trace, program_line, random_reel, sample_size, some_bytes,
-    some_groups, some_sample, trace_size,
+    GROUPS, SCALARS, example, gain, ieee, make_reel, make_trace, program_line, random_reel, sample_size, some_bytes,
+    some_groups, some_sample, trace_size, whole8,
 )
-from samples import NORMAL, NOT_NORMAL  # noqa: E402
+from samples import CODES, NO_VALUES, NORMAL, NOT_NORMAL  # noqa: E402
 
-CODES = (1, 2, 3, 4)
 SECONDS = 600  # a run that takes as long hangs
 
 
@@ -40,7 +39,7 @@ class Inputs:
     def put(self, what, data, line=None, count=None, pause=None):
         """An input; its line where it was worked out by hand, without the count of words that aren't normal.
 
-        That count stands beside it where it is known as well: under codes 2 to 4, and without traces, it is 0.
+        That count stands beside it where it is known as well: under other codes than 1, and without traces, it is 0.
         """
         data = bytes(data)
         by_rules = program_line(data)
@@ -82,7 +81,7 @@ def lengths(x, rnd):
         x.put(f"{count} bytes 00", bytes(count), "too long")
         x.put(f"the example, then 00 up to {count} bytes", example() + bytes(count - 3848), "too long")
     # 65,536 bytes that are whole reels: 196 traces of 316 bytes, 49 of 1,264, 4 of 15,484
-    for code in (1, 2, 4):
+    for code in (1, 2, 4, 5):
         reel = random_reel(rnd, code, 19, 196)
         assert len(reel) == 65536
         x.put(f"a reel of just 65536 bytes, code {code}", reel, "taken 196 19 62073")
@@ -90,11 +89,14 @@ def lengths(x, rnd):
         x.put(f"that reel and one byte, code {code}", reel + b"\x00", "too long")
         x.put(f"that reel and one more trace, code {code}", reel + reel[-316:], "too long")
         x.put(f"that reel three times, code {code}", reel * 3, "too long")
-    for code, n, t, needed in ((1, 256, 49, 87651), (2, 3811, 4, 95481), (3, 7622, 4, 186945)):
+    for code, n, t, needed in (
+        (1, 256, 49, 87651), (2, 3811, 4, 95481), (3, 7622, 4, 186945), (5, 256, 49, 87651), (8, 76, 196, 129105),
+    ):
         reel = random_reel(rnd, code, n, t)
         assert len(reel) == 65536
         x.put(f"a reel of just 65536 bytes, code {code}, record too long", reel, f"refused 10 {needed}")
     # as many traces as go in
+    x.put("256 traces of one 8-bit sample", random_reel(rnd, 8, 1, 256), "taken 256 1 52425")
     x.put("255 traces of one 16-bit sample", random_reel(rnd, 3, 1, 255), "taken 255 1 52233")
     x.put("253 traces of one 32-bit sample", random_reel(rnd, 2, 1, 253), "taken 253 1 51849")
     x.put("255 traces and 226 bytes", random_reel(rnd, 3, 1, 255) + bytes(226), "refused 5 65310")
@@ -128,12 +130,13 @@ def good_reels(x, rnd):
             word = (b"\x00" if code == 4 else b"") + bytes([byte]) * 3 + b"\x01"
             word = word[: sample_size(code)]
             reel = make_reel(2000, 3, code, [make_trace([word] * 3)])
-            x.put(f"samples {word.hex()}, code {code}", reel, "taken 1 3 3477")
+            line = "refused 19 3840" if (code, byte) == (5, 0xFF) else "taken 1 3 3477"
+            x.put(f"samples {word.hex()}, code {code}", reel, line)
 
 
 def codes(x, rnd):
-    bad = (0, 5, 6, 7, 8, 9, 127, 128, 255, 256, 257, 258, 259, 260, 512, 768, 1024, 1025, 1028,
-           32767, 32768, 32769, 32772, 65281, 65284, 65532, 65535)
+    bad = (0, 6, 7, 9, 10, 12, 13, 127, 128, 255, 256, 257, 258, 259, 260, 261, 264, 512, 768, 1024, 1025, 1028,
+           1280, 2048, 32767, 32768, 32769, 32772, 32773, 32776, 65281, 65284, 65285, 65528, 65532, 65535)
     for code in bad:
         x.put(f"code {code}, no trace", make_reel(2000, 2, code), "refused 2 3224")
         x.put(f"code {code}, one trace", make_reel(2000, 2, code, traces(rnd, 1, 2, 1)), "refused 2 3224")
@@ -273,17 +276,18 @@ def scalars(x, rnd):
     # no field beside them has a say
     for b in (37, 41, 65, 73, 85, 89):
         x.put(f"field {b} is 7", make_reel(9, 7, 1, traces(rnd, 1, 7, 1, {1: {b: 7}})), "taken 1 7 3501")
-    # every set of a trace's causes: 7, 8, 18 for field 69, 18 for field 71, 9
-    for number in range(1, 32):
-        for i in (1, 2):
-            faults = {b: 7 for bit, b in enumerate((115, 117, 69, 71)) if number >> bit & 1}
-            reel = bytearray(make_reel(2000, 2, 4, traces(rnd, 4, 2, 2, {i: faults, 2: faults})))
-            start = 3600 + (i - 1) * 248
-            if number & 16:
-                reel[start + 244] = 0x01
-            said = next(f"{cause} {start + b - 1}" for cause, b in (
-                (7, 115), (8, 117), (18, 69), (18, 71), (9, 245)) if b in faults or b == 245)
-            x.put(f"fields {sorted(faults)}, 9 {number >> 4}, in trace {i} of 2", reel, f"refused {said}")
+    # every set of a trace's causes: 7, 8, 18 for field 69, 18 for field 71, then 9 under code 4, 19 under code 5
+    for code, last, wrong in ((4, 9, b"\x01"), (5, 19, b"\xFF\x80")):
+        for number in range(1, 32):
+            for i in (1, 2):
+                faults = {b: 7 for bit, b in enumerate((115, 117, 69, 71)) if number >> bit & 1}
+                reel = bytearray(make_reel(2000, 2, code, traces(rnd, code, 2, 2, {i: faults, 2: faults})))
+                start = 3600 + (i - 1) * 248
+                if number & 16:
+                    reel[start + 244 : start + 244 + len(wrong)] = wrong
+                said = next(f"{cause} {start + b - 1}" for cause, b in (
+                    (7, 115), (8, 117), (18, 69), (18, 71), (last, 245)) if b in faults or b == 245)
+                x.put(f"fields {sorted(faults)}, {last} {number >> 4}, in trace {i} of 2", reel, f"refused {said}")
     # trace by trace, after 5, and before 10
     x.put("18 in trace 2, 9 in trace 1", bytearray(make_reel(2000, 2, 4, [
         make_trace([gain(0, 1), gain(0, 1, 0x80)]), make_trace([gain(0, 1)] * 2, {69: 7})])), "refused 9 3844")
@@ -316,7 +320,7 @@ def gain_bytes(x, rnd):
         reel, place = reel_with(4, 2, 3, [(2, 3, first)])
         x.put(f"first byte {first:02X} in the last gain word", reel, f"refused 9 {place}")
     # fine under the other codes
-    for code in (1, 2, 3):
+    for code in (1, 2, 3, 8):
         for first in (0x01, 0x80, 0xFF):
             for i, k in ((1, 1), (2, 3), (3, 5)):
                 reel, _ = reel_with(code, 3, 5, [(i, k, first)])
@@ -337,6 +341,79 @@ def gain_bytes(x, rnd):
     reel, place = reel_with(4, 196, 19, [(196, 19, 1)])
     assert place == 65532
     x.put("bad gain word at the end of 65536 bytes", reel, "refused 9 65532")
+
+
+def no_values(x, rnd):
+    """Infinities and not-a-numbers, which code 5 refuses, at some samples of some traces."""
+    def reel_with(t, n, bad, faults=None):
+        """A word at sample k of trace i, for each of bad (both from 1), and the least of their places."""
+        reel = bytearray(make_reel(2000, n, 5, traces(rnd, 5, n, t, faults)))
+        places = []
+        for i, k, word in bad:
+            place = 3600 + (i - 1) * trace_size(5, n) + 240 + 4 * (k - 1)
+            reel[place : place + 4] = word
+            places.append(place)
+        return reel, min(places)
+
+    infinity, nan = NO_VALUES[0], NO_VALUES[6]
+    for word in NO_VALUES:
+        for t, n, i, k in ((1, 1, 1, 1), (2, 3, 1, 3), (2, 3, 2, 1), (3, 5, 3, 5), (3, 5, 2, 3)):
+            reel, place = reel_with(t, n, [(i, k, word)])
+            x.put(f"{word.hex()} at sample {k} of {n}, trace {i} of {t}", reel, f"refused 19 {place}")
+    for t, n in ((1, 7), (3, 4)):
+        for i in range(1, t + 1):
+            for k in range(1, n + 1):
+                for word in (infinity, nan):
+                    reel, place = reel_with(t, n, [(i, k, word)])
+                    x.put(f"{word.hex()} at sample {k} of {n}, trace {i} of {t}", reel, f"refused 19 {place}")
+    # two such words: the first counts
+    for bad in ([(1, 2), (1, 4)], [(1, 5), (2, 1)], [(2, 5), (3, 1)], [(1, 1), (3, 5)], [(2, 1), (2, 2)]):
+        for first, second in ((infinity, nan), (nan, infinity)):
+            reel, place = reel_with(3, 5, [(*bad[0], first), (*bad[1], second)])
+            x.put(f"{first.hex()} and {second.hex()} at {bad}", reel, f"refused 19 {place}")
+    # the same bytes are fine under other codes; under code 4 the first byte of the first word isn't 00
+    for word in NO_VALUES:
+        made = [make_trace([ieee(0, 127, 0), word, word])] * 2
+        for code, n, line in ((1, 3, "taken 2 3 3681"), (2, 3, "taken 2 3 3681"), (3, 6, "taken 2 6 3717"),
+                              (4, 3, "refused 9 3840"), (5, 3, "refused 19 3844"), (8, 12, "taken 2 12 3789")):
+            x.put(f"{word.hex()} twice, code {code}", make_reel(2000, n, code, made), line)
+    # the words beside them have values: the largest, the zeros, the subnormal ones
+    for word in ("7F7FFFFF", "FF7FFFFF", "00000000", "80000000", "00000001", "80000001", "007FFFFF", "807FFFFF",
+                 "00800000", "00FFFFFF", "7F000000", "3F800000"):
+        reel = make_reel(2000, 2, 5, [make_trace([bytes.fromhex(word)] * 2)] * 2)
+        x.put(f"{word} under code 5", reel, "taken 2 2 3669")
+    for exponent in range(256):
+        reel = make_reel(2000, 2, 5, [make_trace([ieee(1, exponent, 0), ieee(0, exponent, 2 ** 23 - 1)])])
+        x.put(f"exponent {exponent}", reel, "refused 19 3840" if exponent == 255 else "taken 1 2 3471")
+    # among other causes: trace by trace, after 5 and before 10
+    reel, _ = reel_with(2, 2, [(1, 2, nan)], {2: {115: 3}})
+    x.put("19 in trace 1, 7 in trace 2", reel, "refused 19 3844")
+    reel, _ = reel_with(2, 2, [(2, 2, nan)], {1: {117: 3}})
+    x.put("19 in trace 2, 8 in trace 1", reel, "refused 8 3716")
+    reel, _ = reel_with(2, 2, [(2, 1, infinity)], {2: {71: 3}})
+    x.put("19 and 18 in trace 2", reel, "refused 18 3918")
+    reel, _ = reel_with(2, 2, [(1, 1, infinity)])
+    x.put("5 and 19", reel + b"\x00", "refused 5 4096")
+    reel, place = reel_with(1, 8000, [(1, 8000, nan)])
+    x.put("sample 8000 of 8000 is a not-a-number", reel, f"refused 19 {place}")
+    reel, place = reel_with(196, 19, [(196, 19, infinity)])
+    assert place == 65532
+    x.put("an infinity at the end of 65536 bytes", reel, "refused 19 65532")
+    reel, place = reel_with(4, 3811, [(4, 3811, infinity)])
+    x.put("19 in the last word, and 10", reel, "refused 19 65532")
+
+
+def one_byte_samples(x, rnd):
+    """Every byte is a sample of code 8, and a trace of N of them has 240 + N bytes."""
+    every = [whole8(n) for n in range(-128, 128)]
+    x.put("every byte", make_reel(2000, 256, 8, [make_trace(every)] * 2), "taken 2 256 6717")
+    for n in (1, 2, 3, 4, 5, 239, 240, 241, 255, 257):
+        for t in (1, 3):
+            reel = make_reel(2000, n, 8, traces(rnd, 8, n, t))
+            assert len(reel) == 3600 + t * (240 + n)
+            x.put(f"T {t}, N {n}, code 8", reel, f"taken {t} {n} {3273 + t * (186 + 6 * n)}")
+            x.put(f"T {t}, N {n}, code 8, a byte short", reel[:-1], f"refused 5 {3600 + (t - 1) * (240 + n)}")
+            x.put(f"T {t}, N {n}, code 8, a byte more", reel + b"\x00", f"refused 5 {3600 + t * (240 + n)}")
 
 
 def output_too_short(x, rnd):
@@ -367,7 +444,7 @@ def several_causes(x, rnd):
             if 8 in causes:
                 fields[hit[8]][117] = 1999
             reel = bytearray(make_reel(
-                65535 if 4 in causes else 2000, 8001 if 3 in causes else n, 5 if 2 in causes else 4,
+                65535 if 4 in causes else 2000, 8001 if 3 in causes else n, 6 if 2 in causes else 4,
                 traces(rnd, 4, n, t, fields)))
             if 9 in causes:
                 word = 1 + rnd.getrandbits(16) % n
@@ -410,8 +487,8 @@ def several_causes(x, rnd):
 
 def small_changes(x, rnd):
     """Good reels with a byte changed where it counts, or cut, or with bytes added."""
-    for _ in range(150):
-        code, n, t = 1 + rnd.getrandbits(2), 1 + rnd.getrandbits(3), 1 + rnd.getrandbits(2)
+    for _ in range(220):
+        code, n, t = CODES[rnd.getrandbits(16) % 6], 1 + rnd.getrandbits(3), 1 + rnd.getrandbits(2)
         size = trace_size(code, n)
         reel = bytearray(random_reel(rnd, code, n, t))
         start = 3600 + rnd.getrandbits(16) % t * size
@@ -486,7 +563,7 @@ def not_normal(x, rnd):
     put("10000 words", 3, 3428, lambda i, k: 3428 * (i - 1) + k <= 10000, 10000)
     put("all but one", 3, 3428, lambda i, k: (i, k) != (2, 1000), 10283)
 
-    # the same bytes under the other codes, a sample of code 3 being half a word; a gain word begins with 00
+    # the same bytes under the other codes, a sample of code 3 being half a word and one of code 8 a quarter; a gain word begins with 00
     for t, n in ((1, 1), (2, 3), (3, 40)):
         words = [[any_of(NOT_NORMAL) for _ in range(n)] for _ in range(t)]
         made = [make_trace(some) for some in words]
@@ -496,6 +573,9 @@ def not_normal(x, rnd):
         x.put(f"those bytes, code 3, T {t}, N {2 * n}", make_reel(2000, 2 * n, 3, made),
               f"taken {t} {2 * n} {length + 6 * n * t}")
         x.put(f"those bytes, code 4, T {t}, N {n}", make_reel(2000, n, 4, made), "refused 9 3840")
+        x.put(f"those bytes, code 5, T {t}, N {n}", make_reel(2000, n, 5, made), f"taken {t} {n} {length}")
+        x.put(f"those bytes, code 8, T {t}, N {4 * n}", make_reel(2000, 4 * n, 8, made),
+              f"taken {t} {4 * n} {length + 18 * n * t}")
         gains = [make_trace(b"\x00" + word[1:] for word in some) for some in words]
         x.put(f"those bytes after 00, code 4, T {t}, N {n}", make_reel(2000, n, 4, gains), f"taken {t} {n} {length}")
 
@@ -505,7 +585,7 @@ def not_normal(x, rnd):
         x.put(f"not normal, and {what}", make_reel(interval, n, code, made) + more, line)
 
     refused("code 0", "refused 2 3224", code=0)
-    refused("code 5", "refused 2 3224", code=5)
+    refused("code 6", "refused 2 3224", code=6)
     refused("N 8001", "refused 3 3220", n=8001, samples=2)
     refused("interval 0", "refused 4 3216", interval=0)
     refused("a byte too many", "refused 5 4344", more=b"\x00")
@@ -534,7 +614,8 @@ def all_inputs():
     x = Inputs()
     for seed, part in enumerate((
         lengths, good_reels, codes, counts, intervals, leftovers, trace_counts, trace_intervals,
-        gain_bytes, output_too_short, several_causes, small_changes, pieces, scalars, not_normal,
+        gain_bytes, output_too_short, several_causes, small_changes, pieces, scalars, not_normal, no_values,
+        one_byte_samples,
     )):
         part(x, random.Random(1975 + seed))
     return x.all
