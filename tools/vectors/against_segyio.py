@@ -1,8 +1,8 @@
-"""IBM words read by segyio, another reader, against document 01's exact values.
+"""Words read by segyio, another reader, against the exact values of documents 01 and 02.
 
 Run from the root of the repository:  python3 tools/vectors/against_segyio.py [--store]
 
-What segyio makes of some thousand words is stored in segyio_words.txt beside
+What segyio makes of some thousand IBM words is stored in segyio_words.txt beside
 this file, so that the comparison runs where segyio can't be installed. A run
 compares the stored floats with the values that document 01's rules give
 (samples.py), and with the pairs of the stored vectors, on which the proved
@@ -15,9 +15,15 @@ Two kinds of words segyio 1.8.3 reads in its own way: words that aren't normal,
 and words whose value only a subnormal float would hold. Where it gives another
 value than the word's the line says `misread`; `no float` is said of a word
 whose value no 32-bit float has. Each such name is worked out anew.
+
+Of codes 5 and 8 nothing is stored: where segyio is installed, it is asked for
+the words of code 5 in the stored vectors, for further ones and for every sample
+of code 8. All must agree, and the words that aren't finite numbers by segyio
+must be those that number 19 refuses.
 """
 
 import importlib.util
+import math
 import os
 import re
 import struct
@@ -102,12 +108,12 @@ def name_of(word, bits):
 # ---------------------------------------------------------------- the words
 
 
-def vectors():
-    """Words and pairs of the stored vectors of code 1, on which the proved code is run."""
+def vectors(code):
+    """Words, numbers and pairs of the stored vectors of a code, on which the proved code is run."""
     with open(samples.FOLDER / "stdin") as lines_in, open(samples.FOLDER / "stdout") as lines_out:
         for line, answer in zip(lines_in, lines_out, strict=True):
-            if line.startswith("r 00000001 "):
-                yield bytes.fromhex(line[11:19]), bytes.fromhex(answer[21:33])
+            if line.startswith(f"r {code:08x} "):
+                yield bytes.fromhex(line[11:19]), int(answer[:3]), bytes.fromhex(answer[21:33])
 
 
 def further():
@@ -129,22 +135,22 @@ def aligned():
 
 def words_to_store():
     words = [bytes.fromhex(word) for word in SHOWN]
-    words += [word for word, _ in vectors()]
+    words += [word for word, _, _ in vectors(1)]
     words += aligned()
     words += list(further())[:STORED_FURTHER]
     return list(dict.fromkeys(words))
 
 
-def by_segyio(words):
-    """The bits of the floats segyio makes of IBM words, from a reel laid out byte by byte."""
+def by_segyio(code, words):
+    """What segyio makes of samples of a code, from a reel laid out byte by byte: an array."""
     import segyio
 
     traces = -(-len(words) // SAMPLES_A_TRACE)
-    padded = words + [bytes(4)] * (traces * SAMPLES_A_TRACE - len(words))
+    padded = words + [bytes(len(words[0]))] * (traces * SAMPLES_A_TRACE - len(words))
     header = bytearray(400)
     header[16:18] = (2000).to_bytes(2, "big")  # byte 3217, the sample interval
     header[20:22] = SAMPLES_A_TRACE.to_bytes(2, "big")  # byte 3221, samples a trace
-    header[24:26] = (1).to_bytes(2, "big")  # byte 3225, the format code
+    header[24:26] = code.to_bytes(2, "big")  # byte 3225, the format code
     reel = b"\x40" * 3200 + bytes(header)
     for first in range(0, len(padded), SAMPLES_A_TRACE):
         reel += bytes(240) + b"".join(padded[first:first + SAMPLES_A_TRACE])
@@ -154,10 +160,40 @@ def by_segyio(words):
         with open(path, "wb") as file:
             file.write(reel)
         with segyio.open(path, "r", ignore_geometry=True) as reel_read:
-            if int(reel_read.format) != 1 or reel_read.tracecount != traces:
+            if int(reel_read.format) != code or reel_read.tracecount != traces:
                 sys.exit("against_segyio.py: segyio opens another reel than was written")
-            floats = [x for trace in reel_read.trace.raw[:] for x in trace.view("uint32").tolist()]
-    return floats[:len(words)]
+            return reel_read.trace.raw[:].reshape(-1)[:len(words)]
+
+
+def floats_by_segyio(words):
+    """The bits of the floats segyio makes of IBM words."""
+    return by_segyio(1, words).view("uint32").tolist()
+
+
+def further_ieee():
+    """Any words of code 5, and subnormal ones."""
+    rnd = samples.Numbers(1985)
+    for _ in range(6000):
+        yield rnd.bits(32).to_bytes(4, "big")
+        yield (rnd.bits(1) * 2 ** 31 + rnd.bits(rnd.between(1, 23))).to_bytes(4, "big")
+
+
+def new_codes(wrong):
+    """Words of code 5 and all samples of code 8, by segyio. Gives the counts of words of code 5, and of those without a value."""
+    held = {}
+    for word, number, pair in vectors(5):
+        held[word] = None if number == 19 else value_of_pair(pair)
+    for word in further_ieee():
+        held[word] = Fraction(samples.v_of_word(5, word), samples.SCALE) if samples.is_finite(word) else None
+    words = list(held)
+    for word, given in zip(words, by_segyio(5, words).tolist(), strict=True):
+        if (Fraction(given) if math.isfinite(given) else None) != held[word]:
+            wrong.append(f"{word.hex().upper()} of code 5 is {held[word]}, segyio gives {given}")
+    every = [bytes([byte]) for byte in range(256)]
+    for byte, given in zip(every, by_segyio(8, every).tolist(), strict=True):
+        if given * samples.SCALE != samples.v_of_word(8, byte + bytes(3)):
+            wrong.append(f"{byte.hex().upper()} of code 8: segyio gives {given}")
+    return len(words), sum(value is None for value in held.values())
 
 
 # ----------------------------------------------------------------- the file
@@ -168,7 +204,7 @@ def store():
 
     words = words_to_store()
     counts, lines = Counter(), []
-    for word, bits in zip(words, by_segyio(words), strict=True):
+    for word, bits in zip(words, floats_by_segyio(words), strict=True):
         name = name_of(word, bits)
         counts[name] += 1
         lines.append(f"{word.hex().upper()} {bits:08X} {name}".rstrip() + "\n")
@@ -226,7 +262,7 @@ def main():
             wrong.append(f"{told}: named {name!r}")
         counts[name] += 1
     not_stored = []
-    for word, pair in vectors():
+    for word, _, pair in vectors(1):
         if word not in stored:
             not_stored.append(word)
         elif must_agree(word):
@@ -252,20 +288,24 @@ def main():
 
         now = segyio.__version__
         other = 0
-        for (word, (bits, _)), given in zip(stored.items(), by_segyio(list(stored)), strict=True):
+        for (word, (bits, _)), given in zip(stored.items(), floats_by_segyio(list(stored)), strict=True):
             if given == bits:
                 continue
             if must_agree(word) or now == version:
                 wrong.append(f"{word.hex().upper()} is stored as {bits:08X}, segyio {now} gives {given:08X}")
             other += 1
         more = [word for word in [*further(), *not_stored] if word not in stored and must_agree(word)]
-        for word, given in zip(more, by_segyio(more), strict=True):
+        for word, given in zip(more, floats_by_segyio(more), strict=True):
             if value_of_float(given) != value_of(word):
                 wrong.append(f"{word.hex().upper()} is {value_of(word)}, segyio {now} gives the float {given:08X}")
         print(
             f"against_segyio.py: segyio {now} now gives the stored floats but for {other}; "
             f"{len(more)} further words compared"
         )
+        ieee, without = new_codes(wrong)
+        if without < 30 or ieee - without < 10000:
+            wrong.append(f"only {ieee} words of code 5, {without} of them without a value")
+        print(f"against_segyio.py: {ieee} words of code 5, {without} of them without a value, and every sample of code 8 compared")
     elif not installed:
         print("against_segyio.py: segyio is not installed, so the stored floats were not asked for anew")
 

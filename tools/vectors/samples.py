@@ -664,9 +664,12 @@ def words_of_segyio(x, rnd):
 
 
 def same_bytes(x, rnd):
-    """Words that aren't normal, or have no value, and the same bytes under the other codes and under no code."""
-    for word in NOT_NORMAL + NO_VALUES:
+    """Words that aren't normal under code 1, those that have no value under code 5, and the same bytes under others."""
+    for word in NOT_NORMAL:
         for code in (*CODES, 0, 6):
+            x.r(code, word)
+    for word in NO_VALUES:
+        for code in (5, 2, 3, 4, 8, 0, 6):
             x.r(code, word)
 
 
