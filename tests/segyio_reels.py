@@ -1,15 +1,21 @@
-"""Reels that the command writes, opened by another reader, segyio.
+"""Reels that the command writes, opened by another reader, segyio; and reels that segyio writes, read by the command.
 
     python3 tests/segyio_reels.py PATH_OF_COMMAND
 
 The reels that the command is given are made here, but for examples/sample.sgy, and are the same at every run. The command reads each
-into a record and writes that as a reel again, in each of the codes 1 to 3 that holds its samples; segyio doesn't know code 4. What
-segyio finds in the written reel, cards, header fields and samples, is compared with the bytes of the reel that the command was given,
-by document 01's rules. A written reel has the record's scalars, so elevations and coordinates are compared by their scaled values, as
-document 02's CR 2 says. So that no comparison is idle, copies of written reels with one bit changed must be found to differ.
+into a record and writes that as a reel again, in each of the codes 1, 2, 3, 5 and 8 that holds its samples; segyio doesn't know code 4.
+What segyio finds in the written reel, cards, header fields and samples, is compared with the bytes of the reel that the command was
+given, by the rules of documents 01 and 02. A written reel has the record's scalars, so elevations and coordinates are compared by their
+scaled values, as document 02's CR 2 says. So that no comparison is idle, copies of written reels with one bit changed must be found to
+differ.
 
-A sample of code 1 is compared where a 32-bit float, which segyio makes of it, holds its value; the others are counted. Prints one line
-and exits 0 if all agree; else prints the differences and exits 1. Without segyio it says so and exits 0.
+A sample of code 1 is compared where a 32-bit float, which segyio makes of it, holds its value; the others are counted. Those of code 5
+are compared all, the subnormal ones too.
+
+The other way, segyio writes reels of codes 5 and 8 from samples and header fields that are made here. The command reads them, and what
+stands in their records is compared with what segyio was given. A reel with an infinity or a not-a-number is refused by 19.
+
+Prints a line for each way and exits 0 if all agree; else prints the differences and exits 1. Without segyio it says so and exits 0.
 """
 
 import importlib.util
@@ -39,7 +45,7 @@ TRACE_COUNT, TRACE_INTERVAL = 115, 117
 GROUPS = {69: range(41, 66, 4), 71: range(73, 86, 4)}
 SCALARS = (0, 1, -1, 10, -10, 100, -100, 1000, -1000, 10000, -10000)
 RECORD_SCALARS = SCALARS[1:2] + SCALARS[3:]
-TARGETS = (1, 2, 3)
+TARGETS = (1, 2, 3, 5, 8)
 ENOUGH = 10_000  # samples to be compared under each of them
 SPELLED = 100  # groups of elevations or coordinates that have another scalar when they are written
 SMALLEST_NORMAL_FLOAT = Fraction(1, 2 ** 126)
@@ -55,7 +61,7 @@ def put(header, field, what):
 
 
 def width_of(code):
-    return 2 if code == 3 else 4
+    return {3: 2, 8: 1}.get(code, 4)
 
 
 class Reel:
@@ -105,6 +111,8 @@ def value(code, word):
     if code == 4:
         assert word[0] == 0
         return Fraction(number(word, 2, 2), 2 ** word[1])
+    if code == 5:
+        return Fraction(struct.unpack(">f", word)[0])
     return Fraction(number(word, 0, len(word)))
 
 
@@ -153,19 +161,49 @@ def whole_gain(rnd):
     return bytes([0, gain]) + (whole << gain).to_bytes(2, "big", signed=True)
 
 
-# What the samples are, code, N, T, and the codes from 1 to 3 that hold them.
+def some_ieee(rnd):
+    """Any word that has a value, many of them subnormal."""
+    exponent = rnd.choice((0, rnd.randrange(255)))
+    return (rnd.randrange(2) << 31 | exponent << 23 | rnd.randrange(2 ** 23)).to_bytes(4, "big")
+
+
+def short_ieee(rnd):
+    """The same with 20 bits of its fraction, so that an IBM word has the value too."""
+    return (int.from_bytes(some_ieee(rnd), "big") & 0xFFFFFFF8).to_bytes(4, "big")
+
+
+def small_ieee(rnd):
+    return struct.pack(">f", rnd.randrange(-128, 128))
+
+
+def some_8(rnd):
+    return rnd.randbytes(1)
+
+
+def small_gain(rnd):
+    """An 8-bit number other than 0."""
+    return bytes(2) + rnd.choice((*range(-128, 0), *range(1, 128))).to_bytes(2, "big", signed=True)
+
+
+# What the samples are, code, N, T, and the codes but 4 that hold them.
 MADE = (
     (some_ibm, 1, 201, 11, (1,)),
-    (float_ibm, 1, 1333, 9, (1,)),
-    (whole_ibm, 1, 475, 13, (1, 2, 3)),
+    (float_ibm, 1, 1333, 9, (1, 5)),
+    (whole_ibm, 1, 475, 13, (1, 2, 3, 5)),
     (some_32, 2, 2501, 3, (2,)),
-    (short_32, 2, 999, 5, (1, 2)),
-    (some_16, 3, 1, 37, (1, 2, 3)),
-    (some_16, 3, 8000, 1, (1, 2, 3)),
-    (some_gain, 4, 777, 7, (1,)),
-    (whole_gain, 4, 333, 6, (1, 2, 3)),
+    (short_32, 2, 999, 5, (1, 2, 5)),
+    (some_16, 3, 1, 37, (1, 2, 3, 5)),
+    (some_16, 3, 8000, 1, (1, 2, 3, 5)),
+    (some_gain, 4, 777, 7, (1, 5)),
+    (whole_gain, 4, 333, 6, (1, 2, 3, 5)),
+    (some_ieee, 5, 1501, 7, (5,)),
+    (short_ieee, 5, 702, 5, (1, 5)),
+    (small_ieee, 5, 383, 8, (1, 2, 3, 5, 8)),
+    (some_8, 8, 1, 35, (1, 2, 3, 5, 8)),
+    (some_8, 8, 1003, 3, (1, 2, 3, 5, 8)),
+    (some_8, 8, 8000, 1, (1, 2, 3, 5, 8)),
 )
-SMALL = (whole_gain, 4, 5, 2, (1, 2, 3))
+SMALL = (small_gain, 4, 5, 2, (1, 2, 3, 5, 8))
 
 
 def make_reel(rnd, word, code, n, t, _):
@@ -267,7 +305,7 @@ class Comparison:
                     self.beyond += 1
                     continue
                 self.samples += 1
-                if not math.isfinite(got) or Fraction(got) != exact:
+                if not math.isfinite(got) or Fraction(got) != exact or got == 0 and math.copysign(1, got) < 0:
                     self.differences.append(f"trace {i + 1}, sample {k}: expected {exact}, segyio gives {got}")
 
     def groups(self, what, trace, written):
@@ -305,6 +343,112 @@ def written(command, folder, name, data, targets):
         yield target, path
 
 
+# Reels that segyio writes.
+
+INTERVAL_BY_SEGYIO = 2000
+# What the samples are, code, N and T. Of a trace whose samples don't fill words of four bytes segyio 1.8.3 leaves out the last bytes, and
+# of field 61 it writes two.
+BY_SEGYIO = ((some_ieee, 5, 1201, 5), (small_ieee, 5, 1, 33), (some_ieee, 5, 8000, 1), (some_8, 8, 1200, 4), (some_8, 8, 8000, 1))
+NO_VALUES = tuple(bytes.fromhex(word) for word in ("7F800000", "FF800000", "7FC00000", "7F800001", "FFFFFFFF"))
+
+
+def written_by_segyio(rnd, path, word, code, n, t):
+    """Lets segyio write a reel, and gives the words and the fields of each trace as it was given them."""
+    spec = segyio.spec()
+    spec.format, spec.tracecount, spec.sorting = code, t, None
+    spec.samples = list(range(n))
+    traces = []
+    with segyio.create(path, spec) as reel:
+        reel.bin[INTERVAL] = INTERVAL_BY_SEGYIO
+        for i in range(t):
+            words = [word(rnd) for _ in range(n)]
+            fields = {field: rnd.randrange(-(2 ** (8 * width - 1)), 2 ** (8 * width - 1)) for field, width in TRACE_FIELDS.items()}
+            fields.update({field: rnd.choice(SCALARS) for field in GROUPS})
+            fields.update({61: 0, TRACE_COUNT: rnd.choice((0, n)), TRACE_INTERVAL: rnd.choice((0, INTERVAL_BY_SEGYIO))})
+            row = numpy.frombuffer(b"".join(words), f">{'f4' if code == 5 else 'i1'}")
+            reel.trace[i] = row.astype(reel.dtype)
+            reel.header[i] = fields
+            traces.append((words, fields))
+    return traces
+
+
+def held(record, n, i):
+    """The header and the exact sample values of trace i, from 0, in a record."""
+    start = 3266 + i * (186 + 6 * n)
+    pairs = record[start + 186 : start + 186 + 6 * n]
+    values = [number(pairs, place + 2, 4) * Fraction(2) ** number(pairs, place, 2) for place in range(0, 6 * n, 6)]
+    return record[start + 3 : start + 183], values
+
+
+def differences_by_segyio(record, code, n, traces):
+    """How a record differs from what segyio was given."""
+    t = len(traces)
+    if len(record) != 3273 + t * (186 + 6 * n):
+        return [f"its record has {len(record)} bytes"]
+    found = []
+    for i, (words, fields) in enumerate(traces):
+        header, values = held(record, n, i)
+        for k, (word, got) in enumerate(zip(words, values, strict=True), 1):
+            if got != value(code, word):
+                found.append(f"trace {i + 1}, sample {k}: segyio was given {word.hex()}, the record has {got}")
+        given = bytearray(180)
+        for field, width in TRACE_FIELDS.items():
+            given[field - 1 : field - 1 + width] = fields[field].to_bytes(width, "big", signed=True)
+        for scalar, group in GROUPS.items():
+            for field in group:
+                if scaled(header, field, scalar) != scaled(given, field, scalar):
+                    found.append(f"trace {i + 1}, field {field} scaled")
+        expected = {field: fields[field] for field in TRACE_FIELDS if not 40 < field < 89}
+        expected.update({TRACE_COUNT: n, TRACE_INTERVAL: INTERVAL_BY_SEGYIO})
+        for field, what in expected.items():
+            if number(header, field - 1, TRACE_FIELDS[field]) != what:
+                found.append(f"trace {i + 1}, field {field}: segyio was given {what}")
+    return found
+
+
+def refused_by_19(command, path, place):
+    """Whether reading is refused by 19 with this place, and makes no record."""
+    record = path.with_suffix(".none")
+    done = subprocess.run([command, "read", path, record], stdout=subprocess.PIPE, stderr=subprocess.STDOUT, timeout=600)
+    said = done.stdout.decode("utf-8", "replace")
+    return done.returncode == 2 and "refused by 19:" in said and f"(place {place}:" in said and not record.exists()
+
+
+def other_way(command, folder):
+    """Reels that segyio writes, read by the command: the differences, and what was compared in words."""
+    differences, samples, refused, changed = [], dict.fromkeys((5, 8), 0), 0, 0
+    for turn, (word, code, n, t) in enumerate(BY_SEGYIO):
+        path, record = folder / f"by_segyio_{turn}.sgy", folder / f"by_segyio_{turn}.record"
+        traces = written_by_segyio(random.Random(2001 + turn), path, word, code, n, t)
+        run(command, "read", path, record)
+        found = differences_by_segyio(record.read_bytes(), code, n, traces)
+        differences += [f"{word.__name__}, {t} traces of {n} samples by segyio: {said}" for said in found]
+        samples[code] += n * t
+
+    # one bit changed in any byte of a sample: another value, or none; and words without a value
+    path, record = folder / "small_by_segyio.sgy", folder / "small_by_segyio.record"
+    traces = written_by_segyio(random.Random(2100), path, lambda rnd: struct.pack(">f", rnd.uniform(1, 2)), 5, 3, 2)
+    data = path.read_bytes()
+    places = [3600 + i * 252 + 240 + byte for i in range(2) for byte in range(12)]
+    for place in places:
+        path.write_bytes(data[:place] + bytes([data[place] ^ 1 << place % 7]) + data[place + 1 :])
+        run(command, "read", "--force", path, record)
+        changed += 1
+        if not differences_by_segyio(record.read_bytes(), 5, 3, traces):
+            differences.append(f"a reel by segyio with the byte at place {place} changed isn't found to differ")
+    for word in NO_VALUES:
+        for place in places[::4]:
+            path.write_bytes(data[:place] + word + data[place + 4 :])
+            refused += 1
+            if not refused_by_19(command, path, place):
+                differences.append(f"{word.hex()} at place {place} of a reel by segyio isn't refused by 19")
+    compared = " and ".join(f"{count} in code {code}" for code, count in samples.items())
+    return differences, (
+        f"{len(BY_SEGYIO)} reels that segyio {segyio.__version__} wrote are read as it was given them, samples {compared}; "
+        f"{changed} changed copies differ, {refused} with a word without a value are refused"
+    )
+
+
 def damaged(data):
     """Copies with one bit changed: of some card bytes, of every byte of the binary header's fields, and of every byte behind."""
     for place in (*range(0, 3200, 50), *range(3200, 3260), *range(3600, len(data))):
@@ -317,12 +461,13 @@ def main():
     if importlib.util.find_spec("segyio") is None:
         print("segyio_reels: skipped: segyio is not installed")
         return
-    global segyio
+    global numpy, segyio
+    import numpy
     import segyio
 
     warnings.simplefilter("ignore")  # of a damaged format code
     command = Path(sys.argv[1]).resolve()
-    reels = [("sample", SAMPLE.read_bytes(), (1,))]
+    reels = [("sample", SAMPLE.read_bytes(), (1, 5))]
     reels += [(f"{made[0].__name__}_{made[2]}", make_reel(random.Random(1975 + i), *made), made[4]) for i, made in enumerate(MADE)]
     differences, samples, opened_reels, fields, beyond, spelled, changed = [], dict.fromkeys(TARGETS, 0), 0, 0, 0, 0, 0
     with tempfile.TemporaryDirectory() as room:
@@ -345,6 +490,8 @@ def main():
                 changed += 1
                 if not Comparison(Reel(data), target, copy, ways).differences:
                     differences.append(f"a reel in code {target} with the byte at place {place} changed isn't found to differ")
+        found, other = other_way(command, folder)
+        differences += found
 
     differences += [f"only {samples[target]} samples compared in code {target}" for target in TARGETS if samples[target] < ENOUGH]
     if spelled < SPELLED:
@@ -358,6 +505,7 @@ def main():
         f"segyio_reels: {opened_reels} written reels agree with segyio {segyio.__version__}: {fields} header fields, {spelled} groups "
         f"of them under another scalar, samples {compared}; {beyond} not compared, no float holds them; {changed} changed copies differ"
     )
+    print(f"segyio_reels: {other}")
 
 
 if __name__ == "__main__":
