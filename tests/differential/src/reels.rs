@@ -410,7 +410,16 @@ pub fn reels(compare: &mut Comparison) {
 /// other codes; then some of them.
 fn words_without_a_value(compare: &mut Comparison, random: &mut Random) {
     compare.stage("a word of code 5 without a value, at every sample");
-    for (samples, traces) in [(1, 1), (1, 3), (2, 2), (3, 3), (5, 2), (9, 1), (17, 1)] {
+    for (samples, traces) in [
+        (1, 1),
+        (1, 3),
+        (2, 2),
+        (3, 3),
+        (5, 2),
+        (9, 1),
+        (17, 1),
+        (67, 2),
+    ] {
         let shape = Shape::new(5, samples, traces);
         let valid = reel(random, shape, Words::Structured);
         for trace in 0..traces {
@@ -436,6 +445,22 @@ fn words_without_a_value(compare: &mut Comparison, random: &mut Random) {
                 }
             }
         }
+    }
+
+    compare.stage("a word of code 5 without a value among 8,000");
+    let shape = Shape::new(5, 8000, 2);
+    let mut made = reel(random, shape, Words::Random);
+    for turn in 0..400 {
+        let sample = match turn {
+            0..=15 => turn,
+            16..=31 => 8000 - 32 + turn,
+            _ => random.below(8000),
+        };
+        let place = shape.trace(turn % 2) + 240 + 4 * sample;
+        let before = made[place..place + 4].to_vec();
+        made[place..place + 4].copy_from_slice(&no_value(random));
+        compare.read_reel(&made, shape.record_length());
+        made[place..place + 4].copy_from_slice(&before);
     }
 
     compare.stage("several words of code 5 without a value");
