@@ -14,7 +14,7 @@
  *
  *   number  cause                                                     beside
  *    1      the reel has under 3,600 bytes                            its length
- *    2      the format code is not 1 to 4                             place 3224
+ *    2      the format code is not 1, 2, 3, 4, 5 or 8                 place 3224
  *    3      the count of samples N is not 1 to 8,000                  place 3220
  *    4      the interval is not 1 to 32,767                           place 3216
  *    5      bytes after the last whole trace                          place of the first
@@ -23,7 +23,7 @@
  *    8      trace field 117 is neither 0 nor the reel's interval      its place
  *    9      the first byte of a gain word is not 00                   its place
  *   10      the output is too short                                   the length needed
- *   11      the target code is not 1 to 4                             0
+ *   11      the target code is not 1, 2, 3, 4, 5 or 8                 0
  *   12      the record's form is wrong                                place of the field's tag, or of the first byte too many
  *   13      the record holds a number that no record has: a card      place of its first byte
  *           byte 00, an interval, N or format code outside its
@@ -38,8 +38,26 @@
  *           or else not 0A at some 81st byte                          place of the first such byte
  *   18      trace field 69 or 71 of a reel is not 0, 1, -1, or plus   its place
  *           or minus 10, 100, 1,000 or 10,000
+ *   19      an IEEE word is an infinity or a not-a-number             its place
  *
- * For a single word or pair the place beside 2, 9, 11, 13 and 14 is 0.
+ * For a single word or pair the place beside 2, 9, 11, 13, 14 and 19 is 0.
+ *
+ * The format codes, the bytes of a sample on a reel, and its value. All numbers are big-endian, whole ones in two's complement.
+ *
+ *   code  bytes  value
+ *    1     4     IBM word: a sign bit, a characteristic C of 7 bits, a fraction F of 24 bits: F * 16^(C - 70) with that sign
+ *    2     4     whole number
+ *    3     2     whole number
+ *    4     4     00, a gain g of one byte, a whole number d of two: d / 2^g
+ *    5     4     IEEE word: a sign bit, an exponent E of 8 bits, a fraction F of 23 bits: (2^23 + F) * 2^(E - 150) with that sign; where
+ *                E is 0, F * 2^-149, so that both zeros are 0 and subnormal numbers count; where E is 255 there is no value (19)
+ *    8     1     whole number
+ *
+ * Codes 5 and 8 are those of revision 1 of SEG-Y. They are taken on every reel and by the code alone: nothing else of revision 1 is looked
+ * at or written, and a reel of earlier days whose code 5 means 36-bit words is judged as one of IEEE words.
+ *
+ * Writing gives under code 1 the normal word (below), under code 4 the word with the smallest gain, and under the others the only word of
+ * the value, of the two zeros of code 5 00000000. A value that no word of the code has is refused by 14.
  *
  * A record leaves out what carries no meaning in revision 0: bytes 3261 to 3600, and bytes 181 to 240 of each trace header. Reading
  * takes any bytes there and says nothing of them; writing sets them to 0. A caller who wants to know looks at the reel's bytes. A record
@@ -63,7 +81,7 @@
  * An IBM word (code 1) is normal where the first hexadecimal digit of its fraction isn't 0, unless its characteristic is 0; of the words of
  * zero 00000000 alone is. Every other word has the value of a normal one, which is what writing gives: 80000000 and 7F000000 are zero,
  * 42010000 is 1 and so is the normal 41100000. A record has the value and no word, so `not_normal` tells while reading how many of the
- * reel's words weren't normal. Reels of codes 2 to 4 count none.
+ * reel's words weren't normal. Reels of the other codes count none.
  */
 #ifndef AUKPOCKET_H
 #define AUKPOCKET_H
@@ -75,15 +93,18 @@
 extern "C" {
 #endif
 
-/* One more with each change of a structure or an array here: what was compiled under another number has to be compiled again.
+/* One more with each change here that a caller may have to follow.
  *
  *   1  as it was first; that header doesn't define the number
- *   2  `not_normal` at the end of aukpocket_reel_answer and aukpocket_sample_answer (0.3.0) */
-#define AUKPOCKET_VERSION 2
+ *   2  `not_normal` at the end of aukpocket_reel_answer and aukpocket_sample_answer (0.3.0): what was compiled under 1 has to be compiled
+ *      again
+ *   3  codes 5 and 8 and number 19 (0.4.0): structures and arrays are as under 2, and what was compiled under 2 can be linked as it is, but
+ *      it meets reels and an answer that there weren't */
+#define AUKPOCKET_VERSION 3
 
 /* What a call on a whole reel or record answers: the traces, the samples of each, and the length of what was written. Beside a listing
  * traces and samples are 0. Reading a reel of code 1 also counts its words that aren't normal, 0 to traces * samples; `not_normal` is 0
- * under codes 2 to 4, beside a refusal, 10 too, and in every other call. */
+ * under the other codes, beside a refusal, 10 too, and in every other call. */
 struct aukpocket_reel_answer {
     uint64_t number;
     uint64_t traces;
@@ -101,7 +122,7 @@ struct aukpocket_field_answer {
 };
 
 /* What a single-sample call answers. Reading a word of code 1 that isn't normal also gives 1 in `not_normal`, which is 0 for every other
- * word, under codes 2 to 4, beside a refusal, and in aukpocket_write_pair. */
+ * word, under the other codes, beside a refusal, and in aukpocket_write_pair. */
 struct aukpocket_sample_answer {
     uint64_t number;
     uint64_t beside;
@@ -109,19 +130,19 @@ struct aukpocket_sample_answer {
 };
 
 /* Reads a reel, writes its record to the front of `record`, and counts its words that aren't normal. A record of T traces of N samples is
- * 3273 + T * (186 + 6 * N) bytes. Refuses by 1 to 6 in that order, then trace by trace 7, 8, 18 by field 69, 18 by field 71, and 9, then
- * 10. */
+ * 3273 + T * (186 + 6 * N) bytes. Refuses by 1 to 6 in that order, then trace by trace 7, 8, 18 by field 69, 18 by field 71, and 9 or 19,
+ * first such word first, then 10. */
 struct aukpocket_reel_answer aukpocket_read_reel(const uint8_t *reel, size_t reel_length, uint8_t *record, size_t record_length);
 
 /* Writes a record as a reel under a target code to the front of `reel`. A reel of T traces of N samples is 3600 + T * (240 + N * w)
- * bytes, w being 2 under code 3, else 4. Refuses by 11; then the record front to back, each field by 12 and then by 13; then 14, first
- * sample first; then 10. */
+ * bytes, w being the bytes of a sample under the code. Refuses by 11; then the record front to back, each field by 12 and then by 13;
+ * then 14, first sample first; then 10. */
 struct aukpocket_reel_answer aukpocket_write_reel(const uint8_t *record, size_t record_length, uint32_t code, uint8_t *reel,
                                                   size_t reel_length);
 
 /* Looks up the assigned field that begins at a byte number: of the binary header (3201 to 3259) for trace 0, of that trace's header
  * (1 to 179) from 1 on. Fields 115 and 117 are filled in from the reel where they are 0; all others are the bare numbers of the reel, 3225
- * and the scalars 69 and 71 too, and no scalar is applied. Refuses by 1 to 9 and 18 as aukpocket_read_reel does, then 15, then 16. */
+ * and the scalars 69 and 71 too, and no scalar is applied. Refuses by 1 to 9, 18 and 19 as aukpocket_read_reel does, then 15, then 16. */
 struct aukpocket_field_answer aukpocket_look_up(const uint8_t *reel, size_t reel_length, size_t trace, uint32_t byte_number);
 
 /* Writes the listing of a record's cards to the front of `listing`: 3,240 bytes. Refuses by 12 and 13 as aukpocket_write_reel does, then
@@ -135,12 +156,12 @@ struct aukpocket_reel_answer aukpocket_take_cards(const uint8_t *record, size_t 
                                                   size_t listing_length, uint8_t *out, size_t out_length);
 
 /* One sample, from the four bytes of its word to the six of its canonical pair: the exponent in two bytes, the mantissa in four, both
- * big-endian two's complement; and whether the word isn't normal. A code 3 sample is the word's first two bytes, and the rest is ignored.
- * Refuses by 2, then 9; the pair is then all 00. */
+ * big-endian two's complement; and whether the word isn't normal. A code 3 sample is the word's first two bytes, a code 8 sample its first
+ * byte, and the rest is ignored. Refuses by 2, then 9 or 19; the pair is then all 00. */
 struct aukpocket_sample_answer aukpocket_read_word(uint32_t code, const uint8_t word[4], uint8_t pair[6]);
 
-/* One sample, from the six bytes of its pair to the four of its word. A code 3 sample is the word's first two bytes, and the rest is 00.
- * Refuses by 11, 13, 14; the word is then all 00. */
+/* One sample, from the six bytes of its pair to the four of its word. A code 3 sample is the word's first two bytes, a code 8 sample its
+ * first byte, and the rest is 00. Refuses by 11, 13, 14; the word is then all 00. */
 struct aukpocket_sample_answer aukpocket_write_pair(uint32_t code, const uint8_t pair[6], uint8_t word[4]);
 
 #ifdef __cplusplus
