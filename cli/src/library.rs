@@ -83,7 +83,7 @@ pub struct Taken {
     pub length: usize,
 }
 
-/// A reel that was read: as above, and how many of its words weren't normal, 0 under codes 2 to 4.
+/// A reel that was read: as above, and how many of its words weren't normal, 0 under every code but 1.
 #[derive(Clone, Copy, Debug, PartialEq, Eq)]
 pub struct ReelRead {
     pub traces: u64,
@@ -99,11 +99,60 @@ pub struct WordRead {
     pub not_normal: bool,
 }
 
-/// A refusal: the number of its cause, 1 to 18, and what stands beside it: a place, counted from 0, or a length.
+/// A refusal: the number of its cause, 1 to 19, and what stands beside it: a place, counted from 0, or a length.
 #[derive(Clone, Copy, Debug, PartialEq, Eq)]
 pub struct Refusal {
     pub number: u64,
     pub beside: u64,
+}
+
+/// A format code: its number, what its samples are, and how many bytes each has on a reel.
+#[derive(Clone, Copy, Debug, PartialEq, Eq)]
+pub struct Code {
+    pub number: u32,
+    pub name: &'static str,
+    pub sample_length: u64,
+}
+
+/// The format codes that there are. Every other is refused, by 2 on a reel and by 11 as a target.
+pub const CODES: [Code; 6] = [
+    Code {
+        number: 1,
+        name: "IBM floating point",
+        sample_length: 4,
+    },
+    Code {
+        number: 2,
+        name: "whole numbers of four bytes",
+        sample_length: 4,
+    },
+    Code {
+        number: 3,
+        name: "whole numbers of two bytes",
+        sample_length: 2,
+    },
+    Code {
+        number: 4,
+        name: "two bytes with a gain",
+        sample_length: 4,
+    },
+    Code {
+        number: 5,
+        name: "IEEE floating point",
+        sample_length: 4,
+    },
+    Code {
+        number: 8,
+        name: "whole numbers of one byte",
+        sample_length: 1,
+    },
+];
+
+impl Code {
+    /// The code of that number, where there is one.
+    pub fn of(number: u32) -> Option<Code> {
+        CODES.into_iter().find(|code| code.number == number)
+    }
 }
 
 /// The bytes of a listing: 40 lines of 80 characters, each closed by 0A.
@@ -115,9 +164,9 @@ pub fn record_length(traces: u64, samples: u64) -> Option<u64> {
     traces.checked_mul(trace)?.checked_add(3273)
 }
 
-/// The bytes of a reel of that many traces and samples a trace, under a code.
+/// The bytes of a reel of that many traces and samples a trace, under a code. None where there is no such code.
 pub fn reel_length(traces: u64, samples: u64, code: u32) -> Option<u64> {
-    let width = if code == 3 { 2 } else { 4 };
+    let width = Code::of(code)?.sample_length;
     let trace = samples.checked_mul(width)?.checked_add(240)?;
     traces.checked_mul(trace)?.checked_add(3600)
 }
@@ -291,7 +340,7 @@ fn check_not_normal(not_normal: u64, words: u64) {
 
 fn refusal(number: u64, beside: u64) -> Refusal {
     assert!(
-        number <= 18,
+        number <= 19,
         "the library refuses by {number}, which is no cause"
     );
     Refusal { number, beside }
@@ -327,6 +376,20 @@ mod tests {
         assert_eq!((taken.traces, taken.samples, taken.length), (1, 2, 3848));
         assert_eq!(reel_length(1, 2, 1), Some(3848));
         assert_eq!(again[3840..], reel[3840..]);
+        // With 1 in place of its second sample, which has eighths, every code holds the record.
+        record[3458..3464].copy_from_slice(&[0, 0, 0, 0, 0, 1]);
+        for code in CODES {
+            let length = reel_length(1, 2, code.number).unwrap();
+            assert_eq!(length, 3840 + 2 * code.sample_length);
+            let refused = write_reel(&record[..3471], code.number, &mut []).unwrap_err();
+            assert_eq!((refused.number, refused.beside), (10, length));
+            let taken = write_reel(&record[..3471], code.number, &mut again).unwrap();
+            assert_eq!(taken.length as u64, length);
+            let mut back = vec![0; 3471];
+            read_reel(&again[..taken.length], &mut back).unwrap();
+            assert_eq!(back, record[..3471]);
+        }
+        assert_eq!(reel_length(0, 1, 6), None);
     }
 
     #[test]
@@ -424,7 +487,92 @@ mod tests {
         assert_eq!(write_pair(1, pair), Ok([0xC2, 0x76, 0xA0, 0]));
         assert_eq!(write_pair(2, pair).unwrap_err().number, 14);
         assert_eq!(read_word(4, [1, 0, 0, 0]).unwrap_err().number, 9);
-        assert_eq!(read_word(5, [0; 4]).unwrap_err().number, 2);
+        for code in 0..300 {
+            let refused = (
+                read_word(code, [0; 4]).err().map(|refused| refused.number),
+                write_pair(code, [0; 6]).err().map(|refused| refused.number),
+            );
+            let expected = match Code::of(code) {
+                Some(_) => (None, None),
+                None => (Some(2), Some(11)),
+            };
+            assert_eq!(refused, expected, "{code}");
+        }
+    }
+
+    /// The value of a pair, which 64 bits hold exactly.
+    fn value(pair: [u8; 6]) -> f64 {
+        let e = i16::from_be_bytes([pair[0], pair[1]]);
+        let m = i32::from_be_bytes([pair[2], pair[3], pair[4], pair[5]]);
+        let power = f64::from_bits(((i64::from(e) + 1023) as u64) << 52);
+        f64::from(m) * power
+    }
+
+    /// Words of code 5 against this machine's own numbers: every sign and exponent with fractions of all lengths.
+    #[test]
+    fn ieee_words() {
+        let ones = (0..24).map(|length| (1u32 << length) - 1);
+        let fractions: Vec<u32> = ones
+            .flat_map(|ones| [ones, ones + 1, 0x007F_FFFF & !ones, 0x0055_5555 & ones])
+            .filter(|fraction| fraction >> 23 == 0)
+            .collect();
+        for word in (0..512).flat_map(|first: u32| fractions.iter().map(move |f| first << 23 | f)) {
+            let (bytes, number) = (word.to_be_bytes(), f32::from_bits(word));
+            if !number.is_finite() {
+                let refused = read_word(5, bytes).unwrap_err();
+                assert_eq!((refused.number, refused.beside), (19, 0), "{word:08X}");
+                continue;
+            }
+            let read = read_word(5, bytes).unwrap();
+            assert_eq!(value(read.pair), f64::from(number), "{word:08X}");
+            assert!(!read.not_normal);
+            let written = if number == 0.0 { [0; 4] } else { bytes };
+            assert_eq!(write_pair(5, read.pair), Ok(written), "{word:08X}");
+        }
+    }
+
+    /// Values about the edges of code 5, by exponent and mantissa: what is between two of its numbers, or beyond them, doesn't fit.
+    #[test]
+    fn values_that_are_no_ieee_word() {
+        let write = |e: i16, m: i32| {
+            let ([a, b], [c, d, f, g]) = (e.to_be_bytes(), m.to_be_bytes());
+            write_pair(5, [a, b, c, d, f, g]).map_err(|refused| refused.number)
+        };
+        assert_eq!(write(-149, 1), Ok([0, 0, 0, 1]));
+        assert_eq!(write(-149, -0x007F_FFFF), Ok([0x80, 0x7F, 0xFF, 0xFF]));
+        assert_eq!(write(-126, 1), Ok([0, 0x80, 0, 0]));
+        assert_eq!(write(104, 0x00FF_FFFF), Ok([0x7F, 0x7F, 0xFF, 0xFF]));
+        assert_eq!(write(127, -1), Ok([0xFF, 0, 0, 0]));
+        for (e, m) in [
+            (-150, 1),
+            (-150, 0x00FF_FFFF),
+            (-280, -1),
+            (0, 0x0100_0001),
+            (104, 0x01FF_FFFF),
+            (105, 0x00FF_FFFF),
+            (128, 1),
+            (251, -1),
+        ] {
+            assert_eq!(write(e, m), Err(14), "{m} * 2^{e}");
+        }
+    }
+
+    /// Code 8: the first byte of a word is the sample, and the rest is ignored on reading and 00 on writing.
+    #[test]
+    fn words_of_one_byte() {
+        for byte in 0..=255 {
+            let read = read_word(8, [byte, 0xA5, 0xFF, 0x01]).unwrap();
+            assert_eq!(value(read.pair), f64::from(byte as i8));
+            assert!(!read.not_normal);
+            assert_eq!(write_pair(8, read.pair), Ok([byte, 0, 0, 0]));
+        }
+        let [whole, half] = [[0, 0, 0, 0, 0, 129], [0xFF, 0xFF, 0, 0, 0, 1]];
+        assert_eq!(write_pair(8, whole).unwrap_err().number, 14);
+        assert_eq!(write_pair(8, half).unwrap_err().number, 14);
+        // 128 doesn't fit, and -128 does.
+        assert_eq!(write_pair(8, [0, 7, 0, 0, 0, 1]).unwrap_err().number, 14);
+        let least = [0, 7, 0xFF, 0xFF, 0xFF, 0xFF];
+        assert_eq!(write_pair(8, least), Ok([0x80, 0, 0, 0]));
     }
 
     /// Words at the edge of what is normal, each alone and all on a reel; and the same bytes as whole numbers.
@@ -483,6 +631,8 @@ mod tests {
         assert_eq!(reel_read(reel(0, 6), 9).unwrap().not_normal, 6);
         assert!(read_fails(reel(0, 7)));
         assert!(read_fails(reel(5, 1)));
+        assert_eq!(reel_read(reel(19, 0), 9).unwrap_err().number, 19);
+        assert!(read_fails(reel(20, 0)));
         assert_eq!(taken(reel(0, 0), 9).unwrap().traces, 3);
         assert!(taken_fails(reel(0, 1)));
         assert!(taken_fails(reel(14, 1)));
