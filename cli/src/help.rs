@@ -1,12 +1,15 @@
 //! What `--help` prints.
 
+use crate::codes;
 use crate::fields;
 
-pub const ALL: &str = "\
+pub fn all() -> String {
+    format!(
+        "\
 aukpocket: SEG-Y revision 0 reels and their canonical records
 
   aukpocket read REEL RECORD [--force]         make the record of a reel
-  aukpocket write RECORD CODE REEL [--force]   write a record as a reel in format code 1 to 4
+  aukpocket write RECORD CODE REEL [--force]   write a record as a reel in code {}
   aukpocket look REEL TRACE BYTE               print one header field, by byte number or name
   aukpocket info FILE [--cards COUNT]          say what a file is and what it holds
   aukpocket cards RECORD                       print the cards, 40 lines of 80 columns
@@ -34,7 +37,10 @@ wrote them otherwise than a modern one does. The values are the same.
 
 Places are counted from 0, byte numbers, as in the standard, from 1. A whole reel and its record have
 to fit in memory.
-";
+",
+        codes::numbers()
+    )
+}
 
 const OUTPUT: &str = "
 The output is written under a temporary name in the same folder (aukpocket-NUMBER-NUMBER.partial),
@@ -58,6 +64,10 @@ zero 00000000 alone is. An old recorder, or a program in between, wrote words th
 values are the same and the record holds them exactly; a reel written from the record has the normal words.
 ";
 
+const NO_VALUE: &str = "
+A word of code 5 that is an infinity or a not-a-number has no value, and its reel is refused by 19.
+";
+
 const SCALARS: &str = "
 Elevations and depths (trace fields 41 to 65, by the scalar in field 69) and coordinates (73 to 85, by
 field 71) count by their scaled values: the record has for each trace the smallest power of ten from -4 to
@@ -76,7 +86,7 @@ aukpocket read REEL RECORD [--force]
 
 Reads the reel and writes its canonical record: the cards, every header number and the exact value of
 every sample. Two reels have the same record exactly when they mean the same.
-{SCALARS}{NOT_NORMAL}{LEFT_OUT}{OUTPUT}{STATUS}"
+{SCALARS}{NO_VALUE}{NOT_NORMAL}{LEFT_OUT}{OUTPUT}{STATUS}"
     )
 }
 
@@ -87,16 +97,13 @@ aukpocket write RECORD CODE REEL [--force]
 
 Writes the record as a reel in a format code:
 
-  1  IBM floating point, four bytes
-  2  whole numbers of four bytes
-  3  whole numbers of two bytes
-  4  two bytes with a gain, four bytes in all
-
+{}
 A code that can't hold some sample exactly is refused by 14. Reading the written reel gives the record
 again, byte for byte. Elevations and coordinates, and their scalars, are written as they stand in the
 record: the same values as on the reel that it was made of, perhaps by other numbers. Nearly every record
 made before scalars counted is refused by 13; see EARLIER RECORDS in aukpocket(1), or README.md.
-{OUTPUT}{STATUS}"
+{OUTPUT}{STATUS}",
+        codes::list()
     )
 }
 
@@ -183,15 +190,16 @@ named by trace and field or sample; elevations and coordinates stand there as in
 scalar. What it prints can be kept and handed to `sha256sum -c`: the SHA-256 of both files, and a line that
 begins with # and says whether the file is the reel's record. The reel and its record have to fit in memory.
 
-Without one: reads the reel, writes its record in each of the codes 1 to 4, reads each written reel again
-and compares the records byte for byte. Says which codes hold the reel's samples exactly. The record, one
+Without one: reads the reel, writes its record in each format code, reads each written reel again and
+compares the records byte for byte. Says which codes hold the reel's samples exactly. The record, one
 written reel and a second record have to fit in memory.
 
 Neither writes a file.
 {NOT_NORMAL}
 So a reel written in the reel's own code may have other bytes than the reel, and the same record: where a
-word wasn't normal (in code 4: a gain wasn't the smallest), a card byte was 00, trace field 115 or 117 was 0,
-elevations or coordinates had another scalar than the record's, or a byte is left out, as below.
+word wasn't normal (in code 4: a gain wasn't the smallest; in code 5: a zero had a minus sign), a card byte
+was 00, trace field 115 or 117 was 0, elevations or coordinates had another scalar than the record's, or a
+byte is left out, as below.
 {LEFT_OUT}
 Exit status: 0 fine, 1 wrong words or trouble with a file or memory, 2 the reel is refused, 3 the file is
 not the reel's record; or a record came back otherwise or the reel's own code doesn't hold it, which must
@@ -211,8 +219,8 @@ Reads a reel of any size from standard input and prints one line:
   refused NUMBER BESIDE    the number of the cause, and the place or length beside it
 
 It is the line of the program check_reel without that program's limits: there is neither `too long` nor
-a refusal by 10. COUNT is 0 in codes 2 to 4; `aukpocket read --help` says which words are normal. The reel and
-its record have to fit in memory.
+a refusal by 10. COUNT is 0 in every code but 1; `aukpocket read --help` says which words are normal. The
+reel and its record have to fit in memory.
 Beside a refusal the sentence stands on standard error. Writes no file.
 {STATUS}"
     )

@@ -1,7 +1,7 @@
 //! Where things stand on a reel and in a record. Only sizes and the sentences of refusals are worked out from here: what a reel holds is
 //! for the library to say.
 
-use aukpocket::{record_length, reel_length};
+use aukpocket::{record_length, reel_length, Code};
 
 /// A reel's cards, and its cards and binary header.
 pub const CARDS: usize = 3200;
@@ -34,6 +34,7 @@ pub struct Shape {
     pub interval: u16,
     pub samples: u16,
     pub code: u16,
+    pub sample_length: usize,
     pub trace_length: usize,
     pub traces: usize,
     /// Whether nothing follows the last whole trace.
@@ -41,17 +42,18 @@ pub struct Shape {
 }
 
 impl Shape {
-    /// Of a reel. One that is too short for its headers has no traces.
+    /// Of a reel. One that is too short for its headers has no traces. Without a code its samples count as four bytes each.
     pub fn of_reel(reel: &[u8]) -> Shape {
         let code = number(reel, CODE_PLACE);
         let samples = number(reel, COUNT_PLACE);
-        let width = if code == 3 { 2 } else { 4 };
-        let trace_length = 240 + width * usize::from(samples);
+        let sample_length = Code::of(code.into()).map_or(4, |code| code.sample_length as usize);
+        let trace_length = 240 + sample_length * usize::from(samples);
         let traces = reel.len().saturating_sub(HEADERS) / trace_length;
         Shape {
             interval: number(reel, INTERVAL_PLACE),
             samples,
             code,
+            sample_length,
             trace_length,
             traces,
             whole: HEADERS + traces * trace_length == reel.len(),
@@ -61,12 +63,14 @@ impl Shape {
     /// Of a record, which ends with seven bytes for the count of its traces.
     pub fn of_record(record: &[u8]) -> Shape {
         let samples = number(record, binary_place(3221));
-        let trace_length = FIRST_PAIR + 6 * usize::from(samples);
+        let sample_length = 6;
+        let trace_length = FIRST_PAIR + sample_length * usize::from(samples);
         let traces = record.len().saturating_sub(FIRST_TRACE + 7) / trace_length;
         Shape {
             interval: number(record, binary_place(3217)),
             samples,
             code: number(record, binary_place(3225)),
+            sample_length,
             trace_length,
             traces,
             whole: FIRST_TRACE + 7 + traces * trace_length == record.len(),

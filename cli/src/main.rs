@@ -1,6 +1,7 @@
 //! The command `aukpocket`: reels into records, records into reels, and what they hold.
 
 mod cards;
+mod codes;
 mod compare;
 mod fields;
 mod files;
@@ -16,7 +17,9 @@ mod sha256;
 mod system;
 mod trouble;
 
-use aukpocket::{list_cards, look_up, read_reel, take_cards, write_reel, ReelRead, Refusal, Taken};
+use aukpocket::{
+    list_cards, look_up, read_reel, take_cards, write_reel, ReelRead, Refusal, Taken, CODES,
+};
 use files::{step, Target};
 use kinds::{is_record, is_reel, record_fault, reel_fault};
 use layout::Shape;
@@ -34,8 +37,6 @@ use trouble::Trouble;
 
 /// The cards that `info` shows unless told otherwise.
 const FIRST_CARDS: usize = 5;
-
-const CODES: [u32; 4] = [1, 2, 3, 4];
 
 /// What stands on the command line after the command's name.
 struct Words {
@@ -165,7 +166,7 @@ fn run(arguments: Vec<OsString>) -> Result<(), Trouble> {
             let named = rest.first().and_then(|word| found(word));
             return match named {
                 Some(command) => print(&(command.help)()),
-                None => print(help::ALL),
+                None => print(&help::all()),
             };
         }
         Some("--version") => return print(concat!("aukpocket ", env!("CARGO_PKG_VERSION"), "\n")),
@@ -301,16 +302,6 @@ fn extent(traces: u64, samples: u64) -> String {
 /// How many words aren't normal, behind what joins it to a sentence; nothing where there is nothing to tell.
 fn joined(before: &str, counted: Option<NotNormal>) -> String {
     counted.map_or(String::new(), |counted| format!("{before}{counted}"))
-}
-
-fn code_name(code: u16) -> &'static str {
-    match code {
-        1 => ", IBM floating point",
-        2 => ", whole numbers of four bytes",
-        3 => ", whole numbers of two bytes",
-        4 => ", two bytes with a gain",
-        _ => "",
-    }
 }
 
 /// The record of a reel, and what reading answers. Its length is worked out from the reel's header; where that can't be, the library tells
@@ -468,7 +459,7 @@ fn info_of_reel(reel: &[u8], name: &str, cards: usize) -> Result<(), Trouble> {
             text,
             "code      {}{}",
             shape.code as i16,
-            code_name(shape.code)
+            codes::name(shape.code.into())
         );
         if let Ok(Some(counted)) = &counted {
             let _ = writeln!(text, "words     {}", counted.without_noun());
@@ -495,7 +486,7 @@ fn info_of_reel(reel: &[u8], name: &str, cards: usize) -> Result<(), Trouble> {
 }
 
 fn info_of_record(record: &[u8], name: &str, cards: usize) -> Result<(), Trouble> {
-    let tried = CODES.map(|code| (code, write_reel(record, code, &mut [])));
+    let tried = CODES.map(|code| (code.number, write_reel(record, code.number, &mut [])));
     let refusal = record_fault(tried[0].1);
     let kind = match refusal {
         None => "record",
@@ -770,7 +761,7 @@ fn verify_reel(path: &Path) -> Result<(), Trouble> {
     drop(reel);
     let mut holding = Vec::new();
     let mut differences = Vec::new();
-    for code in CODES {
+    for code in CODES.map(|code| code.number) {
         match again(&record, read, code, &name)? {
             Again::Same(length) => {
                 holding.push(code.to_string());

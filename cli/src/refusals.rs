@@ -1,6 +1,7 @@
 //! A refusal in a sentence: the number, what is wrong, the place, and the trace and field that it falls in.
 
 use crate::cards::{COLUMNS, COUNT};
+use crate::codes;
 use crate::fields::{header, meaning};
 use crate::kinds::{is_record, is_reel};
 use crate::layout::{
@@ -20,7 +21,7 @@ const ALLOWED: &str = "0, 1, -1, or plus or minus 10, 100, 1000 or 10000";
 const EARLIER: &str = "a damaged record is refused so, and one made before the rule of the smallest power: compare its SHA-256 with the \
                        one that was kept, then see EARLIER RECORDS in aukpocket(1), or README.md";
 
-/// A reel's refusal, by 1 to 10 or by 18. That it is a record is said first.
+/// A reel's refusal, by 1 to 10, 18 or 19. That it is a record is said first.
 pub fn of_reel(reel: &[u8], refusal: Refusal) -> String {
     if is_record(reel) {
         return format!("is a record, not a reel: {}", as_reel(reel, refusal));
@@ -38,7 +39,8 @@ fn as_reel(reel: &[u8], refusal: Refusal) -> String {
             refusal.beside
         ),
         2 => format!(
-            "the format code is {signed}, not 1 to 4 ({})",
+            "the format code is {signed}, not {} ({})",
+            codes::numbers(),
             binary_at(place)
         ),
         3 => format!(
@@ -83,6 +85,17 @@ fn as_reel(reel: &[u8], refusal: Refusal) -> String {
                 field(trace, rest + 1)
             )
         }
+        19 => {
+            let word = u32::from(number(reel, place)) << 16 | u32::from(number(reel, place + 2));
+            let kind = match word & 0x007F_FFFF {
+                0 => "an infinity",
+                _ => "a not-a-number",
+            };
+            format!(
+                "an IEEE word is {word:08X}, {kind} ({})",
+                reel_at(&shape, place)
+            )
+        }
         _ => return other(refusal),
     };
     sentence(refusal, &what)
@@ -121,7 +134,7 @@ pub fn of_record(record: &[u8], code: u32, refusal: Refusal) -> String {
 fn as_record(record: &[u8], code: u32, refusal: Refusal) -> String {
     let place = place_of(refusal);
     let what = match refusal.number {
-        11 => format!("the target code is {code}, not 1 to 4"),
+        11 => format!("the target code is {code}, not {}", codes::numbers()),
         12 => wrong_form(record, place),
         13 => wrong_number(record, place),
         14 => format!(
@@ -215,10 +228,9 @@ fn reel_at(shape: &Shape, place: usize) -> String {
     if rest < 240 {
         format!("place {place}: trace {trace}, {}", field(trace, rest + 1))
     } else {
-        // Reading refuses samples under code 4 alone, whose words have four bytes.
         format!(
             "place {place}: trace {trace}, sample {}",
-            (rest - 240) / 4 + 1
+            (rest - 240) / shape.sample_length + 1
         )
     }
 }
