@@ -23,7 +23,9 @@ sys.path[:0] = [str(TOP / "tools" / "vectors"), str(TOP / "tests")]
 
 import make_sample_reel as sample  # noqa: E402
 import reels  # noqa: E402
-from format_reader import GROUPS, POWERS, WIDTHS, is_normal, listing, not_normal, read_record, read_reel  # noqa: E402
+from format_reader import (  # noqa: E402
+    GROUPS, POWERS, WIDTHS, is_normal, listing, not_normal, read_record, read_reel, word_value,
+)
 
 PAGE = (TOP / "docs" / "FORMAT.md").read_text(encoding="utf-8")
 
@@ -154,6 +156,15 @@ def check_page(command, folder):
     words = [bytes.fromhex(word) for word in re.findall(r"[0-9A-F]{8}", shown)]
     assert [word for word in words if not is_normal(word)] == [bytes.fromhex(one), *words[-2:]]
     check_count(command, reels.make_reel(2000, len(words), 1, [reels.make_trace(words)]))
+    # What it says of words of code 5: a number, or a number times a power of two.
+    line = re.search(r"^Under code 5, (.*)\.$", PAGE, re.M)[1]
+    shown = re.findall(r"([0-9A-F]{8}) is (-?[0-9.]+)(?:\^(-?\d+))?(?: × 2\^(-?\d+))?(?:, | and |$)", line)
+    assert len(shown) == line.count(" is ") == 5
+    words = [bytes.fromhex(word) for word, *_ in shown]
+    values = [Fraction(number) ** int(power or 1) * Fraction(2) ** int(twos or 0) for _, number, power, twos in shown]
+    assert [word_value(5, word) for word in words] == values
+    reel = reels.make_reel(2000, len(words), 5, [reels.make_trace(words)])
+    assert read_record(record_of(command, folder, reel))[2][0][1] == values
     # Every card byte but 00, in some card.
     cards = bytes(place % 255 + 1 for place in range(3200))
     check_listing(command, folder, record[:3] + cards + record[3203:])
@@ -174,12 +185,12 @@ def main():
         assert read_reel(reel) == meant
         assert not_normal(reel) == 2
         check_count(command, reel)
-        for code in (1, 4):
+        for code in (1, 4, 5):
             run(command, "write", folder / "record", code, folder / f"{code}.sgy")
             assert read_reel((folder / f"{code}.sgy").read_bytes()) == meant
             assert not_normal((folder / f"{code}.sgy").read_bytes()) == 0
         rnd, count, others = random.Random(181), 0, 0
-        for code in (1, 2, 3, 4):
+        for code in (1, 2, 3, 4, 5, 8):
             for n, t in ((1, 0), (1, 1), (2, 3), (500, 4)):
                 reel = reels.random_reel(rnd, code, n, t)
                 assert read_record(record_of(command, folder, reel)) == read_reel(reel), (code, n, t)

@@ -99,8 +99,8 @@ def read_reel(data):
     """What a reel means, in the same form."""
     binary = numbers("binary", data[3200:3260])
     interval, n, code = binary[INTERVAL], binary[COUNT], binary.pop(CODE)
-    check(len(data) >= 3600 and code in (1, 2, 3, 4) and 1 <= n <= 8000 and interval >= 1, "the headers")
-    width = 2 if code == 3 else 4
+    check(len(data) >= 3600 and code in (1, 2, 3, 4, 5, 8) and 1 <= n <= 8000 and interval >= 1, "the headers")
+    width = {8: 1, 3: 2}.get(code, 4)
     length = 240 + n * width
     check((len(data) - 3600) % length == 0, "bytes after the last trace")
     traces = []
@@ -121,6 +121,12 @@ def word_value(code, word):
     if code == 4:
         check(word[0] == 0, "a gain word")
         return Fraction(signed(word[2:]), 2 ** word[1])
+    if code == 5:
+        bits = int.from_bytes(word, "big")
+        exponent, fraction = bits // 2**23 % 256, bits % 2**23
+        check(exponent != 255, "an infinity or a not-a-number")
+        value = (2**23 + fraction) * Fraction(2) ** (exponent - 150) if exponent else fraction * Fraction(2) ** -149
+        return -value if bits >= 2**31 else value
     return Fraction(signed(word))
 
 
