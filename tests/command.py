@@ -15,12 +15,14 @@ import resource
 import shutil
 import signal
 import stat
+import struct
 import subprocess
 import sys
 import tempfile
 import threading
 import time
 import unittest
+from fractions import Fraction
 from pathlib import Path
 
 sys.dont_write_bytecode = True
@@ -33,7 +35,7 @@ import reels  # noqa: E402
 from records import (  # noqa: E402
     make_record, place_of_binary, place_of_card, place_of_end, place_of_field, place_of_pair, place_of_samples, place_of_trace,
 )
-from reels import example, gain, make_reel, make_trace, random_reel, trace_size, whole16, whole32  # noqa: E402
+from reels import example, gain, make_reel, make_trace, random_reel, sample_size, trace_size, whole16, whole32  # noqa: E402
 from samples import pair_bytes, v_of_word, word_of_v  # noqa: E402
 
 SAMPLE = TOP / "examples" / "sample.sgy"
@@ -42,6 +44,15 @@ COMMAND = None  # a copy of the command, which other users may run too
 ROOM = None  # the folder of the whole test
 SECONDS = 600  # a run that takes as long hangs
 MEGABYTE = 1_000_000
+
+# The format codes, and some that there aren't.
+CODES = (1, 2, 3, 4, 5, 8)
+NO_CODES = (0, 6, 7, 9, 10, 13, 255, 257, 261, 264)
+
+# Words of code 5 that have no value.
+INFINITY = bytes.fromhex("7F800000")
+INFINITIES = [INFINITY, bytes.fromhex("FF800000")]
+NO_NUMBERS = [bytes.fromhex(word) for word in ("7FC00000", "FFC00000", "7F800001", "FF800001", "7FFFFFFF", "FFFFFFFF", "7FBFFFFF")]
 
 # Elevations and depths, and coordinates, by the byte number of their scalar; the scalars that a reel may have.
 GROUPS = {69: (41, 45, 49, 53, 57, 61, 65), 71: (73, 77, 81, 85)}
@@ -167,7 +178,7 @@ class Sample(Case):
         self.assertEqual(said, (
             f"{SAMPLE}: 6 traces of 240 samples, 2 of 1440 words not normal (0.14 %); {record}: its record, 13029 bytes\n"))
         self.assertEqual(record.read_bytes(), self.record)
-        for code in (1, 4):
+        for code in (1, 4, 5):
             reel, again = self.folder / f"{code}.sgy", self.folder / f"{code}.record"
             said = self.fine("write", record, code, reel)
             self.assertEqual(said, f"{record}: 6 traces of 240 samples; {reel}: its reel in code {code}, 10800 bytes\n")
@@ -177,10 +188,10 @@ class Sample(Case):
         # The sample has words that aren't normal, so its own bytes don't come back; what they mean does.
         self.assertNotEqual((self.folder / "1.sgy").read_bytes(), self.reel)
         before = self.names()
-        for code in (2, 3):
+        for code, value, sample in ((2, "-431 * 2^-3", 90), (3, "-431 * 2^-3", 90), (8, "125 * 2^1", 28)):
             said = self.trouble(2, "write", record, code, self.folder / "none")
             place = records.write_reel(self.record, code, 0)[2]
-            self.assertIn(f"refused by 14: a sample, -431 * 2^-3, doesn't fit code {code} (place {place}: trace 1, sample 90)", said)
+            self.assertIn(f"refused by 14: a sample, {value}, doesn't fit code {code} (place {place}: trace 1, sample {sample})", said)
         self.assertEqual(self.names(), before)
 
     def test_names_in_the_folder_where_it_is_run(self):
@@ -224,7 +235,8 @@ class Sample(Case):
             self.fine("info", "--cards", 2, record),
             f"file      {record}, 13029 bytes\nkind      record\n{counts}code      none: a record has exact values\n"
             "code 1    holds it, as a reel of 10800 bytes\ncode 2    doesn't hold it\ncode 3    doesn't hold it\n"
-            f"code 4    holds it, as a reel of 10800 bytes\ncards     2 of 40\n{cards}")
+            "code 4    holds it, as a reel of 10800 bytes\ncode 5    holds it, as a reel of 10800 bytes\ncode 8    doesn't hold it\n"
+            f"cards     2 of 40\n{cards}")
         self.assertIn("  C40 END EBCDIC\n", self.fine("info", SAMPLE, "--cards", 40))
         self.assertEqual(self.fine("info", SAMPLE).count("\n  C "), 5)
         self.assertNotIn("cards", self.fine("info", SAMPLE, "--cards", 0))
@@ -234,8 +246,9 @@ class Sample(Case):
         self.assertTrue(said.startswith(
             f"{SAMPLE}: 6 traces of 240 samples in code 1, 10800 bytes, 2 of 1440 words not normal (0.14 %); its record, 13029 bytes\n"
             "code 1: holds it; written (10800 bytes) and read again, the record is the same, and all words are normal\n"), said)
-        self.assertEqual(said.count("the record is the same"), 2)
-        self.assertTrue(said.endswith("the record is the same\ncodes that hold it: 1 4\n"), said)
+        self.assertEqual(said.count("the record is the same"), 3)
+        self.assertIn("code 5: holds it; written (10800 bytes) and read again, the record is the same\ncode 8: doesn't hold it; ", said)
+        self.assertTrue(said.endswith("\ncodes that hold it: 1 4 5\n"), said)
 
     def test_check(self):
         self.assertEqual(self.fine("check", stdin=self.reel), "taken 6 240 13029 2\n")
@@ -282,6 +295,7 @@ class Help(Case):
             self.assertIn(f"\n.TP\n.B {command}\n", page)
         for option in re.findall(r"--[a-z]+", self.fine("--help")):
             self.assertIn(option, page)
+        self.assertIn(f'"{self.fine("--version").strip()}"\n', page)
         for status, meaning in re.findall(r"^  ([0-3])  (.*)$", self.fine("--help"), re.M):
             self.assertIn(f"\n.B {status}\n{meaning}\n", page.replace("\n.B verify\nfound", "\nverify found"))
 
@@ -339,12 +353,19 @@ class Refusals(Case):
         good = random_reel(rnd, 1, 3, 2)
         self.reel_refused(b"", 1, 0, "it has 0 bytes")
         self.reel_refused(good[:3599], 1, 3599, "it has 3599 bytes")
-        self.reel_refused(with_bytes(good, 3224, b"\xff\xfb"), 2, 3224, "is -5, not 1 to 4", "place 3224: binary header, field 3225, code")
+        for code in (*NO_CODES, -5, -8):
+            self.reel_refused(with_bytes(good, 3224, (code % 65536).to_bytes(2, "big")), 2, 3224,
+                              f"the format code is {code}, not 1, 2, 3, 4, 5 or 8", "place 3224: binary header, field 3225, code")
         self.reel_refused(with_bytes(good, 3220, b"\x1f\x41"), 3, 3220, "are 8001, not", "place 3220: binary header, field 3221, samples")
         self.reel_refused(with_bytes(good, 3216, b"\x80\x00"), 4, 3216, "is -32768, not", "place 3216: binary header, field 3217, interval")
         self.reel_refused(good + b"\0" * 7, 5, len(good), "7 bytes follow", f"place {len(good)}: trace 3 would take 252 bytes")
         self.reel_refused(good[:-1], 5, 3852, "251 bytes follow", "place 3852: trace 2 would")
         self.reel_refused(good[:3700], 5, 3600, "100 bytes follow", "place 3600: trace 1 would")
+        # Where a sample has one byte, a trace is as much shorter.
+        good = random_reel(rnd, 8, 3, 2)
+        self.assertEqual(len(good), 3600 + 2 * 243)
+        self.reel_refused(good + b"\0" * 242, 5, len(good), "242 bytes follow", f"place {len(good)}: trace 3 would take 243 bytes")
+        self.reel_refused(good[:-1], 5, 3843, "242 bytes follow", "place 3843: trace 2 would take 243 bytes")
 
     def test_6(self):
         reel = make_reel(2000, 1, 3) + bytes(trace_size(3, 1)) * 100_001
@@ -408,13 +429,41 @@ class Refusals(Case):
                 trace = make_trace([bytes(4)], {byte_number: scalar, 140 - byte_number: 1})
                 self.assertEqual(self.fine("check", stdin=make_reel(500, 1, 1, [trace])), "taken 1 1 3465 0\n")
 
+    def test_19(self):
+        """An infinity or a not-a-number, the first such word of a trace; in a trace after 8 and 18."""
+        one = bytes.fromhex("3F800000")
+
+        def refused(number, trace, byte_number, *parts, **faults):
+            """Of three traces of four samples: trace2 is a header, word23 the third word of trace 2."""
+            traces = [make_trace([faults.get(f"word{i}{k}", one) for k in (1, 2, 3, 4)], faults.get(f"trace{i}")) for i in (1, 2, 3)]
+            place = 3600 + (trace - 1) * 256 + byte_number - 1
+            self.reel_refused(make_reel(500, 4, 5, traces), number, place, f"(place {place}: trace {trace}, ", *parts)
+
+        for kind, words in (("an infinity", INFINITIES), ("a not-a-number", NO_NUMBERS)):
+            for word in words:
+                refused(19, 2, 249, f"an IEEE word is {word.hex().upper()}, {kind} (place ", "trace 2, sample 3)", word23=word)
+        for trace in (1, 2, 3):
+            for k in (1, 2, 3, 4):
+                refused(19, trace, 241 + 4 * (k - 1), f"trace {trace}, sample {k})", **{f"word{trace}{k}": NO_NUMBERS[k]})
+        refused(19, 1, 245, "FF800000", word12=INFINITIES[1], word13=INFINITY, word21=NO_NUMBERS[0])
+        refused(19, 1, 253, word14=INFINITY, trace2={115: 9, 117: 9, 69: 2, 71: 2})
+        for byte_number, number in ((71, 18), (69, 18), (117, 8), (115, 7)):
+            refused(number, 2, byte_number, word21=INFINITY, word31=INFINITY, trace2={byte_number: 9})
+        # Bytes after the last trace come first; and in the other codes these words are words as any.
+        traces = [make_trace([INFINITY, NO_NUMBERS[0]])]
+        self.reel_refused(make_reel(500, 2, 5, traces) + b"\0", 5, 3848)
+        self.reel_refused(make_reel(500, 2, 4, traces), 9, 3840)
+        for code in (1, 2, 3, 8):
+            n = 8 // sample_size(code)
+            self.assertEqual(self.fine("check", stdin=make_reel(500, n, code, traces)), f"taken 1 {n} {3459 + 6 * n} 0\n")
+
     def test_11_to_14(self):
         one = pair_bytes(0, 1)
         zeros = {69: -10_000, 71: -10_000}
         good = make_record(n=2, traces=[[one, one]] * 3, trace_fields={1: zeros, 2: zeros, 3: zeros})
         self.assertEqual(records.write_reel(good, 3, 10**6)[0], "taken")
-        for code in (0, 5, 257):
-            self.record_refused(good, code, 11, 0, f"the target code is {code}, not 1 to 4")
+        for code in NO_CODES:
+            self.record_refused(good, code, 11, 0, f"the target code is {code}, not 1, 2, 3, 4, 5 or 8")
         header, samples, end = place_of_trace(2, 2), place_of_samples(2, 2), place_of_end(3, 2)
         for record, place, *parts in (
             (b"", 0, "the record ends where a field should begin", "tag 01, the cards"),
@@ -462,7 +511,7 @@ class Refusals(Case):
             damaged = with_bytes(damaged, place, wrong)
             self.record_refused(damaged, 1, 13, place, f"place {place}: trace 2, field {byte_number}")
         unfit = with_bytes(good, place_of_pair(3, 2, 2), pair_bytes(-280, -3))
-        for code in (2, 3, 4):
+        for code in (2, 3, 4, 5, 8):
             self.record_refused(unfit, code, 14, place_of_pair(3, 2, 2), f"-3 * 2^-280, doesn't fit code {code}", "trace 3, sample 2")
 
     def test_15_and_16(self):
@@ -482,7 +531,7 @@ class Refusals(Case):
         """Whatever was done to a file, the number and place are the rules', and the command ends with a sentence."""
         rnd = random.Random(2024)
         for i in range(150):
-            code, n, t = rnd.choice((1, 2, 3, 4)), rnd.randint(1, 4), rnd.randint(0, 3)
+            code, n, t = rnd.choice(CODES), rnd.randint(1, 4), rnd.randint(0, 3)
             reel = bytearray(random_reel(rnd, code, n, t))
             for _ in range(rnd.randint(0, 2)):
                 place = rnd.choice((rnd.randrange(len(reel)), rnd.randrange(3200, len(reel)), rnd.randrange(3216, 3226)))
@@ -503,7 +552,7 @@ class Refusals(Case):
                 place = rnd.choice((rnd.randrange(len(record)), rnd.randrange(3200, len(record)), rnd.randrange(min(len(record), 3300))))
                 damaged[place] = rnd.choice((0, 3, 4, 5, rnd.randrange(256)))
             damaged = bytes(damaged)[: rnd.choice((len(record), len(record), rnd.randrange(len(record))))]
-            path, output, target = self.file("record", damaged), self.folder / "output", rnd.choice((1, 2, 3, 4))
+            path, output, target = self.file("record", damaged), self.folder / "output", rnd.choice(CODES)
             said = records.write_reel(damaged, target, 10**9)
             if said[0] == "taken":
                 self.fine("write", path, target, output, "--force")
@@ -612,15 +661,15 @@ class Scalars(Case):
         """A written reel has the record's numbers and scalars; read again it gives the record."""
         record = self.record_of(one_trace({41: 1246, 69: -10, 73: 441_200, 71: 1}))
         reel = self.folder / "b.sgy"
-        for code in (1, 4):
+        for code in (1, 4, 5):
             self.fine("write", self.folder / "a.record", code, reel, "--force")
             self.assertEqual(reel.read_bytes()[3640:3688], record[place_of_field(1, 2, 41) : place_of_field(1, 2, 89)])
             for field, value in ((41, 1_246_000), (69, -10_000), (71, -1000), (73, 441_200_000)):
                 self.assertEqual(self.fine("look", reel, 1, field), f"{value}\n")
             self.fine("verify", reel, self.folder / "a.record")
         said = self.fine("verify", self.folder / "a.sgy")
-        self.assertEqual(said.count("the record is the same"), 2)
-        self.assertTrue(said.endswith("codes that hold it: 1 4\n"), said)
+        self.assertEqual(said.count("the record is the same"), 3)
+        self.assertTrue(said.endswith("codes that hold it: 1 4 5\n"), said)
 
     def test_earlier_records(self):
         """A record from before the rule is refused by every command that takes one, which says what was found and where to read on."""
@@ -685,19 +734,140 @@ class Codes(Case):
         tiny = make_reel(1000, 1, 1, [make_trace([bytes.fromhex("00000001")])])
         short = make_reel(1000, 2, 3, [make_trace([whole16(-32768), whole16(32767)])])
         empty = make_reel(1000, 8000, 4)
+
+        def of_whole(number):
+            return make_reel(1000, 1, 2, [make_trace([whole32(number)])])
+
+        def of_ieee(word):
+            return make_reel(1000, 1, 5, [make_trace([bytes.fromhex(word)])])
+
         for reel, codes in (
-            (small, "1 2 3 4"), (wide, "1 2"), (edge, "1 2"), (odd, "2"), (tiny, "1"), (short, "1 2 3 4"), (empty, "1 2 3 4"),
+            (small, "1 2 3 4 5"), (wide, "1 2 5"), (edge, "1 2 5"), (odd, "2"), (tiny, "1"), (short, "1 2 3 4 5"), (empty, "1 2 3 4 5 8"),
+            (of_whole(127), "1 2 3 4 5 8"), (of_whole(128), "1 2 3 4 5"), (of_whole(-128), "1 2 3 4 5 8"), (of_whole(-129), "1 2 3 4 5"),
+            (of_whole(2**24 - 1), "1 2 5"), (of_whole(2**24 + 1), "2"), (of_whole(2**25 - 2), "2 5"),
+            (of_ieee("3F000000"), "1 4 5"), (of_ieee("00000001"), "1 4 5"), (of_ieee("807FFFFF"), "5"), (of_ieee("007FFFFE"), "1 5"),
+            (of_ieee("7F7FFFFF"), "1 5"), (of_ieee("FF000000"), "1 5"), (of_ieee("80000000"), "1 2 3 4 5 8"),
+            (make_reel(1000, 3, 8, [make_trace([b"\x80\x7f\0"])]), "1 2 3 4 5 8"),
         ):
             said = self.fine("verify", self.file("reel", reel))
             self.assertTrue(said.endswith(f"codes that hold it: {codes}\n"), (said, codes))
-        for code in (1, 2, 3, 4):
+            record = reels.record_of(reel)
+            self.assertEqual([code for code in CODES if records.write_reel(record, code, 10**9)[0] == "taken"], list(map(int, codes.split())))
+        for code in CODES:
             reel = random_reel(rnd, code, 5, 4)
             record = reels.record_of(reel)
-            holding = [c for c in (1, 2, 3, 4) if records.write_reel(record, c, 10**9)[0] == "taken"]
+            holding = [c for c in CODES if records.write_reel(record, c, 10**9)[0] == "taken"]
             self.assertIn(code, holding)
             path = self.file("reel", reel)
             said = self.fine("verify", path, warned=warning(path, reel))
             self.assertTrue(said.endswith("codes that hold it: " + " ".join(map(str, holding)) + "\n"), (said, holding))
+
+    def test_where_they_are_listed(self):
+        """The help of `write`, the README and the man page have the same codes, names and bytes; `info` says the names too."""
+        listed = re.findall(r"^  (\d+)  (\S.*\S)  +(\d) bytes? a sample$", self.fine("write", "--help"), re.M)
+        self.assertEqual([(int(code), int(size)) for code, _, size in listed], [(code, sample_size(code)) for code in CODES])
+        page = (TOP / "README.md").read_text(encoding="utf-8").split("\n## Format codes\n")[1].split("\n## ")[0]
+        self.assertEqual(re.findall(r"^\| (\d+) \| ([^|]+) \| (\d) \| [^|]+ \|$", page, re.M), listed)
+        page = (TOP / "docs" / "aukpocket.1").read_text(encoding="utf-8").split("\n.SH FORMAT CODES\n")[1].split("\n.SH ")[0]
+        self.assertEqual(re.findall(r"^\.B (\d+)\n(.*), (\d) bytes? a sample$", page, re.M), listed)
+        for code, name, _ in listed:
+            said = self.fine("info", self.file("reel", make_reel(1000, 2, int(code))))
+            self.assertIn(f"\ncode      {code}, {name}\n", said)
+        run = self.run_command("info", self.file("reel", make_reel(1000, 2, 6)))
+        self.assertIn(b"\ncode      6\n", run.stdout)
+
+
+def pair_of(value):
+    """The canonical pair of an exact value."""
+    if value == 0:
+        return bytes(6)
+    e, m = 1 - value.denominator.bit_length(), value.numerator
+    while m % 2 == 0:
+        e, m = e + 1, m // 2
+    return pair_bytes(e, m)
+
+
+def ieee_value(word):
+    """The exact value of a word of code 5 by this machine's own floating-point numbers."""
+    return Fraction(struct.unpack(">f", word)[0])
+
+
+# Words of code 5: both zeros, subnormal numbers, the least of the others, whole numbers, and the largest.
+IEEE = [bytes.fromhex(word) for word in (
+    "00000000", "80000000", "00000001", "80000001", "00000003", "00400000", "007FFFFF", "807FFFFF", "00800000", "80800000", "00800001",
+    "00FFFFFF", "01000000", "3F800000", "BF800000", "3F7FFFFF", "3F800001", "C2ED4000", "4B7FFFFF", "4B800000", "4B800001", "CB7FFFFF",
+    "7F000000", "7F7FFFFF", "FF7FFFFF", "FF7FFFFE", "3DCCCCCD", "40490FDB")]
+
+
+class NewerCodes(Case):
+    """Codes 5 and 8, whose values are worked out here by Python's own numbers."""
+
+    def there_and_back(self, code, traces, values):
+        """A reel of these samples has these values in its record, and is written from it as it was, but for minus zeros."""
+        t, n, size = len(traces), len(traces[0]), trace_size(code, len(traces[0]))
+        path = self.file("a.sgy", make_reel(2000, n, code, [make_trace(samples) for samples in traces]))
+        record, again = self.folder / "a.record", self.folder / "b.sgy"
+        self.assertEqual(path.stat().st_size, 3600 + t * size)
+        length = 3273 + t * (186 + 6 * n)
+        self.assertEqual(self.fine("read", path, record, "--force"), (
+            f"{path}: {t} trace{'s' * (t > 1)} of {n} sample{'s' * (n > 1)}; {record}: its record, {length} bytes\n"))
+        held = record.read_bytes()
+        for i, expected in enumerate(values, 1):
+            first = place_of_pair(i, n, 1)
+            self.assertEqual(held[first : first + 6 * n], b"".join(map(pair_of, expected)))
+        self.fine("verify", path, record)
+        self.assertEqual(self.fine("write", record, code, again, "--force"), (
+            f"{record}: {t} trace{'s' * (t > 1)} of {n} sample{'s' * (n > 1)}; {again}: its reel in code {code}, {3600 + t * size} bytes\n"))
+        written = again.read_bytes()
+        for i, samples in enumerate(traces):
+            zeros = [bytes(4) if code == 5 and sample == b"\x80\0\0\0" else sample for sample in samples]
+            self.assertEqual(written[3600 + i * size + 240 : 3600 + (i + 1) * size], b"".join(zeros))
+        self.assertEqual(self.fine("look", again, 0, "code"), f"{code}\n")
+        self.assertEqual(self.fine("look", again, t, 115), f"{n}\n")
+        self.fine("verify", again, record)
+
+    def test_ieee(self):
+        rnd = random.Random(754)
+        self.there_and_back(5, [[word] for word in IEEE], [[ieee_value(word)] for word in IEEE])
+        words = [rnd.getrandbits(32).to_bytes(4, "big") for _ in range(1200)]
+        words = [word for word in words if word[0] % 128 < 127 or word[1] < 128]
+        words += [bytes([first]) + rnd.getrandbits(24).to_bytes(3, "big") for first in (0x00, 0x80) * 100]  # half of them subnormal
+        words = IEEE + words[: len(words) - (len(IEEE) + len(words)) % 4]
+        traces = [words[i : i + len(words) // 4] for i in range(0, len(words), len(words) // 4)]
+        self.there_and_back(5, traces, [list(map(ieee_value, trace)) for trace in traces])
+
+    def test_both_zeros_are_one(self):
+        path, other = (self.file(name, make_reel(2000, 1, 5, [make_trace([word])])) for name, word in (
+            ("a.sgy", bytes(4)), ("b.sgy", b"\x80\0\0\0")))
+        record = self.folder / "a.record"
+        self.fine("read", path, record)
+        self.assertIn("is the record, byte for byte, of", self.fine("verify", other, record))
+
+    def test_one_byte(self):
+        samples = [bytes([byte]) for byte in range(256)]
+        values = [Fraction(byte - 256 if byte > 127 else byte) for byte in range(256)]
+        self.there_and_back(8, [samples], [values])
+        self.there_and_back(8, [[sample] for sample in samples[120:136]], [[value] for value in values[120:136]])
+        self.there_and_back(8, [samples[i : i + 85] for i in (0, 85, 171)], [values[i : i + 85] for i in (0, 85, 171)])
+
+    def test_one_meaning_in_every_code(self):
+        """Reels of one meaning have one record, whatever their codes; each word is written here by hand."""
+        values = {
+            0: ("00000000", "00000000", "0000", "00000000", "00000000", "00"), 1: ("41100000", "00000001", "0001", "00000001", "3F800000", "01"),
+            -1: ("C1100000", "FFFFFFFF", "FFFF", "0000FFFF", "BF800000", "FF"), 127: ("427F0000", "0000007F", "007F", "0000007F", "42FE0000", "7F"),
+            -128: ("C2800000", "FFFFFF80", "FF80", "0000FF80", "C3000000", "80"), 100: ("42640000", "00000064", "0064", "00000064", "42C80000", "64"),
+        }
+        fields = {69: -10_000, 71: -10_000, 115: len(values), 117: 2000}
+        made = [make_reel(2000, len(values), code, [make_trace([bytes.fromhex(words[i]) for words in values.values()], fields)] * 2)
+                for i, code in enumerate(CODES)]
+        record = self.folder / "a.record"
+        self.fine("read", self.file("1.sgy", made[0]), record)
+        for code, reel in zip(CODES, made):
+            path, again = self.file(f"{code}.sgy", reel), self.folder / "again.sgy"
+            self.assertIn("is the record, byte for byte, of", self.fine("verify", path, record))
+            self.fine("write", record, code, again, "--force")
+            self.assertEqual(again.read_bytes(), reel, code)
+        self.assertIn("code 8    holds it, as a reel of 4092 bytes\n", self.fine("info", record))
 
 
 class Verify(Case):
@@ -819,7 +989,7 @@ class NotNormal(Case):
 
     def reel(self, *traces, code=1):
         """A reel of traces of words, all of one length."""
-        return make_reel(2000, len(traces[0]) * (2 if code == 3 else 1), code, [make_trace(words) for words in traces])
+        return make_reel(2000, len(traces[0]) * 4 // sample_size(code), code, [make_trace(words) for words in traces])
 
     def told(self, reel, count, text):
         """What each command says of a reel: how many, of how many and the share, or nothing."""
@@ -900,8 +1070,8 @@ class NotNormal(Case):
 
     def test_other_codes(self):
         """The same bytes are numbers there, and nothing is said of them. Nor is it of gain words, of which a value has several."""
-        self.told(self.reel(NOT_NORMAL, code=2), 0, "")
-        self.told(self.reel(NOT_NORMAL, code=3), 0, "")
+        for code in (2, 3, 5, 8):
+            self.told(self.reel(NOT_NORMAL, code=code), 0, "")
         gains = [gain(g, 2**g) for g in range(1, 15)]
         self.assertEqual({word_of_v(4, v_of_word(4, word)) for word in gains}, {gain(0, 1)})
         self.told(self.reel(gains, code=4), 0, "")
@@ -912,7 +1082,8 @@ class NotNormal(Case):
         good = self.reel(NOT_NORMAL, NOT_NORMAL)
         size = (len(good) - 3600) // 2
         for reel, number, beside in (
-            (good[:-1], 5, 3600 + size), (with_bytes(good, 3224, b"\0\5"), 2, 3224), (with_bytes(good, 3224, b"\0\4"), 9, 3840),
+            (good[:-1], 5, 3600 + size), (with_bytes(good, 3224, b"\0\6"), 2, 3224), (with_bytes(good, 3224, b"\0\4"), 9, 3840),
+            (with_bytes(with_bytes(good, 3224, b"\0\5"), 3844, b"\x7f\x80"), 19, 3844),
             (with_bytes(good, 3600 + size + 114, b"\0\1"), 7, 3600 + size + 114),
             (with_bytes(good, 3600 + size + 68, b"\0\7"), 18, 3600 + size + 68),
         ):
@@ -948,12 +1119,14 @@ class NotNormal(Case):
         self.assertEqual(len(rows), 5)
         for word, normal in rows:
             self.assertEqual(word_of_v(1, v_of_word(1, bytes.fromhex(word))).hex().upper(), normal)
-        rows = re.findall(r"^\| ([0-9A-F]{8}) \| ([1-4]) \| ([0-9A-F]{4}) ([0-9A-F]{8}) \| ([01]) \|", page, re.M)
-        self.assertEqual(len(rows), 6)
-        for word, code, e, m, not_normal in rows:
+        rows = re.findall(r"^\| ([0-9A-F]{8}) \| (\d+) \| ([0-9A-F]{4}) ([0-9A-F]{8}) \| ([01]) \| (.*) \|$", page, re.M)
+        self.assertEqual([code for _, code, *_ in rows], ["1"] * 4 + ["2", "4"] + ["5"] * 4 + ["8"])
+        for word, code, e, m, not_normal, remark in rows:
             word, code = bytes.fromhex(word), int(code)
             self.assertEqual(reels.pair_of_word(code, word).hex().upper(), e + m)
             self.assertEqual(code == 1 and not is_normal(word), not_normal == "1")
+            again = re.search(r"written again it is ([0-9A-F]{8})$", remark)
+            self.assertEqual(word_of_v(code, v_of_word(code, word)), bytes.fromhex(again[1]) if again else word)
 
 
 class LeftOut(Case):
@@ -998,7 +1171,7 @@ class Kinds(Case):
     def test_a_reel_for_a_record(self):
         """Whole, or with something wrong in its traces."""
         for reel in (SAMPLE.read_bytes(), SAMPLE.read_bytes()[:-1], with_bytes(SAMPLE.read_bytes(), 3668, b"\0\x07"), example(),
-                     make_reel(1, 1, 3)):
+                     make_reel(1, 1, 3), make_reel(1, 1, 8), make_reel(1, 1, 5, [make_trace([INFINITY])])):
             path = self.file("a.sgy", reel)
             said = self.trouble(2, "write", path, 1, self.folder / "none")
             self.assertRegex(said, f"^{path}: is a reel, not a record: refused by 12: tag .. stands where a field should begin ")
@@ -1628,6 +1801,14 @@ class Large(Case):
         self.assertEqual(self.terminal("info", self.reel), "".join(f"aukpocket: {what}\n" for what in (
             f"loading {self.reel}, 32 MB", f"making the record of {self.reel}, 48 MB")))
         self.assertIn("aukpocket: reading the reel in code 3 again, 16 MB\n", self.terminal("verify", self.reel))
+        # Where a sample has one byte, the record is six times as long as the reel, and its length is known before.
+        small, new = self.folder / "small.sgy", self.folder / "new"
+        self.assertEqual(self.terminal("write", output, 8, small), f"aukpocket: loading {output}, 48 MB\n")
+        self.assertEqual(small.stat().st_size, 3600 + self.T * (240 + self.N))
+        self.assertEqual(self.terminal("read", small, new), "".join(f"aukpocket: {what}\n" for what in (
+            f"making the record of {small}, 48 MB", f"writing {new}, 48 MB")))
+        self.assertEqual(new.read_bytes(), output.read_bytes())
+        new.unlink()
         said = self.terminal("verify", self.reel, output)
         self.assertTrue(said.endswith(f"aukpocket: summing {self.reel}, 32 MB\naukpocket: comparing {output}, 48 MB\n"), said)
         listing, new = self.file("listing", b"\n" * 40), self.folder / "new"
@@ -1936,6 +2117,7 @@ int main(void)
 {
     const unsigned char word[4] = {0xC2, 0x76, 0xA0, 0x00}, pair[6] = {0xFF, 0xFD, 0xFF, 0xFF, 0xFC, 0x4B};
     const unsigned char words[8] = {0x42, 0x01, 0, 0, 0x80, 0, 0, 0}; /* 1 and 0, neither by its normal word */
+    const unsigned char ieee[8] = {0x80, 0, 0, 0, 0xC2, 0xED, 0x40, 0}; /* a minus zero and -949 * 2^-3 */
     unsigned char word_out[4], pair_out[6];
     struct aukpocket_reel_answer read, written, listed, taken;
     struct aukpocket_field_answer field, none;
@@ -2022,7 +2204,41 @@ int main(void)
     if (sample.number != 0 || sample.not_normal != 0)
         return 21;
     sample = aukpocket_read_word(4, words, pair_out);
-    return sample.number == 9 && sample.not_normal == 0 ? 0 : 22;
+    if (sample.number != 9 || sample.not_normal != 0)
+        return 22;
+    reel[3225] = 5;
+    memcpy(reel + 3840, ieee, 8);
+    read = aukpocket_read_reel(reel, 3848, record, 3471);
+    if (read.number != 0 || read.length != 3471 || read.not_normal != 0 || memcmp(pair, record + 3458, 6) != 0)
+        return 24;
+    written = aukpocket_write_reel(record, 3471, 5, again, 3848);
+    if (written.number != 0 || written.length != 3848 || memcmp(reel + 3844, again + 3844, 4) != 0)
+        return 25;
+    if (memcmp("\0\0\0", again + 3840, 4) != 0) /* of the two zeros */
+        return 26;
+    written = aukpocket_write_reel(record, 3471, 8, again, 3848);
+    if (written.number != 14 || written.beside != 3458)
+        return 27;
+    reel[3844] = 0xFF, reel[3845] = 0x80;
+    read = aukpocket_read_reel(reel, 3848, record, 3471);
+    none = aukpocket_look_up(reel, 3848, 1, 117);
+    if (read.number != 19 || read.length != 0 || read.beside != 3844 || none.number != 19 || none.value != 0 || none.beside != 3844)
+        return 28;
+    sample = aukpocket_read_word(5, reel + 3844, pair_out);
+    if (sample.number != 19 || sample.beside != 0 || memcmp("\0\0\0\0\0", pair_out, 6) != 0)
+        return 29;
+    reel[3225] = 8;
+    read = aukpocket_read_reel(reel, 3842, record, 3471);
+    if (read.number != 0 || read.traces != 1 || read.samples != 2 || read.length != 3471)
+        return 30;
+    written = aukpocket_write_reel(record, 3471, 8, again, 3842);
+    if (written.number != 0 || written.length != 3842 || memcmp(reel + 3840, again + 3840, 2) != 0)
+        return 31;
+    sample = aukpocket_write_pair(8, record + 3452, word_out);
+    if (sample.number != 0 || memcmp("\x80\0\0", word_out, 4) != 0)
+        return 32;
+    sample = aukpocket_read_word(6, words, pair_out);
+    return sample.number == 2 ? 0 : 33;
 }
 """
 
@@ -2039,7 +2255,11 @@ class Examples(Built):
         self.assertEqual(self.example(*program, SAMPLE, record), (0, "taken 6 240 13029 2\n"))
         self.assertEqual(record.read_bytes(), reels.record_of(SAMPLE.read_bytes()))
         self.assertEqual(self.example(*program, SAMPLE, record), (1, ""))  # it is there already
-        for reel, said in ((b"", "refused 1 0\n"), (example()[:-1], "refused 5 3600\n")):
+        one_byte = self.file("one-byte", make_reel(2000, 3, 8, [make_trace([b"\x7f\x80\xff"])]))
+        record.unlink()
+        self.assertEqual(self.example(*program, one_byte, record), (0, "taken 1 3 3477 0\n"))
+        infinite = make_reel(2000, 1, 5, [make_trace([INFINITY])])
+        for reel, said in ((b"", "refused 1 0\n"), (example()[:-1], "refused 5 3600\n"), (infinite, "refused 19 3840\n")):
             self.assertEqual(self.example(*program, self.file("bad", reel), self.folder / "none"), (2, said))
         self.assertFalse((self.folder / "none").exists())
         self.assertEqual(self.example(*program, self.folder / "missing", self.folder / "none")[0], 1)
@@ -2058,7 +2278,7 @@ class Examples(Built):
     def test_the_header(self):
         """The sizes that cli/src/library.rs and the examples count on, in C and in C++. With other sizes the version is another."""
         sizes = (("reel", 48, {"length": 24, "not_normal": 40}), ("field", 16, {"value": 4}), ("sample", 24, {"not_normal": 16}))
-        source = '#include "aukpocket.h"\n#if AUKPOCKET_VERSION != 2\n#error another version\n#endif\n'
+        source = '#include "aukpocket.h"\n#if AUKPOCKET_VERSION != 3\n#error another version\n#endif\n'
         for kind, size, places in sizes:
             answer = f"struct aukpocket_{kind}_answer"
             source += f"typedef char {kind}_size[sizeof({answer}) == {size} ? 1 : -1];\n"
