@@ -16,7 +16,7 @@ use Rattle.numbers.proofs.SignLaws.{below-or}
 use Rattle.numbers.proofs.BoolLaws.{and-true}
 use Rattle.formats.specs.Value.{characteristic, fraction}
 use Rattle.formats.specs.Words.{firstDigit, isNormal}
-use Rattle.value.proofs.NormalWords.{normal-tests}
+use Rattle.formats.proofs.NormalLaws.{normal-tests}
 use Rattle.sample.specs.Reading.{notNormal}
 use Rattle.formats.specs.Codes.{sampleBytes}
 use Rattle.reel.specs.Causes.{mostSamples}
