@@ -85,3 +85,15 @@ width-high code = go (eqb code 3) (eqb code 8)
 -- the number of the word at a place
 pub word-there : (s : List ℕ) (code at : ℕ) → wordNumber code (bytesAt s at wordLength) ≡ number (bytesAt s at (sampleBytes code))
 word-there s code at = ap number (bytes-front s at wordLength (sampleBytes code) (width-high code))
+
+-- a code is from 1 to 8
+pub code-limits : (code : ℕ) → isCode code ≡ true → (1 ≤ code) × (code ≤ 8)
+code-limits code h = go code (code-is code h)
+  where
+    go : (code : ℕ) → Code code → (1 ≤ code) × (code ≤ 8)
+    go code ibm = (omega arith, omega arith)
+    go code whole32 = (omega arith, omega arith)
+    go code whole16 = (omega arith, omega arith)
+    go code gain = (omega arith, omega arith)
+    go code ieee = (omega arith, omega arith)
+    go code whole8 = (omega arith, omega arith)

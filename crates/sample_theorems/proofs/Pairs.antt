@@ -6,11 +6,11 @@ use mathlib.Core.Bool.{Bool, true, false, _&&_}
 use mathlib.Core.Logic.{⊎-elim}
 use mathlib.Core.List.{List, _++_}
 use Prim.Native.Nat.{ℕ, zero, suc, _+_, _-_, _*_, _%_, _^_, _≤_, _<_}
-use native.Mathlib.Nat.{mul-le-mul-right, one-mul, lt-of-le-of-lt, lt-of-lt-of-le, le-of-eq, zero-mul, zero-lt-suc, mul-assoc, not-le-of-lt}
+use native.Mathlib.Nat.{mul-le-mul-left, mul-le-mul-right, mul-one, one-mul, lt-of-le-of-lt, lt-of-lt-of-le, le-of-eq, zero-mul, zero-lt-suc, mul-assoc, not-le-of-lt}
 use native.Mathlib.Omega.{arith}
 use borrow.Author.Tests.{eqb-true, leb-true, le-leb}
 use lib.Dec.{leb, eqb}
-use lib.Pow.{pow-mono, pow-add, shl-lt}
+use lib.Pow.{pow-pos, pow-mono, pow-add, shl-lt}
 use lib.Count.{trailingZeros}
 use lib.IntN.{ℤ, pos, negsuc, negℤ, natAbs, subℕ, _+ℤ_, _*ℤ_, +ℤ-negℤ-cancel}
 use lib.Signed.{mag}
@@ -26,16 +26,16 @@ use Rattle.numbers.proofs.BoolLaws.{and-true}
 use Rattle.numbers.proofs.ByteLaws.{number-bytes, number-at, bytes-again}
 use Rattle.numbers.proofs.SignLaws.{below-or, sub-below, sub-above, abs-zero, signed-bits, bits-signed, bits-lt, mag-signed}
 use Rattle.formats.specs.Codes.{denominatorPower, isCode}
-use Rattle.formats.specs.Value.{signBit, characteristic, fraction, ibmValue, wholeValue, gainValue, exactValue}
+use Rattle.formats.specs.Value.{signBit, characteristic, fraction, ibmValue, wholeValue, gainValue, gainOf, gainNumber, ieeeSign, ieeeExponent, ieeeFraction, significand, ieeePower, isBad, wordNumber, exactValue}
 use Rattle.numbers.specs.SignMagnitude.{signMagnitude, isNegative}
 use Rattle.value.specs.Pair.{highestExponent, mantissaBits, pairOf, valueOf, isExponent, isCanonical, pairBytes, pairIn}
 use Rattle.value.specs.declared.Pair.{Pair}
 use Rattle.value.proofs.Twos.{odd-pos, split}
 use Rattle.numbers.proofs.Magnitudes.{abs-signed, signed-mul, signed-back, signed-word}
-use Rattle.value.proofs.Pairs.{pair-at, sixteens, value-pair}
+use Rattle.value.proofs.Pairs.{pair-at, value-pair}
 use Rattle.value.proofs.Apart.{highest, shifted, odd-yes}
-use Rattle.value.proofs.IbmLaws.{grow}
-use Rattle.sample.specs.Reading.{pairTaken, badGain, readWord}
+use Rattle.formats.proofs.CodeLaws.{Code, ibm, whole32, whole16, gain, ieee, whole8, code-is}
+use Rattle.sample.specs.Reading.{pairTaken, badNumber, readWord}
 use Rattle.sample.specs.declared.Sample.the-variants.{Taken, Refused}
 
 -- ## A canonical pair and its value determine each other
@@ -139,6 +139,9 @@ canon-of s o t e l h =
     rw (pair-at s o t e)
     (odd-yes (record { e = subℕ t denominatorPower; m = signMagnitude s o }) (rw (abs-signed s o) e) (rw (abs-signed s o) (omega arith)) (exponent-in t h))
 
+grow : (x n : ℕ) → x ≤ x * 2 ^ n
+grow x n = rw mul-one at (mul-le-mul-left x (pow-pos n))
+
 canon-times : (s : Bool) (a k : ℕ) → a ≤ 2 ^ (mantissaBits - 1) → a * 2 ^ k < 2 ^ suc highest → isCanonical (pairOf (signMagnitude s (a * 2 ^ k))) ≡ true
 canon-times s zero k l h = rw (zero-mul (2 ^ k)) (nil s)
   where
@@ -161,12 +164,6 @@ canon-times s (suc n) k l h =
     no : (o j : ℕ) → o % 2 ≡ 1 → suc highest ≤ j → o * 2 ^ j < 2 ^ suc highest → ⊥
     no o j e p h = not-le-of-lt (lt-of-le-of-lt (rw one-mul at (mul-le-mul-right (2 ^ j) (odd-pos o e))) h) (pow-mono p)
 
-canon-ibm : (n : ℕ) → isCanonical (pairOf (ibmValue n)) ≡ true
-canon-ibm n =
-    let f = fraction n in
-    let c = characteristic n in
-    rw (← (sixteens c)) (canon-times (signBit n) f (c * 4) (omega arith) (lt-of-lt-of-le (shl-lt 24 (c * 4) (omega arith)) (pow-mono {j = suc highest} (omega arith))))
-
 -- a two's complement number of w bits times a power of two of at most the denominator's
 canon-whole : (w n k : ℕ) → n < 2 ^ w → natAbs (signedOf w n) ≤ 2 ^ (mantissaBits - 1) → k ≤ denominatorPower → isCanonical (pairOf (signedOf w n *ℤ pos (2 ^ k))) ≡ true
 canon-whole w n k b l h =
@@ -181,44 +178,72 @@ abs-most w n h b = let m = mag-signed w n h b in above (signedOf w n) m
     above (pos k) l = omega arith
     above (negsuc k) l = omega arith
 
--- what holds of the value of each code holds of the value under any
-pub by-code : (P : ℤ → Type 0) (code : ℕ) (w : List ℕ) → P (ibmValue (number (bytesAt w 0 4))) → P (wholeValue (signedOf 32 (number (bytesAt w 0 4))))
-    → P (wholeValue (signedOf 16 (number (bytesAt w 0 2)))) → P (gainValue (getD w 1 0) (signedOf 16 (number (bytesAt w 2 2)))) → P (exactValue code w)
-by-code P code w a b c d = either (eqb code 1) a (either (eqb code 2) b (either (eqb code 3) c d))
-  where
-    either : (t : Bool) {x y : ℤ} → P x → P y → P (pick t x y)
-    either true p q = p
-    either false p q = q
+-- a magnitude of so many bits times a power of two that leaves room for them
+canon-below : (s : Bool) (a k p : ℕ) → a < 2 ^ p → p ≤ mantissaBits - 1 → p + k ≤ suc highest → isCanonical (pairOf (signMagnitude s (a * 2 ^ k))) ≡ true
+canon-below s a k p h l m = canon-times s a k (omega (arith, h, pow-mono l)) (lt-of-lt-of-le (shl-lt p k h) (pow-mono m))
 
 -- The pair of a word's value is canonical.
-pub value-canonical : (code : ℕ) (w : List ℕ) → Bytes w → isCanonical (pairOf (exactValue code w)) ≡ true
-value-canonical code w h =
-    let n = number (bytesAt w 0 4) in
-    let a = number (bytesAt w 0 2) in
-    let b = number (bytesAt w 2 2) in
-    let na = number-at w h 0 2 in
-    let nb = number-at w h 2 2 in
-    by-code (λ v. isCanonical (pairOf v) ≡ true) code w (canon-ibm n)
-    (canon-whole 32 n denominatorPower (number-at w h 0 4) (abs-most 32 n (omega arith) (number-at w h 0 4)) (omega arith))
-    (canon-whole 16 a denominatorPower na (omega (arith, abs-most 16 a (omega arith) na)) (omega arith))
-    (canon-whole 16 b (denominatorPower - getD w 1 0) nb (omega (arith, abs-most 16 b (omega arith) nb)) (omega arith))
+pub value-canonical : (code : ℕ) (w : List ℕ) → isCode code ≡ true → Bytes w → isCanonical (pairOf (exactValue code w)) ≡ true
+value-canonical code w i h = go code (code-is code i)
+  where
+    whole : (b k : ℕ) → k * 8 ≡ b → 0 < k → b ≤ mantissaBits → number (bytesAt w 0 k) < 2 ^ b → isCanonical (pairOf (wholeValue (signedOf b (number (bytesAt w 0 k))))) ≡ true
+    whole b k e p l m =
+        let n = number (bytesAt w 0 k) in
+        let most : 2 ^ (b - 1) ≤ 2 ^ (mantissaBits - 1) = pow-mono (let z : b - 1 ≤ mantissaBits - 1 = omega arith in z) in
+        canon-whole b n denominatorPower m (omega (arith, most, abs-most b n (omega (arith, e, p)) m)) (omega arith)
 
--- a word that is read was one of the four codes'
+    go : (code : ℕ) → Code code → isCanonical (pairOf (exactValue code w)) ≡ true
+    go code ibm =
+        let n = number (bytesAt w 0 4) in
+        let c : characteristic n < 128 = omega arith in
+        canon-below (signBit n) (fraction n) (denominatorPower - (4 * 64 + 24) + 4 * characteristic n) 24 (omega arith) (omega arith) (omega (arith, c))
+    go code whole32 = whole 32 4 refl (omega arith) (omega arith) (number-at w h 0 4)
+    go code whole16 = whole 16 2 refl (omega arith) (omega arith) (number-at w h 0 2)
+    go code gain =
+        let n = number (bytesAt w 0 4) in
+        let d = gainNumber n in
+        let l : d < 2 ^ 16 = omega arith in
+        canon-whole 16 d (denominatorPower - gainOf n) l (omega (arith, abs-most 16 d (omega arith) l)) (omega arith)
+    go code ieee =
+        let n = number (bytesAt w 0 4) in
+        let e : ieeeExponent 8 23 n < 256 = omega arith in
+        let t : ieeeFraction 23 n < 2 ^ 23 = omega arith in
+        canon-below (ieeeSign 8 23 n) (significand 8 23 n) (ieeePower 8 23 n) 24 (few (eqb (ieeeExponent 8 23 n) 0) (ieeeFraction 23 n) t) (omega arith) (low (eqb (ieeeExponent 8 23 n) 0) (ieeeExponent 8 23 n) e)
+      where
+        few : (b : Bool) (t : ℕ) → t < 2 ^ 23 → pick b t (2 ^ 23 + t) < 2 ^ 24
+        few true t h = omega arith
+        few false t h = omega arith
+
+        low : (b : Bool) (e : ℕ) → e < 256 → 24 + (denominatorPower + pick b 1 e - (127 + 23)) ≤ suc highest
+        low true e h = omega arith
+        low false e h = omega arith
+    go code whole8 = whole 8 1 refl (omega arith) (omega arith) (number-at w h 0 1)
+
+-- a word that is read was one of a code's
 pub taken-code : (code : ℕ) (w : List ℕ) (e m : ℤ) → readWord code w ≡ Taken e m → isCode code ≡ true
 taken-code code w e m h = go (isCode code) refl h
   where
-    go : (b : Bool) → isCode code ≡ b → pick b (pick (badGain code w) (Refused 9) (pairTaken (exactValue code w))) (Refused 2) ≡ Taken e m → isCode code ≡ true
+    go : (b : Bool) → isCode code ≡ b → pick b (pick (isBad code (wordNumber code w)) (Refused (badNumber code)) (pairTaken (exactValue code w))) (Refused 2) ≡ Taken e m → isCode code ≡ true
     go true x q = x
     go false x q = absurd (let z : _≡_ {A = ℕ} 0 1 = cc in omega arith)
 
+-- and had a value
+pub taken-good : (code : ℕ) (w : List ℕ) (e m : ℤ) → readWord code w ≡ Taken e m → isBad code (wordNumber code w) ≡ false
+taken-good code w e m h = go (isCode code) (isBad code (wordNumber code w)) refl h
+  where
+    go : (b t : Bool) → isBad code (wordNumber code w) ≡ t → pick b (pick t (Refused (badNumber code)) (pairTaken (exactValue code w))) (Refused 2) ≡ Taken e m → isBad code (wordNumber code w) ≡ false
+    go true true x q = absurd (let z : _≡_ {A = ℕ} 0 1 = cc in omega arith)
+    go true false x q = x
+    go false t x q = absurd (let z : _≡_ {A = ℕ} 0 1 = cc in omega arith)
+
 -- and gives the pair of its value
 taken-is : (code : ℕ) (w : List ℕ) (e m : ℤ) → readWord code w ≡ Taken e m → record { e = e; m = m } ≡ pairOf (exactValue code w)
-taken-is code w e m h = go (isCode code) (badGain code w) h
+taken-is code w e m h = go (isCode code) (isBad code (wordNumber code w)) h
   where
     v : ℤ
     v = exactValue code w
 
-    go : (b t : Bool) → pick b (pick t (Refused 9) (pairTaken v)) (Refused 2) ≡ Taken e m → record { e = e; m = m } ≡ pairOf v
+    go : (b t : Bool) → pick b (pick t (Refused (badNumber code)) (pairTaken v)) (Refused 2) ≡ Taken e m → record { e = e; m = m } ≡ pairOf v
     go true true q = absurd (let z : _≡_ {A = ℕ} 0 1 = cc in omega arith)
     go true false q =
         let x : pairOf v .e ≡ e = cc in
@@ -232,9 +257,9 @@ reading-value code w e m h = ap valueOf (taken-is code w e m h) ∙ pair-value (
 
 -- THEOREM. The pair that reading gives is canonical.
 pub reading-canonical : (code : ℕ) (w : List ℕ) (e m : ℤ) → Bytes w → readWord code w ≡ Taken e m → isCanonical (record { e = e; m = m }) ≡ true
-reading-canonical code w e m b h = ap isCanonical (taken-is code w e m h) ∙ value-canonical code w b
+reading-canonical code w e m b h = ap isCanonical (taken-is code w e m h) ∙ value-canonical code w (taken-code code w e m h) b
 
--- THEOREM. Document 01: "The four codes share one fact about pairs, shown for all of them." Two words, each under any code, give the same
+-- THEOREM. Document 01: "The four codes share one fact about pairs, shown for all of them", and so do the six. Two words, each under any code, give the same
 -- pair exactly when their values are equal.
 pub reading-same : (c₁ c₂ : ℕ) (w₁ w₂ : List ℕ) (e₁ m₁ e₂ m₂ : ℤ) → readWord c₁ w₁ ≡ Taken e₁ m₁ → readWord c₂ w₂ ≡ Taken e₂ m₂
     → Iff ((e₁ ≡ e₂) × (m₁ ≡ m₂)) (exactValue c₁ w₁ ≡ exactValue c₂ w₂)
@@ -248,7 +273,7 @@ reading-same c₁ c₂ w₁ w₂ e₁ m₁ e₂ m₂ h l = (there, back)
         let x = taken-is c₁ w₁ e₁ m₁ h ∙ ap pairOf q ∙ sym (taken-is c₂ w₂ e₂ m₂ l) in
         (ap (λ (p : Pair). p .e) x, ap (λ (p : Pair). p .m) x)
 
--- THEOREM. Reading refuses no word under codes 1 to 4 but a gain word whose first byte isn't 00.
-pub reading-takes : (code : ℕ) (w : List ℕ) → isCode code ≡ true → badGain code w ≡ false
+-- THEOREM. Reading refuses no word under a code but a gain word whose first byte isn't 00, and an infinity or a not-a-number.
+pub reading-takes : (code : ℕ) (w : List ℕ) → isCode code ≡ true → isBad code (wordNumber code w) ≡ false
     → readWord code w ≡ Taken (pairOf (exactValue code w) .e) (pairOf (exactValue code w) .m)
 reading-takes code w h l = rw (h, l)

@@ -6,7 +6,6 @@ use native.Mathlib.Omega.{arith}
 use lib.ListN.{length}
 use lib.IntN.{ℤ}
 use Rattle.numbers.specs.Terms.{Bytes}
-use Rattle.numbers.specs.BigEndian.{bytesOf}
 use Rattle.numbers.specs.Outcome.{taken, Outcome}
 use Rattle.formats.specs.Value.{exactValue}
 use Rattle.value.specs.Pair.{pairOf, pairIn}
@@ -16,28 +15,28 @@ use Rattle.formats.specs.declared.Written.{Written}
 use Rattle.formats.specs.declared.Written.the-variants.{Word, Refused}
 use Rattle.value.proofs.WrittenLaws.{written-is}
 use Rattle.sample.specs.Reading.{notNormal, readWord}
-use Rattle.sample.specs.Calls.{readSaid, wordOutcome, writeSaid, pairOutcome}
+use Rattle.sample.specs.Calls.{singleWord, readSaid, wordOutcome, writeSaid, pairOutcome}
 use Rattle.sample.specs.declared.Sample.{Sample}
 use Rattle.sample.specs.declared.Sample.the-variants as sample
 use Rattle.sample.specs.declared.Sample.the-variants.{Taken}
 use Rattle.sample_theorems.specs.Statements.{Back}
-use Rattle.sample_theorems.proofs.Pairs.{bytes-pair, pair-bytes, taken-code, value-pair-back, reading-value, reading-canonical, reading-takes}
+use Rattle.sample_theorems.proofs.Pairs.{bytes-pair, pair-bytes, taken-code, taken-good, value-pair-back, reading-value, reading-canonical, reading-takes}
 use Rattle.sample_theorems.proofs.Words.{writing-sound, writing-complete, writing-normal, writing-0}
 
 -- THEOREM. A pair that is written under a code, and the word read under that code, give the pair again.
-pub write-read : (code : ℕ) (p : Pair) (n : ℕ) → writePair code p ≡ Word n → readWord code (bytesOf 4 n) ≡ Taken (p .e) (p .m)
+pub write-read : (code : ℕ) (p : Pair) (n : ℕ) → writePair code p ≡ Word n → readWord code (singleWord code n) ≡ Taken (p .e) (p .m)
 write-read code p n h =
     let t = written-is code p n h in
     let s = writing-sound code p n h in
-    let same : pairOf (exactValue code (bytesOf 4 n)) ≡ p = ap pairOf (s .value) ∙ value-pair-back p (t .1) in
-    reading-takes code (bytesOf 4 n) (t .0) (s .good) ∙ ap (λ (q : Pair). Taken (q .e) (q .m)) same
+    let same : pairOf (exactValue code (singleWord code n)) ≡ p = ap pairOf (s .value) ∙ value-pair-back p (t .1) in
+    reading-takes code (singleWord code n) (t .0) (s .good) ∙ ap (λ (q : Pair). Taken (q .e) (q .m)) same
 
 -- THEOREM. A word that is read is never refused when its pair is written under the same code, and a word of the same value is written,
 -- under code 1 the normal one.
 pub read-write : (code : ℕ) (w : List ℕ) (e m : ℤ) → Bytes w → readWord code w ≡ Taken e m → (n : ℕ) × Back code w (record { e = e; m = m }) n
 read-write code w e m b t =
     let p : Pair = record { e = e; m = m } in
-    let x = writing-complete code p w (taken-code code w e m t) (reading-canonical code w e m b t) b (sym (reading-value code w e m t)) in (
+    let x = writing-complete code p w (taken-code code w e m t) (reading-canonical code w e m b t) b (taken-good code w e m t) (sym (reading-value code w e m t)) in (
       x .0,
       record {
         word = x .1;
@@ -49,7 +48,7 @@ read-write code w e m b t =
 -- ## The two calls, by the bytes that they hand out
 
 -- a word that was written, read again
-again : (code : ℕ) (p : Pair) (n : ℕ) → writePair code p ≡ Word n → wordOutcome code (bytesOf 4 n) ≡ readSaid 0 (Taken (p .e) (p .m))
+again : (code : ℕ) (p : Pair) (n : ℕ) → writePair code p ≡ Word n → wordOutcome code (singleWord code n) ≡ readSaid 0 (Taken (p .e) (p .m))
 again code p n h = ap₂ readSaid (writing-0 code p n h) (write-read code p n h)
 
 -- THEOREM. Six bytes that are written, and the word read under the same code, give the six bytes again, and 0: under
@@ -58,7 +57,7 @@ pub calls-write-read : (code : ℕ) (b : List ℕ) → length b ≡ 6 → Bytes 
     → wordOutcome code (pairOutcome code b .bytes) ≡ record { said = taken (0 ∷ []); bytes = b }
 calls-write-read code b k h t = go (writePair code (pairIn b)) refl t
   where
-    go : (r : Written) → writePair code (pairIn b) ≡ r → writeSaid r .said ≡ taken [] → wordOutcome code (writeSaid r .bytes) ≡ record { said = taken (0 ∷ []); bytes = b }
+    go : (r : Written) → writePair code (pairIn b) ≡ r → writeSaid code r .said ≡ taken [] → wordOutcome code (writeSaid code r .bytes) ≡ record { said = taken (0 ∷ []); bytes = b }
     go (Word n) e q = again code (pairIn b) n e ∙ ap (λ (l : List ℕ). outcome l) (pair-bytes b k h)
       where
         outcome : List ℕ → Outcome
@@ -81,7 +80,7 @@ calls-read-write code w c h t = go (readWord code w) refl t
     go (sample.Taken e m) x q =
         let p : Pair = record { e = e; m = m } in
         let y = read-write code w e m h x in
-        let word : pairOutcome code (readSaid k (Taken e m) .bytes) ≡ writeSaid (Word (y .0)) =
-        ap (λ (b : Pair). writeSaid (writePair code b)) (bytes-pair p (reading-canonical code w e m h x)) ∙ ap writeSaid (y .1 .word) in
+        let word : pairOutcome code (readSaid k (Taken e m) .bytes) ≡ writeSaid code (Word (y .0)) =
+        ap (λ (b : Pair). writeSaid code (writePair code b)) (bytes-pair p (reading-canonical code w e m h x)) ∙ ap (writeSaid code) (y .1 .word) in
         (ap (λ (o : Outcome). o .said) word, ap (λ (o : Outcome). wordOutcome code (o .bytes)) word ∙ again code p (y .0) (y .1 .word))
     go (sample.Refused n) x q = absurd (let z : _≡_ {A = ℕ} 0 1 = cc in omega arith)

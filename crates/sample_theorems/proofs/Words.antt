@@ -1,111 +1,107 @@
 -- # What writing gives
 --
--- A pair that is written becomes a word of 32 bits, whose four bytes are `bytesOf 4 n`.
+-- A pair that is written becomes a word, the number of as many bytes as a sample of the code has; `singleWord` has its four bytes.
 use mathlib.Core.Path.{_≡_, refl, sym, ap, _∙_, subst}
 use mathlib.Core.Logic.{_⊎_, inl, inr, ⊎-elim}
 use mathlib.Core.Bool.{Bool, true, false, not, _&&_}
 use mathlib.Core.List.{List, [], _∷_, _++_}
 use Prim.Native.Nat.{ℕ, _*_, _^_, _≤_, _<_}
-use native.Mathlib.Nat.{mul-one}
 use native.Mathlib.Omega.{arith}
-use borrow.Author.Tests.{eqb-true, ne-eqb}
-use lib.Dec.{T, eqb}
-use lib.Pow.{pow-pos}
+use borrow.Author.Tests.{eqb-true, eqb-false, ne-eqb, lt-ltb, ltb-true, not-true}
+use lib.Dec.{T, eqb, ltb}
 use lib.IntN.{ℤ, pos}
 use lib.ListN.{getD}
 use Rattle.numbers.specs.Terms.{Bytes}
 use Rattle.numbers.specs.Iff.{Iff}
 use Rattle.numbers.specs.Walk.{pick, bytesAt}
 use Rattle.numbers.specs.BigEndian.{number, bytesOf}
-use Rattle.numbers.specs.TwosComplement.{signedOf, bitsOf}
-use Rattle.numbers.proofs.ByteLaws.{byte-at, number-at}
+use Rattle.numbers.specs.TwosComplement.{signedOf}
+use Rattle.numbers.proofs.BoolLaws.{and-true, and-both}
+use Rattle.numbers.proofs.ByteLaws.{number-at, number-bytes}
 use Rattle.numbers.proofs.SignLaws.{below-or}
-use Rattle.formats.specs.Codes.{denominatorPower, isCode}
-use Rattle.formats.specs.Value.{characteristic, ibmValue, wholeValue, gainValue, exactValue}
+use Rattle.formats.specs.Format.{inFormat}
+use Rattle.formats.specs.Codes.{isCode, sampleBytes, formatOf}
+use Rattle.formats.specs.Value.{characteristic, ibmValue, wholeValue, gainValue, gainOf, isFinite, ieeeValue, valueIn, isBad, isWord, wordNumber, exactValue}
+use Rattle.formats.specs.Words.{ibmWord, wordOf, firstDigit, isNormal, Writes}
+use Rattle.formats.specs.declared.Written.the-variants.{Word}
+use Rattle.formats.proofs.CodeLaws.{Code, ibm, whole32, whole16, gain, ieee, whole8, code-is}
+use Rattle.format_theorems.specs.Statements.{HasWord}
+use Rattle.format_theorems.proofs.OneFit.{one-fit}
+use Rattle.format_theorems.proofs.NormalWords.{normal-means, normal-again, normal-written, normal-same}
+use Rattle.format_theorems.proofs.IeeeWords.{ieee-only, ieee-minus-zero}
+use Rattle.format_theorems.proofs.WordTheorems.{whole-only, gain-least, word-sound, word-fits, worded-writes}
 use Rattle.value.specs.Pair.{valueOf, isCanonical}
-use Rattle.numbers.specs.SignMagnitude.{numberOf}
-use Rattle.formats.specs.Words.{ibmWord, wholeWord, gainFits, gainWord, wordOf, firstDigit, isNormal, Writes}
 use Rattle.value.specs.Writing.{writePair}
 use Rattle.value.specs.declared.Pair.{Pair}
-use Rattle.formats.specs.declared.Written.the-variants.{Word}
-use Rattle.sample.specs.Reading.{notNormal}
+use Rattle.value.proofs.WrittenLaws.{written-is}
+use Rattle.sample.specs.Reading.{notNormal, readWord}
+use Rattle.sample.specs.Calls.{singleWord}
+use Rattle.sample.specs.declared.Sample.the-variants.{Taken}
 use Rattle.sample_theorems.specs.Statements.{Says}
-use Rattle.value.proofs.Codes.{code-is}
-use Rattle.numbers.proofs.Multiples.{held-sound, held-lt, held-only}
-use Rattle.value.proofs.NormalWords.{normal-means, normal-again, normal-written, normal-same, ibm-complete}
-use Rattle.value.proofs.WrittenLaws.{written-is, whole-is, whole-complete, gain-is, gain-held, gain-complete}
-use Rattle.value.proofs.WordBytes.{word-number, half-bytes, first-half, gain-first, gain-byte, gain-half}
+use Rattle.sample_theorems.proofs.Pairs.{taken-code, taken-good, reading-value}
+
+-- ## Words and their bytes
+
+-- the number of the word in the four bytes of a single word
+single-number : (code n : ℕ) → isCode code ≡ true → n < 256 ^ sampleBytes code → wordNumber code (singleWord code n) ≡ n
+unfolding bytesAt
+single-number code n i = go code (code-is code i)
+  where
+    go : (code : ℕ) → Code code → n < 256 ^ sampleBytes code → wordNumber code (singleWord code n) ≡ n
+    go code ibm h = number-bytes 4 n h
+    go code whole32 h = number-bytes 4 n h
+    go code whole16 h = number-bytes 2 n h
+    go code gain h = number-bytes 4 n h
+    go code ieee h = number-bytes 4 n h
+    go code whole8 h = number-bytes 1 n h
+
+-- a word of the code, of the bytes that a sample has, with a value
+word-parts : (code n : ℕ) → isWord code n ≡ true → (n < 256 ^ sampleBytes code) × (isBad code n ≡ false)
+word-parts code n h = let t = and-true (ltb n (256 ^ sampleBytes code)) _ h in (ltb-true n (256 ^ sampleBytes code) (t .0), not-true (isBad code n) (t .1))
+
+list-word : (code : ℕ) (w : List ℕ) → Bytes w → isBad code (wordNumber code w) ≡ false → isWord code (wordNumber code w) ≡ true
+list-word code w b g = and-both _ _ (lt-ltb (wordNumber code w) (256 ^ sampleBytes code) (number-at w b 0 (sampleBytes code))) (ap not g)
 
 -- ## Sound
 
-says-1 : (v : ℤ) (n : ℕ) → ibmWord v ≡ Word n → Says 1 v n
-says-1 v n e =
-    let t = normal-written v n e in
-    record { fit = t .fit; good = refl; value = ap ibmValue (word-number n (t .fit)) ∙ t .value }
-
-says-2 : (v : ℤ) (n : ℕ) → wholeWord 32 1 v ≡ Word n → Says 2 v n
-says-2 v n e =
-    let h = whole-is 32 1 v n e in
-    let q = bitsOf 32 (numberOf (2 ^ denominatorPower) v) in
-    let is : n ≡ q = h .1 ∙ mul-one q in
-    let fits : n < 2 ^ 32 = rw is (held-lt 32 (2 ^ denominatorPower) v (omega arith) (h .0)) in
-    record {
-      fit = fits;
-      good = refl;
-      value = ap (λ (x : ℕ). wholeValue (signedOf 32 x)) (word-number n fits ∙ is) ∙ held-sound 32 (2 ^ denominatorPower) v (omega arith) (h .0);
-    }
-
-says-3 : (v : ℤ) (n : ℕ) → wholeWord 16 (2 ^ 16) v ≡ Word n → Says 3 v n
-says-3 v n e =
-    let h = whole-is 16 (2 ^ 16) v n e in
-    let q = bitsOf 16 (numberOf (2 ^ denominatorPower) v) in
-    let l = held-lt 16 (2 ^ denominatorPower) v (omega arith) (h .0) in
-    record {
-      fit = omega (arith, h .1);
-      good = refl;
-      value =
-          ap (λ (x : ℕ). wholeValue (signedOf 16 x)) (ap (λ (x : ℕ). number (bytesAt (bytesOf 4 x) 0 2)) (h .1) ∙ first-half q l)
-          ∙ held-sound 16 (2 ^ denominatorPower) v (omega arith) (h .0);
-    }
-
-says-4 : (v : ℤ) (n : ℕ) → gainWord v ≡ Word n → Says 4 v n
-unfolding bytesAt
-says-4 v n e =
-    let x = gain-is v n e in
-    let g = x .0 in
-    let d = x .1 in
-    let t = x .2 in
-    record {
-      fit = omega (arith, t .is, t .gain, t .bits);
-      good = rw (t .is, gain-first g d (t .gain) (t .bits));
-      value = rw (t .is, gain-byte g d (t .gain) (t .bits), gain-half g d (t .gain) (t .bits)) (t .value);
-    }
-
 -- THEOREM. The word that is written has the pair's value under the code, and is one that reading takes.
 pub writing-sound : (code : ℕ) (p : Pair) (n : ℕ) → writePair code p ≡ Word n → Says code (valueOf p) n
-writing-sound code p n h = let t = written-is code p n h in go code (code-is code (t .0)) (t .2)
-  where
-    v : ℤ
-    v = valueOf p
-
-    go : (code : ℕ) → (code ≡ 1) ⊎ ((code ≡ 2) ⊎ ((code ≡ 3) ⊎ (code ≡ 4))) → wordOf code v ≡ Word n → Says code v n
-    go code (inl q) e = rw q (says-1 v n (rw q at e))
-    go code (inr (inl q)) e = rw q (says-2 v n (rw q at e))
-    go code (inr (inr (inl q))) e = rw q (says-3 v n (rw q at e))
-    go code (inr (inr (inr q))) e = rw q (says-4 v n (rw q at e))
+writing-sound code p n h =
+    let t = written-is code p n h in
+    let s = word-sound code (valueOf p) n (t .0) (t .2) in
+    let q = word-parts code n (s .0) in
+    let e = single-number code n (t .0) (q .0) in
+    record { fit = q .0; good = ap (isBad code) e ∙ q .1; value = ap (valueIn code) e ∙ s .1 }
 
 -- ## Complete
 
 -- THEOREM. Where any word of the code has the pair's value, a word is written: 14 means that no word has it.
-pub writing-complete : (code : ℕ) (p : Pair) (w : List ℕ) → isCode code ≡ true → isCanonical p ≡ true → Bytes w → exactValue code w ≡ valueOf p → Writes (writePair code p)
-writing-complete code p w h c b e =
-    rw (h, c) (subst (λ (v : ℤ). Writes (wordOf code v)) e (go code (code-is code h)))
-  where
-    go : (code : ℕ) → (code ≡ 1) ⊎ ((code ≡ 2) ⊎ ((code ≡ 3) ⊎ (code ≡ 4))) → Writes (wordOf code (exactValue code w))
-    go code (inl q) = rw q (ibm-complete (number (bytesAt w 0 4)))
-    go code (inr (inl q)) = rw q (whole-complete 32 1 (number (bytesAt w 0 4)) (omega arith) (number-at w b 0 4))
-    go code (inr (inr (inl q))) = rw q (whole-complete 16 (2 ^ 16) (number (bytesAt w 0 2)) (omega arith) (number-at w b 0 2))
-    go code (inr (inr (inr q))) = rw q (gain-complete (getD w 1 0) (number (bytesAt w 2 2)) (byte-at w b 1) (number-at w b 2 2))
+pub writing-complete : (code : ℕ) (p : Pair) (w : List ℕ) → isCode code ≡ true → isCanonical p ≡ true → Bytes w → isBad code (wordNumber code w) ≡ false
+    → exactValue code w ≡ valueOf p → Writes (writePair code p)
+writing-complete code p w h c b g e =
+    rw (h, c) (subst (λ (v : ℤ). Writes (wordOf code v)) e (worded-writes code (wordNumber code w) h (list-word code w b g)))
+
+-- ## One statement of fit
+
+-- THEOREM. "All six codes share one statement of value and of fit" (document 02, CR 4): a canonical pair is written under a code exactly when
+-- its value is one of the code's format,
+pub writing-fits : (code : ℕ) (p : Pair) → isCode code ≡ true → isCanonical p ≡ true → Iff (Writes (writePair code p)) (inFormat (formatOf code) (valueOf p) ≡ true)
+writing-fits code p h c =
+    let f = word-fits code (valueOf p) h in
+    (λ w. f .1 (w .0, written-is code p (w .0) (w .1) .2), λ e. rw (h, c) (f .0 e))
+
+-- THEOREM. exactly when some word of the code has it;
+pub writing-worded : (code : ℕ) (p : Pair) → isCode code ≡ true → isCanonical p ≡ true → Iff (Writes (writePair code p)) (HasWord code (valueOf p))
+writing-worded code p h c =
+    let f = writing-fits code p h c in
+    let o = one-fit code (valueOf p) h in
+    (λ w. o .0 (f .0 w), λ t. f .1 (o .1 t))
+
+-- THEOREM. and the pair of a word that is read fits the word's code.
+pub reading-fits : (code : ℕ) (w : List ℕ) (e m : ℤ) → Bytes w → readWord code w ≡ Taken e m → inFormat (formatOf code) (valueOf (record { e = e; m = m })) ≡ true
+reading-fits code w e m b h =
+    one-fit code (valueOf (record { e = e; m = m })) (taken-code code w e m h) .1
+    (record { word = wordNumber code w; good = list-word code w b (taken-good code w e m h); value = sym (reading-value code w e m h) })
 
 -- ## The word that document 01 names
 
@@ -134,8 +130,8 @@ writing-only p n k h b t e =
 -- ## How many words are not normal (document 02, CR 3)
 
 -- a word is the number of its four bytes
-word-fits : (w : List ℕ) → Bytes w → number (bytesAt w 0 4) < 2 ^ 32
-word-fits w b = number-at w b 0 4
+number-fits : (w : List ℕ) → Bytes w → number (bytesAt w 0 4) < 2 ^ 32
+number-fits w b = number-at w b 0 4
 
 -- What reading a word gives is `notNormal`, which `word-taken` of `demands` says of the call.
 
@@ -147,7 +143,7 @@ normal-0 w b = (λ e. there (isNormal n) refl e, λ e. rw (normal-word n h .1 e)
     n = number (bytesAt w 0 4)
 
     h : n < 2 ^ 32
-    h = word-fits w b
+    h = number-fits w b
 
     there : (t : Bool) → isNormal n ≡ t → _≡_ {A = ℕ} (pick (not t) 1 0) 0 → ibmWord (ibmValue n) ≡ Word n
     there true q e = normal-word n h .0 q
@@ -164,7 +160,7 @@ other-1 w b = (λ e f. differ (sym e ∙ normal-0 w b .1 f), λ f. there (isNorm
     differ z = omega (arith, z)
 
     there : (t : Bool) → isNormal n ≡ t → (ibmWord (ibmValue n) ≡ Word n → ⊥) → _≡_ {A = ℕ} (pick (not (isNormal n)) 1 0) 1
-    there true q f = absurd (f (normal-word n (word-fits w b) .0 q))
+    there true q f = absurd (f (normal-word n (number-fits w b) .0 q))
     there false q f = rw q
 
 -- THEOREM. Under the other codes it gives 0.
@@ -172,39 +168,51 @@ pub other-codes : (code : ℕ) (w : List ℕ) → (code ≡ 1 → ⊥) → notNo
 other-codes code w h = rw (ne-eqb code 1 h)
 
 -- THEOREM. For a word that is written it gives 0, under every code.
-pub writing-0 : (code : ℕ) (p : Pair) (n : ℕ) → writePair code p ≡ Word n → notNormal code (bytesOf 4 n) ≡ 0
+pub writing-0 : (code : ℕ) (p : Pair) (n : ℕ) → writePair code p ≡ Word n → notNormal code (singleWord code n) ≡ 0
 writing-0 code p n h = go (eqb code 1) refl
   where
-    go : (t : Bool) → eqb code 1 ≡ t → _≡_ {A = ℕ} (pick (t && not (isNormal (number (bytesAt (bytesOf 4 n) 0 4)))) 1 0) 0
+    go : (t : Bool) → eqb code 1 ≡ t → _≡_ {A = ℕ} (pick (t && not (isNormal (wordNumber 1 (singleWord code n)))) 1 0) 0
     go true q =
         let one = eqb-true code 1 q in
-        rw (word-number n (writing-sound code p n h .fit), writing-normal p n (ap (λ (c : ℕ). writePair c p) (sym one) ∙ h))
+        let w = ap (λ (c : ℕ). writePair c p) (sym one) ∙ h in
+        rw (one, single-number 1 n refl (writing-sound 1 p n w .fit), writing-normal p n w)
     go false q = refl
 
 -- ## The words of the other codes
 
 -- THEOREM. Code 4: no gain below that of the word that is written has a number of 16 bits with the value.
-pub writing-least : (p : Pair) (n g d : ℕ) → writePair 4 p ≡ Word n → d < 2 ^ 16 → gainValue g (signedOf 16 d) ≡ valueOf p → getD (bytesOf 4 n) 1 0 ≤ g
+pub writing-least : (p : Pair) (n g d : ℕ) → writePair 4 p ≡ Word n → d < 2 ^ 16 → gainValue g (signedOf 16 d) ≡ valueOf p → getD (singleWord 4 n) 1 0 ≤ g
 writing-least p n g d h b e =
-    let v = valueOf p in
-    let x = gain-is v n (written-is 4 p n h .2) in
-    let t = x .2 in
-    let serves : gainFits v g ≡ true = rw (← e) (gain-held g d b) in
-    let is : getD (bytesOf 4 n) 1 0 ≡ x .0 = ap (λ (k : ℕ). getD (bytesOf 4 k) 1 0) (t .is) ∙ gain-byte (x .0) (x .1) (t .gain) (t .bits) in
-    rw is (⊎-elim (λ (l : g < x .0). absurd (subst T (sym serves ∙ t .least g l) tt)) (λ (l : x .0 ≤ g). l) (below-or g (x .0)))
+    ⊎-elim (λ (l : g < 256). gain-least (valueOf p) n (written-is 4 p n h .2) g d l b e) (λ (l : 256 ≤ g). let k : gainOf n < 256 = omega arith in omega (arith, k)) (below-or g 256)
 
--- THEOREM. Code 2: no other number of 32 bits has the value of the word that is written: it is the number itself.
+-- THEOREM. Codes 2, 3 and 8: no other number of 32, 16 or 8 bits has the value of the word that is written: it is the number itself,
 pub writing-32 : (p : Pair) (n k : ℕ) → writePair 2 p ≡ Word n → k < 2 ^ 32 → wholeValue (signedOf 32 k) ≡ valueOf p → k ≡ n
-writing-32 p n k h b e =
-    let s = writing-sound 2 p n h in
-    held-only 32 (2 ^ denominatorPower) k n (omega arith) (pow-pos denominatorPower) b (s .fit) (e ∙ sym (s .value) ∙ ap (λ (x : ℕ). wholeValue (signedOf 32 x)) (word-number n (s .fit)))
+writing-32 p n k h b e = whole-only 32 (valueOf p) n k (omega arith) (written-is 2 p n h .2) b e
 
--- THEOREM. Code 3: a number of 16 bits that has the value is the first two bytes of the word that is written, and the last two are 00; so
--- no other number has it.
-pub writing-16 : (p : Pair) (n k : ℕ) → writePair 3 p ≡ Word n → k < 2 ^ 16 → wholeValue (signedOf 16 k) ≡ valueOf p → bytesOf 4 n ≡ bytesOf 2 k ++ (0 ∷ 0 ∷ [])
-writing-16 p n k h b e =
-    let t = whole-is 16 (2 ^ 16) (valueOf p) n (written-is 3 p n h .2) in
-    let q = bitsOf 16 (numberOf (2 ^ denominatorPower) (valueOf p)) in
-    let l = held-lt 16 (2 ^ denominatorPower) (valueOf p) (omega arith) (t .0) in
-    let same : q ≡ k = held-only 16 (2 ^ denominatorPower) q k (omega arith) (pow-pos denominatorPower) l b (held-sound 16 (2 ^ denominatorPower) (valueOf p) (omega arith) (t .0) ∙ sym e) in
-    ap (bytesOf 4) (t .1 ∙ ap (λ (x : ℕ). x * 2 ^ 16) same) ∙ half-bytes k b
+pub writing-16 : (p : Pair) (n k : ℕ) → writePair 3 p ≡ Word n → k < 2 ^ 16 → wholeValue (signedOf 16 k) ≡ valueOf p → k ≡ n
+writing-16 p n k h b e = whole-only 16 (valueOf p) n k (omega arith) (written-is 3 p n h .2) b e
+
+pub writing-8 : (p : Pair) (n k : ℕ) → writePair 8 p ≡ Word n → k < 2 ^ 8 → wholeValue (signedOf 8 k) ≡ valueOf p → k ≡ n
+writing-8 p n k h b e = whole-only 8 (valueOf p) n k (omega arith) (written-is 8 p n h .2) b e
+
+-- THEOREM. and of code 3's word it is the first two bytes, of code 8's the first, the rest 00.
+pub first-bytes : (n : ℕ) → (singleWord 3 n ≡ bytesOf 2 n ++ (0 ∷ 0 ∷ [])) × (singleWord 8 n ≡ bytesOf 1 n ++ (0 ∷ 0 ∷ 0 ∷ []))
+first-bytes n = (refl, refl)
+
+-- THEOREM. Code 5: any word of the pair's value is the word that is written, but for 80000000, for which 00000000 is written.
+pub writing-ieee : (p : Pair) (n k : ℕ) → writePair 5 p ≡ Word n → k < 2 ^ 32 → isFinite 8 23 k ≡ true → ieeeValue 8 23 k ≡ valueOf p → (k ≡ n) ⊎ ((k ≡ 0x8000_0000) × (n ≡ 0))
+writing-ieee p n k h b f e = go (eqb k 0x8000_0000) refl
+  where
+    w : wordOf 5 (ieeeValue 8 23 k) ≡ Word n
+    w = ap (wordOf 5) e ∙ written-is 5 p n h .2
+
+    go : (t : Bool) → eqb k 0x8000_0000 ≡ t → (k ≡ n) ⊎ ((k ≡ 0x8000_0000) × (n ≡ 0))
+    go true q =
+        let z = eqb-true k 0x8000_0000 q in
+        let m : Word 0 ≡ Word n = sym ieee-minus-zero ∙ ap (λ (x : ℕ). wordOf 5 (ieeeValue 8 23 x)) (sym z) ∙ w in
+        let i : n ≡ 0 = cc in
+        inr (z, i)
+    go false q =
+        let m : Word k ≡ Word n = sym (ieee-only k b f (eqb-false k 0x8000_0000 q)) ∙ w in
+        let i : k ≡ n = cc in
+        inl i
