@@ -1,11 +1,11 @@
 -- The samples of a trace as the code writes them: how long they are, and what a word gives under each code. Assumes nothing.
 use mathlib.Core.Path.{_≡_, refl, sym, ap, _∙_}
-use mathlib.Core.Bool.{Bool, true, false, not}
+use mathlib.Core.Bool.{Bool, true, false}
 use mathlib.Core.List.{List, [], _∷_, _++_}
-use Prim.Native.Nat.{ℕ, _+_, _-_, _*_, _/_, _%_, _^_, _≤_, _<_}
+use Prim.Native.Nat.{ℕ, zero, suc, _+_, _-_, _*_, _/_, _%_, _^_, _≤_, _<_}
 use native.Mathlib.Nat.{zero-mul}
 use native.Mathlib.Omega.{arith}
-use borrow.Author.Tests.{leb-true, eqb-true, le-leb, eq-eqb, lt-ltb, le-ltb}
+use borrow.Author.Tests.{leb-true, eqb-true, le-leb, eq-eqb, ne-eqb, lt-ltb, le-ltb}
 use borrow.Rule.Slice.PartMut.{putMid}
 use lib.Dec.{leb, eqb}
 use lib.IntN.{ℤ, pos}
@@ -17,12 +17,13 @@ use Rattle.numbers.proofs.WalkLaws.{flat-length, flat-none, four-bytes}
 use Rattle.numbers.proofs.BoolLaws.{and-true}
 use Rattle.numbers.proofs.Filling.{in-turn}
 use Rattle.formats.specs.Codes.{denominatorPower, isCode, sampleBytes}
-use Rattle.formats.specs.Value.{ibmValue, wholeValue, gainValue}
+use Rattle.formats.specs.Value.{wholeValue, gainValue, ieeeValue, isBad}
+use Rattle.formats.proofs.CodeLaws.{Code, ibm, whole32, whole16, gain, ieee, whole8, code-is}
 use Rattle.sample.specs.Reading.{pairTaken, readWord}
 use Rattle.sample.specs.declared.Sample.{Sample}
 use Rattle.sample.specs.declared.Sample.the-variants.{Taken, Refused}
 use Rattle.read_samples.specs.Samples.{sampleContent, sampleCopied, samplePairs, samplesFit, samplesRead}
-use Rattle.read_samples.specs.Parts.{exponentContent, mantissaContent, gainOrZero, reversed, wordHeld, WordAt}
+use Rattle.read_samples.specs.Parts.{exponentContent, mantissaContent, wordContent, gainOrZero, reversed, wordHeld, shortNumber}
 
 pub size-content : (q : Sample) → length (sampleContent q) ≡ 6
 size-content (Taken e m) = refl
@@ -58,52 +59,114 @@ gain-either first g d = go (eqb first 0)
     go true = refl
     go false = rw (zero-mul (2 ^ (denominatorPower - g)))
 
-module _ (s : List ℕ) (at : ℕ) where
-  -- what the code reads under each code
-  pub ibm-copied : pairTaken (ibmValue (number (bytesAt s at 4))) ≡ readWord 1 (bytesAt s at 4)
-  unfolding bytesAt
-  ibm-copied = ap (λ (l : List ℕ). pairTaken (ibmValue (number l))) (four-bytes s at) ∙ sym (ap (readWord 1) (four-bytes s at))
+-- a gain word by its first byte, its gain and its last 16 bits
+gain-content : (first g h l : ℕ) → g < 256 → h < 256 → l < 256
+    → sampleContent (gainOrZero first g (number (first ∷ g ∷ h ∷ l ∷ []) % 2 ^ 16)) ≡ wordContent 4 (number (first ∷ g ∷ h ∷ l ∷ []))
+gain-content zero g h l a b c =
+    let n = number (0 ∷ g ∷ h ∷ l ∷ []) in
+    let is : n / 2 ^ 16 % 256 ≡ g = omega arith in
+    rw (lt-ltb n (2 ^ 24) (omega arith), is)
+gain-content (suc k) g h l a b c =
+    let some : suc k ≡ 0 → ⊥ = λ e. omega arith in
+    rw (ne-eqb (suc k) 0 some, le-ltb (number (suc k ∷ g ∷ h ∷ l ∷ [])) (2 ^ 24) (omega arith))
 
-  pub whole32-copied : pairTaken (wholeValue (signedOf 32 (number (bytesAt s at 4)))) ≡ readWord 2 (bytesAt s at 4)
-  unfolding bytesAt
-  whole32-copied = ap (λ (l : List ℕ). pairTaken (wholeValue (signedOf 32 (number l)))) (four-bytes s at) ∙ sym (ap (readWord 2) (four-bytes s at))
+-- the same of four bytes in a slice, by their number
+pub gain-held : (s : List ℕ) (at w d : ℕ) → ((i : ℕ) → getD s i 0 < 256) → w ≡ number (bytesAt s at 4) → d ≡ w % 2 ^ 16
+    → sampleContent (gainOrZero (getD s at 0) (getD s (at + 1) 0) d) ≡ wordContent 4 w
+gain-held s at w d known e q =
+    rw (q, e ∙ ap number (four-bytes s at)) (gain-content (getD s at 0) (getD s (at + 1) 0) (getD s (at + 2) 0) (getD s (at + 3) 0) (known (at + 1)) (known (at + 2)) (known (at + 3)))
 
-  pub whole16-copied : pairTaken (wholeValue (signedOf 16 (number (bytesAt s at 2)))) ≡ readWord 3 (bytesAt s at 4)
-  unfolding bytesAt
-  whole16-copied = refl
+-- an IEEE word, or 0 in its place: the sample is then zero
+pub ieee-either : (w : ℕ) → sampleContent (pairTaken (ieeeValue 8 23 (pick (isBad 5 w) 0 w))) ≡ wordContent 5 w
+ieee-either w = go (isBad 5 w)
+  where
+    go : (b : Bool) → sampleContent (pairTaken (ieeeValue 8 23 (pick b 0 w))) ≡ sampleContent (pick b (Refused 19) (pairTaken (ieeeValue 8 23 w)))
+    go true = refl
+    go false = refl
 
-  pub gain-copied : (d : ℕ) → d ≡ number (bytesAt s (at + 2) 2) → sampleContent (gainOrZero (getD s at 0) (getD s (at + 1) 0) d) ≡ sampleCopied s 4 at
-  unfolding bytesAt
-  gain-copied d e = ap (λ (n : ℕ). sampleContent (gainOrZero (getD s at 0) (getD s (at + 1) 0) n)) (e ∙ there) ∙ go (eqb (getD s at 0) 0)
-    where
-      there : number (bytesAt s (at + 2) 2) ≡ number (getD s (at + 1 + 1) 0 ∷ getD s (at + 1 + 1 + 1) 0 ∷ [])
-      there =
-          let b : at + 1 + 1 + 1 ≡ at + 2 + 1 = omega arith in
-          let a : at + 1 + 1 ≡ at + 2 = omega arith in
-          rw (b, a)
+-- ## Codes
 
-      v : ℤ
-      v = gainValue (getD s (at + 1) 0) (signedOf 16 (number (getD s (at + 1 + 1) 0 ∷ getD s (at + 1 + 1 + 1) 0 ∷ [])))
-
-      go : (b : Bool) → sampleContent (pick b (pairTaken v) (Taken (pos 0) (pos 0))) ≡ sampleContent (pick (not b) (Refused 9) (pairTaken v))
-      go true = refl
-      go false = refl
-
-two-bytes : (s : List ℕ) (at : ℕ) → number (bytesAt s (at + 2) 2) ≡ getD s (at + 2) 0 * 256 + getD s (at + 3) 0
+-- what the code writes of a word is the sample in its place
+pub word-copied : (s : List ℕ) (code at n : ℕ) → isCode code ≡ true → n ≡ number (bytesAt s at (sampleBytes code)) → wordContent code n ≡ sampleCopied s code at
 unfolding bytesAt
-two-bytes s at = let b : at + 2 + 1 ≡ at + 3 = omega arith in rw b (omega arith)
+word-copied s code at n h e = ap (wordContent code) e ∙ go code (code-is code h)
+  where
+    go : (code : ℕ) → Code code → wordContent code (number (bytesAt s at (sampleBytes code))) ≡ sampleCopied s code at
+    go code ibm = refl
+    go code whole32 = refl
+    go code whole16 = refl
+    go code gain = refl
+    go code ieee = refl
+    go code whole8 = refl
 
--- the number in four bytes, the last two of which are below 256
-pub word-at : (s : List ℕ) (at w : ℕ) → w ≡ number (bytesAt s at 4) → getD s (at + 2) 0 < 256 → getD s (at + 3) 0 < 256 → WordAt s at w
-word-at s at w e h i = record { whole = e; low = omega (arith, e ∙ ap number (four-bytes s at), two-bytes s at) }
+-- the same of a word of four bytes, under a code that was told
+pub four-copied : (s : List ℕ) (code at k n : ℕ) → isCode code ≡ true → sampleBytes code ≡ 4 → k ≡ code → n ≡ number (bytesAt s at 4) → wordContent k n ≡ sampleCopied s code at
+four-copied s code at k n h v is e = ap (λ (k : ℕ). wordContent k n) is ∙ word-copied s code at n h (e ∙ ap (λ (x : ℕ). number (bytesAt s at x)) (sym v))
 
-module _ (s : List ℕ) (at w : ℕ) (h : WordAt s at w) where
-  -- what the code writes under each code
-  pub ibm-content : sampleContent (pairTaken (ibmValue w)) ≡ sampleCopied s 1 at
-  ibm-content = ap (λ (w : ℕ). sampleContent (pairTaken (ibmValue w))) (h .whole) ∙ ap sampleContent (ibm-copied s at)
+-- the codes of four bytes: 1, 2, 4 and 5
+pub code-of-four : (code : ℕ) → isCode code ≡ true → sampleBytes code ≡ 4 → (1 ≤ code) × (code ≤ 5) × (code ≡ 3 → ⊥)
+code-of-four code h = go code (code-is code h)
+  where
+    go : (code : ℕ) → Code code → sampleBytes code ≡ 4 → (1 ≤ code) × (code ≤ 5) × (code ≡ 3 → ⊥)
+    go code ibm w = (omega arith, omega arith, λ e. omega arith)
+    go code whole32 w = (omega arith, omega arith, λ e. omega arith)
+    go code whole16 w = absurd (omega arith)
+    go code gain w = (omega arith, omega arith, λ e. omega arith)
+    go code ieee w = (omega arith, omega arith, λ e. omega arith)
+    go code whole8 w = absurd (omega arith)
 
-  pub whole32-content : sampleContent (pairTaken (wholeValue (signedOf 32 w))) ≡ sampleCopied s 2 at
-  whole32-content = ap (λ (w : ℕ). sampleContent (pairTaken (wholeValue (signedOf 32 w)))) (h .whole) ∙ ap sampleContent (whole32-copied s at)
+-- a code is no more than 8
+pub code-low : (code : ℕ) → isCode code ≡ true → code ≤ 8
+code-low code h = go code (code-is code h)
+  where
+    go : (code : ℕ) → Code code → code ≤ 8
+    go code ibm = omega arith
+    go code whole32 = omega arith
+    go code whole16 = omega arith
+    go code gain = omega arith
+    go code ieee = omega arith
+    go code whole8 = omega arith
+
+-- the codes of fewer: 3 and 8
+data Short : ℕ → Type 0 where
+  two : Short 3
+  one : Short 8
+
+code-of-fewer : (code : ℕ) → isCode code ≡ true → sampleBytes code < 4 → Short code
+code-of-fewer code h = go code (code-is code h)
+  where
+    go : (code : ℕ) → Code code → sampleBytes code < 4 → Short code
+    go code ibm w = absurd (omega arith)
+    go code whole32 w = absurd (omega arith)
+    go code whole16 w = two
+    go code gain w = absurd (omega arith)
+    go code ieee w = absurd (omega arith)
+    go code whole8 w = one
+
+-- told apart by a test
+module _ (code : ℕ) (h : isCode code ≡ true) (l : sampleBytes code < 4) where
+  pub short-low : code < 4 → code ≡ 3
+  short-low t = go (code-of-fewer code h l) t
+    where
+      go : {code : ℕ} → Short code → code < 4 → code ≡ 3
+      go two t = refl
+      go one t = absurd (omega arith)
+
+  pub short-high : 4 ≤ code → code ≡ 8
+  short-high t = go (code-of-fewer code h l) t
+    where
+      go : {code : ℕ} → Short code → 4 ≤ code → code ≡ 8
+      go two t = absurd (omega arith)
+      go one t = refl
+
+-- what a number of 16 bits writes is the sample whose number it is
+pub short-copied : (s : List ℕ) (code at w : ℕ) → isCode code ≡ true → sampleBytes code < 4 → signedOf 16 w ≡ shortNumber s code at
+    → sampleContent (pairTaken (wholeValue (signedOf 16 w))) ≡ sampleCopied s code at
+short-copied s code at w h l e = ap (λ (v : ℤ). sampleContent (pairTaken (wholeValue v))) e ∙ go (code-of-fewer code h l) ∙ word-copied s code at (number (bytesAt s at (sampleBytes code))) h refl
+  where
+    go : {code : ℕ} → Short code → sampleContent (pairTaken (wholeValue (shortNumber s code at))) ≡ wordContent code (number (bytesAt s at (sampleBytes code)))
+    go two = refl
+    go one = refl
 
 -- four bytes with the first lowest, in reverse order
 pub turned : (a b c d : ℕ) → a < 256 → b < 256 → c < 256 → d < 256 → reversed (number (d ∷ c ∷ b ∷ a ∷ [])) ≡ number (a ∷ b ∷ c ∷ d ∷ [])

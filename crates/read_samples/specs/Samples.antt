@@ -11,7 +11,7 @@ use Rattle.sample.specs.Reading.{readWord}
 use Rattle.sample.specs.declared.Sample.{Sample}
 use Rattle.sample.specs.declared.Sample.the-variants.{Taken, Refused}
 
--- What reading a word gives, as six bytes; zero for a word that is refused, which a reel has only where 2 or 9 applies.
+-- What reading a word gives, as six bytes; zero for a word that is refused, which a reel has only where 2, 9 or 19 applies.
 abbrev pub sampleContent : Sample → List ℕ
 sampleContent (Taken e m) = pairBytes e m
 sampleContent (Refused number) = replicate pairLength 0

@@ -1,19 +1,19 @@
-// The samples of a trace, from words to pairs: a loop for words of four bytes and one for words of two. Each function that writes is lent exactly the bytes that it writes.
+// The samples of a trace, from words to pairs: a loop for words of four bytes and one for shorter words. Each function that writes is lent exactly the bytes that it writes.
 ghost use mathlib.Core.Path.{_≡_};
 ghost use mathlib.Core.Bool.{true, _&&_};
 ghost use mathlib.Core.List.{[], _∷_};
-ghost use Prim.Native.Nat.{_+_, _*_, _%_, _^_, _≤_};
+ghost use Prim.Native.Nat.{_+_, _*_, _%_, _^_, _≤_, _<_};
 ghost use lib.Dec.{leb, eqb};
 ghost use lib.ListN.{length};
 ghost use Rattle.numbers.specs.Walk.{pick, bytesAt};
 ghost use Rattle.numbers.specs.Places.{placeNo};
 ghost use Rattle.numbers.specs.BigEndian.{number};
 ghost use Rattle.numbers.specs.TwosComplement.{signedOf};
-ghost use Rattle.formats.specs.Value.{ibmValue, wholeValue};
+ghost use Rattle.formats.specs.Value.{wholeValue, isBad};
 ghost use Rattle.formats.specs.Codes.{isCode, sampleBytes};
 ghost use Rattle.sample.specs.Reading.{pairTaken, readWord};
 ghost use Rattle.read_samples.specs.Samples.{sampleContent, sampleCopied, samplePairs, samplesRead};
-ghost use Rattle.read_samples.specs.Parts.{exponentContent, mantissaContent, gainOrZero, reversed, wordHeld, WordAt};
+ghost use Rattle.read_samples.specs.Parts.{exponentContent, mantissaContent, wordContent, gainOrZero, reversed, wordHeld, shortNumber};
 use numbers::Place;
 use sample::Sample;
 
@@ -49,26 +49,30 @@ fn put_sample(word: Sample, out: &mut [u8])
     put_mantissa(word, &mut out[2..6]);
 }
 
-// The number in the four bytes at a place, and in two.
+// The number in the four bytes at a place.
 fn word32_at(reel: &[u8], at: usize) -> u32
     requires { ⌜ at + 4 ≤ length (now reel) ⌝ }
-    ensures { λ r. ⌜ WordAt (now (reel .entry)) at r ⌝ }
+    ensures { λ r. ⌜ r ≡ number (bytesAt (now (reel .entry)) at 4) ⌝ }
 {
     numbers::be32(reel[at], reel[at + 1], reel[at + 2], reel[at + 3])
 }
 
-fn word16_at(reel: &[u8], at: usize) -> u16
-    requires { ⌜ at + 2 ≤ length (now reel) ⌝ }
-    ensures { λ r. ⌜ r ≡ number (bytesAt (now (reel .entry)) at 2) ⌝ }
+// The number of the word at a place under a code of fewer bytes, 3 or 8, in 16 bits.
+fn short_at(reel: &[u8], code: u32, at: usize) -> u16
+    requires { ⌜ (isCode code ≡ true) × (sampleBytes code < 4) × (at + sampleBytes code ≤ length (now reel)) ⌝ }
+    ensures { λ r. ⌜ signedOf 16 r ≡ shortNumber (now (reel .entry)) code at ⌝ }
 {
-    numbers::be16(reel[at], reel[at + 1])
+    if code < 4 {
+        return numbers::be16(reel[at], reel[at + 1]);
+    }
+    sample::extended(reel[at])
 }
 
 // The number in the four bytes at a place with the first lowest, as the loop of code 1 fetches them: it then takes the sign and the
 // characteristic from the lowest byte, and tells whether the fraction is 0, without waiting for the bytes to be swapped.
 fn low_first_at(reel: &[u8], at: usize) -> u32
     requires { ⌜ at + 4 ≤ length (now reel) ⌝ }
-    ensures { λ r. ⌜ WordAt (now (reel .entry)) at (reversed r) ⌝ }
+    ensures { λ r. ⌜ reversed r ≡ number (bytesAt (now (reel .entry)) at 4) ⌝ }
 {
     numbers::le32(reel[at], reel[at + 1], reel[at + 2], reel[at + 3])
 }
@@ -83,7 +87,7 @@ fn swapped(x: u32) -> u32
 // The word at a place as the loop of a code fetches it: with the first byte lowest under code 1, and highest under the others.
 fn fetched(reel: &[u8], code: u32, at: usize) -> u32
     requires { ⌜ at + 4 ≤ length (now reel) ⌝ }
-    ensures { λ r. ⌜ WordAt (now (reel .entry)) at (wordHeld code r) ⌝ }
+    ensures { λ r. ⌜ wordHeld code r ≡ number (bytesAt (now (reel .entry)) at 4) ⌝ }
 {
     if code < 2 {
         return low_first_at(reel, at);
@@ -95,7 +99,7 @@ fn fetched(reel: &[u8], code: u32, at: usize) -> u32
 // fetch of the word. Words of code 1 have their first byte lowest.
 fn put_ibm_word(reel: &[u8], word: u32, next: usize, out: &mut [u8]) -> u32
     requires { ⌜ (next + 4 ≤ length (now reel)) × (length (now out) ≡ 6) ⌝ }
-    ensures { λ r. ⌜ (WordAt (now (reel .entry)) next (reversed r)) × (now (out .exit) ≡ sampleContent (pairTaken (ibmValue (reversed word)))) ⌝ }
+    ensures { λ r. ⌜ (reversed r ≡ number (bytesAt (now (reel .entry)) next 4)) × (now (out .exit) ≡ wordContent 1 (reversed word)) ⌝ }
 {
     let pair = sample::ibm_parts((word % 256) as u8, swapped(word));
     put_exponent(pair, &mut out[0..2]);
@@ -106,7 +110,7 @@ fn put_ibm_word(reel: &[u8], word: u32, next: usize, out: &mut [u8]) -> u32
 
 fn put_whole32_word(reel: &[u8], word: u32, next: usize, out: &mut [u8]) -> u32
     requires { ⌜ (next + 4 ≤ length (now reel)) × (length (now out) ≡ 6) ⌝ }
-    ensures { λ r. ⌜ (WordAt (now (reel .entry)) next r) × (now (out .exit) ≡ sampleContent (pairTaken (wholeValue (signedOf 32 word)))) ⌝ }
+    ensures { λ r. ⌜ (r ≡ number (bytesAt (now (reel .entry)) next 4)) × (now (out .exit) ≡ wordContent 2 word) ⌝ }
 {
     let pair = sample::whole32(word);
     put_exponent(pair, &mut out[0..2]);
@@ -115,13 +119,32 @@ fn put_whole32_word(reel: &[u8], word: u32, next: usize, out: &mut [u8]) -> u32
     w
 }
 
-fn put_whole16_word(reel: &[u8], word: u16, next: usize, out: &mut [u8]) -> u16
-    requires { ⌜ (next + 2 ≤ length (now reel)) × (length (now out) ≡ 6) ⌝ }
-    ensures { λ r. ⌜ (r ≡ number (bytesAt (now (reel .entry)) next 2)) × (now (out .exit) ≡ sampleContent (pairTaken (wholeValue (signedOf 16 word)))) ⌝ }
+// An IEEE word, or 0 for one that 19 refuses, which only the types allow here.
+fn finite_or_zero(word: u32) -> u32
+    ensures { λ r. ⌜ r ≡ pick (isBad 5 word) 0 word ⌝ }
+{
+    if sample::is_bad(5, word) { 0 } else { word }
+}
+
+fn put_ieee_word(reel: &[u8], word: u32, next: usize, out: &mut [u8]) -> u32
+    requires { ⌜ (next + 4 ≤ length (now reel)) × (length (now out) ≡ 6) ⌝ }
+    ensures { λ r. ⌜ (r ≡ number (bytesAt (now (reel .entry)) next 4)) × (now (out .exit) ≡ wordContent 5 word) ⌝ }
+{
+    let pair = sample::ieee_number(finite_or_zero(word));
+    put_exponent(pair, &mut out[0..2]);
+    let w = word32_at(reel, next);
+    put_mantissa(pair, &mut out[2..6]);
+    w
+}
+
+// The same by the 16 bits of a number, for the codes of fewer bytes.
+fn put_whole16_word(reel: &[u8], code: u32, word: u16, next: usize, out: &mut [u8]) -> u16
+    requires { ⌜ (isCode code ≡ true) × (sampleBytes code < 4) × (next + sampleBytes code ≤ length (now reel)) × (length (now out) ≡ 6) ⌝ }
+    ensures { λ r. ⌜ (signedOf 16 r ≡ shortNumber (now (reel .entry)) code next) × (now (out .exit) ≡ sampleContent (pairTaken (wholeValue (signedOf 16 word)))) ⌝ }
 {
     let pair = sample::whole16(word);
     put_exponent(pair, &mut out[0..2]);
-    let w = word16_at(reel, next);
+    let w = short_at(reel, code, next);
     put_mantissa(pair, &mut out[2..6]);
     w
 }
@@ -149,8 +172,8 @@ fn low_half(word: u32) -> u16
 
 // The same for a gain word, of which d is fetched early.
 fn put_gain_word(reel: &[u8], at: usize, word: u32, out: &mut [u8]) -> u32
-    requires { ⌜ (at + 8 ≤ length (now reel)) × (length (now out) ≡ 6) × WordAt (now reel) at word ⌝ }
-    ensures { λ r. ⌜ (WordAt (now (reel .entry)) (at + 4) r) × (now (out .exit) ≡ sampleCopied (now (reel .entry)) 4 at) ⌝ }
+    requires { ⌜ (at + 8 ≤ length (now reel)) × (length (now out) ≡ 6) × (word ≡ number (bytesAt (now reel) at 4)) ⌝ }
+    ensures { λ r. ⌜ (r ≡ number (bytesAt (now (reel .entry)) (at + 4) 4)) × (now (out .exit) ≡ wordContent 4 word) ⌝ }
 {
     let pair = gain_or_zero(reel[at], reel[at + 1], low_half(word));
     put_exponent(pair, &mut out[0..2]);
@@ -162,8 +185,8 @@ fn put_gain_word(reel: &[u8], at: usize, word: u32, out: &mut [u8]) -> u32
 // A word of four bytes under a code that has them, and the fetch of the next. The tests are not of equality, which the compiler would make
 // a switch of: so it takes each out of the loop, which becomes a loop for each code.
 fn put_word(reel: &[u8], code: u32, at: usize, word: u32, out: &mut [u8]) -> u32
-    requires { ⌜ (isCode code ≡ true) × (sampleBytes code ≡ 4) × (at + 8 ≤ length (now reel)) × (length (now out) ≡ 6) × WordAt (now reel) at (wordHeld code word) ⌝ }
-    ensures { λ r. ⌜ (WordAt (now (reel .entry)) (at + 4) (wordHeld code r)) × (now (out .exit) ≡ sampleCopied (now (reel .entry)) code at) ⌝ }
+    requires { ⌜ (isCode code ≡ true) × (sampleBytes code ≡ 4) × (at + 8 ≤ length (now reel)) × (length (now out) ≡ 6) × (wordHeld code word ≡ number (bytesAt (now reel) at 4)) ⌝ }
+    ensures { λ r. ⌜ (wordHeld code r ≡ number (bytesAt (now (reel .entry)) (at + 4) 4)) × (now (out .exit) ≡ sampleCopied (now (reel .entry)) code at) ⌝ }
 {
     if code < 2 {
         return put_ibm_word(reel, word, at + 4, out);
@@ -171,7 +194,10 @@ fn put_word(reel: &[u8], code: u32, at: usize, word: u32, out: &mut [u8]) -> u32
     if code < 3 {
         return put_whole32_word(reel, word, at + 4, out);
     }
-    put_gain_word(reel, at, word, out)
+    if code < 5 {
+        return put_gain_word(reel, at, word, out);
+    }
+    put_ieee_word(reel, word, at + 4, out)
 }
 
 // What reading the four bytes at a place gives.
@@ -208,10 +234,10 @@ fn put_words(reel: &[u8], code: u32, n: usize, start: usize, out: &mut [u8])
     put_sample(sample_at(reel, code, end), &mut out[last..last + 6]);
 }
 
-// The same of words of two bytes, which code 3 has.
-fn put_whole16(reel: &[u8], n: usize, start: usize, out: &mut [u8])
-    requires { ⌜ (start + n * 2 ≤ length (now reel)) × (length (now out) ≡ n * 6) ⌝ }
-    ensures { λ _. ⌜ now (out .exit) ≡ samplePairs (now (reel .entry)) 3 n start ⌝ }
+// The same of words of v bytes, fewer than four: two under code 3, and one under code 8.
+fn put_shorts(reel: &[u8], code: u32, v: usize, n: usize, start: usize, out: &mut [u8])
+    requires { ⌜ (isCode code ≡ true) × (sampleBytes code ≡ v) × (v < 4) × (start + n * v ≤ length (now reel)) × (length (now out) ≡ n * 6) ⌝ }
+    ensures { λ _. ⌜ now (out .exit) ≡ samplePairs (now (reel .entry)) code n start ⌝ }
 {
     if n < 1 {
         return;
@@ -220,24 +246,25 @@ fn put_whole16(reel: &[u8], n: usize, start: usize, out: &mut [u8])
     let mut o = 0;
     let mut left = n - 1;
     let last = left * 6;
-    let mut w = word16_at(reel, start);
+    let mut w = short_at(reel, code, start);
     while 0 < left {
         let e = o + 6;
-        at += 2;
-        w = put_whole16_word(reel, w, at, &mut out[o..e]);
+        at += v;
+        w = put_whole16_word(reel, code, w, at, &mut out[o..e]);
         o = e;
         left -= 1;
     }
     put_sample(sample::whole16(w), &mut out[last..last + 6]);
 }
 
-// The samples of a trace under the reel's code, which is 1 to 4.
+// The samples of a trace under the reel's code.
 fn put_samples(reel: &[u8], code: usize, n: usize, start: usize, out: &mut [u8])
     requires { ⌜ (isCode code ≡ true) × (start + n * sampleBytes code ≤ length (now reel)) × (length (now out) ≡ n * 6) ⌝ }
     ensures { λ _. ⌜ now (out .exit) ≡ samplePairs (now (reel .entry)) code n start ⌝ }
 {
-    if code == 3 {
-        put_whole16(reel, n, start, out);
+    let v = formats::width_of(code);
+    if v < 4 {
+        put_shorts(reel, code as u32, v, n, start, out);
         return;
     }
     put_words(reel, code as u32, n, start, out);
@@ -247,16 +274,16 @@ fn put_samples(reel: &[u8], code: usize, n: usize, start: usize, out: &mut [u8])
 fn do_fit(bytes: usize, code: usize, n: usize, start: usize, size: usize) -> bool
     ensures { λ r. ⌜ r ≡ (isCode code && (leb (start + n * sampleBytes code) bytes && eqb size (n * 6))) ⌝ }
 {
-    if !reel::is_code(code) {
+    if !formats::is_code(code) {
         return false;
     }
-    if !slices::are_within(bytes, n, reel::width_of(code), start) {
+    if !slices::are_within(bytes, n, formats::width_of(code), start) {
         return false;
     }
     slices::make_up(size, n, 6)
 }
 
-// The samples of a trace: the pairs of n words from a place on. Where the code isn't 1 to 4, the words aren't all there or the output isn't as
+// The samples of a trace: the pairs of n words from a place on. Where the code is none, the words aren't all there or the output isn't as
 // long as n pairs, it is left as it was.
 pub fn read_samples(reel: &[u8], code: usize, n: usize, start: Place, out: &mut [u8])
     ensures { λ _. ⌜ now (out .exit) ≡ samplesRead (now (reel .entry)) code n (placeNo start) (now (out .entry)) ⌝ }

@@ -1,7 +1,7 @@
 -- `read_samples::put_gain_word` meets its contract. Assumes nothing.
 use native.Mathlib.Omega.{arith}
 use borrow.Author.Needs.{needs}
-use Rattle.read_samples.proofs.SampleLaws.{parts-put, gain-copied}
+use Rattle.read_samples.proofs.SampleLaws.{parts-put, gain-held}
 use Rattle.read_samples.specs.Samples.{sampleContent}
 use mathlib.Core.Path.{ap, _∙_}
 use Rattle.read_samples.proofs.put_gain_word.Statement.{statement}
@@ -40,7 +40,7 @@ returns c =
     let s = (c .before .before .before .before .before .before .before .before .before .before .before .before .before .before .before) in (
       c .before .before .before .before .word32-at .ensures,
       parts-put (s .args .out .now) (p .gain-or-zero .result) (s .pre .1) (c .before .before .before .before .before .before .before .put-exponent .ensures) (c .before .before .put-mantissa .ensures)
-          ∙ ap sampleContent (p .gain-or-zero .ensures) ∙ gain-copied (s .args .reel .now) (s .args .at) (p .before .low-half .result) (p .before .low-half .ensures ∙ s .pre .2 .low),
+          ∙ ap sampleContent (p .gain-or-zero .ensures) ∙ gain-held (s .args .reel .now) (s .args .at) (s .args .word) (p .before .low-half .result) (λ i. p .before .before .before .shared-slice-known2 .given i .fits) (s .pre .2) (p .before .low-half .ensures),
     )
 
 pub put-gain-word-spec : {M : Type 1} → statement M

@@ -1,52 +1,42 @@
 -- `read_samples::put_samples` meets its contract. Assumes nothing.
-use Rattle.reel.proofs.CheckLaws.{code-limits}
-use Rattle.read_samples.specs.Samples.{samplePairs}
+use Rattle.read_samples.proofs.SampleLaws.{code-low}
 use Rattle.formats.specs.Codes.{sampleBytes}
-use borrow.Author.Tests.{ne-eqb}
-use lib.ListN.{length}
-use Prim.Native.Nat.{ℕ, _+_, _*_, _≤_}
-use mathlib.Core.Path.{_≡_, sym, ap, subst, _∙_}
+use Prim.Native.Nat.{_+_, _*_, _≤_}
+use mathlib.Core.Path.{_≡_, sym, _∙_}
 use native.Mathlib.Omega.{arith}
+use borrow.Author.Needs.{needs}
 use Rattle.read_samples.proofs.put_samples.Statement.{statement}
 use Rattle.read_samples.proofs.put_samples.Tie as tie
 
-put-whole16-requires : tie.Need-put-whole16-requires
-put-whole16-requires c κs =
-    let s = c .before .before .before .before in
-    let v : sampleBytes (s .args .code) ≡ 2 = ap sampleBytes (c .before .if1 .taken) in
-    (subst (λ (x : ℕ). s .args .start + s .args .n * x ≤ length (s .args .reel .now)) v (s .pre .1), s .pre .2)
+cast-put-shorts : tie.Need-cast-put-shorts
+cast-put-shorts c = let b = c .before .before .before .before in omega (arith, code-low (b .args .code) (b .pre .0))
 
-same-length : tie.Need-same-length
-same-length c = c .before .before .put-whole16 .kept .1 .1 .1 .0
-
-returns : tie.Need-returns
-returns c =
-    let a = c .before .before .before .before .before .before .before .args in
-    c .before .before .put-whole16 .ensures ∙ ap (λ (k : ℕ). samplePairs (a .reel .now) k (a .n) (a .start)) (sym (c .before .before .before .before .if1 .taken))
+put-shorts-requires : tie.Need-put-shorts-requires
+put-shorts-requires c κs =
+    let b = c .before .before .before .before .before in
+    let v = c .before .before .width-of in
+    (b .pre .0, sym (v .ensures .0), c .before .if1 .taken, rw (v .ensures .0) (b .pre .1), b .pre .2)
 
 cast-put-words : tie.Need-cast-put-words
-cast-put-words c = omega (arith, code-limits (c .before .before .before .args .code) (c .before .before .before .pre .0))
+cast-put-words c = let b = c .before .before .before .before in omega (arith, code-low (b .args .code) (b .pre .0))
 
 put-words-requires : tie.Need-put-words-requires
 put-words-requires c κs =
-    let s = c .before .before .before .before in
-    let v : sampleBytes (s .args .code) ≡ 4 = rw (ne-eqb (s .args .code) 3 (c .before .if1 .left)) in
-    (s .pre .0, v, subst (λ (x : ℕ). s .args .start + s .args .n * x ≤ length (s .args .reel .now)) v (s .pre .1), s .pre .2)
-
-same-length-2 : tie.Need-same-length-2
-same-length-2 c = c .before .before .put-words .kept .1 .1 .1 .1 .0
-
-returns-2 : tie.Need-returns-2
-returns-2 c = c .before .before .put-words .ensures
+    let b = c .before .before .before .before .before in
+    let v = c .before .before .width-of in
+    let four : sampleBytes (b .args .code) ≡ 4 = sym (v .ensures .0) ∙ omega (arith, v .ensures .1, c .before .if1 .left) in
+    (b .pre .0, four, rw four at (b .pre .1), b .pre .2)
 
 pub put-samples-spec : {M : Type 1} → statement M
 put-samples-spec =
     tie.close
     (tie.spec
-    put-whole16-requires
-    same-length
-    returns
+    (λ c κs. tt)
+    cast-put-shorts
+    put-shorts-requires
+    (λ c. search needs)
+    (λ c. search needs)
     cast-put-words
     put-words-requires
-    same-length-2
-    returns-2)
+    (λ c. search needs)
+    (λ c. search needs))

@@ -8,16 +8,16 @@ use Rattle.read_samples.proofs.put_whole16_word.Statement.{statement}
 use Rattle.read_samples.proofs.put_whole16_word.Tie as tie
 
 part-put-exponent-end : tie.Need-part-put-exponent-end
-part-put-exponent-end c = omega (arith, c .before .before .before .pre .1)
+part-put-exponent-end c = omega (arith, c .before .before .before .pre .3)
 
 put-exponent-requires : tie.Need-put-exponent-requires
 put-exponent-requires c κs = c .put-exponent-arg .given .2
 
-word16-at-requires : tie.Need-word16-at-requires
-word16-at-requires c κs = c .before .before .before .before .before .before .before .pre .0
+short-at-requires : tie.Need-short-at-requires
+short-at-requires c κs = let p = c .before .before .before .before .before .before .before .pre in (p .0, p .1, p .2)
 
 part-put-mantissa-end : tie.Need-part-put-mantissa-end
-part-put-mantissa-end c = omega (arith, c .before .before .before .before .before .before .before .before .pre .1, c .before .before .out .given .1)
+part-put-mantissa-end c = omega (arith, c .before .before .before .before .before .before .before .before .pre .3, c .before .before .out .given .1)
 
 put-mantissa-requires : tie.Need-put-mantissa-requires
 put-mantissa-requires c κs = c .put-mantissa-arg .given .2
@@ -26,8 +26,8 @@ returns : tie.Need-returns
 returns c =
     let p = (c .before .before .before .before .before .before .before .before .before) in
     let s = (c .before .before .before .before .before .before .before .before .before .before .before .before) in (
-      c .before .before .before .before .word16-at .ensures,
-      parts-put (s .args .out .now) (p .whole16 .result) (s .pre .1) (c .before .before .before .before .before .before .before .put-exponent .ensures) (c .before .before .put-mantissa .ensures)
+      c .before .before .before .before .short-at .ensures,
+      parts-put (s .args .out .now) (p .whole16 .result) (s .pre .3) (c .before .before .before .before .before .before .before .put-exponent .ensures) (c .before .before .put-mantissa .ensures)
           ∙ ap sampleContent (p .whole16 .ensures),
     )
 
@@ -40,7 +40,7 @@ put-whole16-word-spec =
     (λ c. omega arith)
     part-put-exponent-end
     put-exponent-requires
-    word16-at-requires
+    short-at-requires
     (λ c. omega arith)
     (λ c. omega arith)
     part-put-mantissa-end

@@ -1,9 +1,11 @@
 -- `read_samples::put_words` meets its contract. Assumes nothing.
 use Rattle.read_samples.proofs.SampleLaws.{size-copied, size-samples, samples-none}
 use Rattle.read_samples.specs.Samples.{sampleContent, sampleCopied, samplePairs}
-use Rattle.read_samples.specs.Parts.{wordHeld, WordAt}
+use Rattle.read_samples.specs.Parts.{wordHeld}
 use Rattle.numbers.proofs.Filling.{Filling, start as begin, finish, again, from, next-put, last-put}
 use Rattle.numbers.proofs.WalkLaws.{times-more}
+use Rattle.numbers.specs.Walk.{bytesAt}
+use Rattle.numbers.specs.BigEndian.{number}
 use Rattle.formats.specs.Codes.{sampleBytes}
 use lib.ListN.{length}
 use Prim.Native.Nat.{ℕ, _+_, _-_, _*_, _≤_}
@@ -14,7 +16,7 @@ use Rattle.read_samples.proofs.put_words.Tie as tie
 
 abbrev Inv-loop : tie.InvT-loop
 Inv-loop reel code n start out₀ at₀ o₀ left₀ last end w₀ out at o left w =
-    (at + left * 4 + 4 ≤ length reel) × (length out ≡ n * 6) × (o + left * 6 + 6 ≡ n * 6) × (at + left * 4 ≡ start + (n - 1) * 4) × WordAt reel at (wordHeld code w)
+    (at + left * 4 + 4 ≤ length reel) × (length out ≡ n * 6) × (o + left * 6 + 6 ≡ n * 6) × (at + left * 4 ≡ start + (n - 1) * 4) × (wordHeld code w ≡ number (bytesAt reel at 4))
     × Filling (samplePairs reel code n start) out o (samplePairs reel code (left + 1) at)
 
 abbrev μ-loop : tie.MeasureT-loop

@@ -1,8 +1,6 @@
 -- `read_samples::word32_at` meets its contract. Assumes nothing.
 use Rattle.numbers.proofs.WalkLaws.{four-bytes}
-use Rattle.read_samples.proofs.SampleLaws.{word-at}
 use Rattle.numbers.specs.BigEndian.{number}
-use Prim.Native.Nat.{_+_}
 use mathlib.Core.Path.{sym, ap, _∙_}
 use native.Mathlib.Omega.{arith}
 use Rattle.read_samples.proofs.word32_at.Statement.{statement}
@@ -32,7 +30,7 @@ shared-slice-read-be32-4 c = omega (arith, c .before .before .before .before .be
 returns : tie.Need-returns
 returns c =
     let a = c .before .before .before .before .before .before .args in
-    word-at (a .reel .now) (a .at) (c .be32 .result) (c .be32 .ensures ∙ ap number (sym (four-bytes (a .reel .now) (a .at)))) (omega (arith, c .before .before .before .before .before .shared-slice-known .given (a .at + 2))) (omega (arith, c .before .before .before .before .before .shared-slice-known .given (a .at + 3)))
+    c .be32 .ensures ∙ ap number (sym (four-bytes (a .reel .now) (a .at)))
 
 pub word32-at-spec : {M : Type 1} → statement M
 word32-at-spec =
