@@ -86,18 +86,23 @@ ieee-either w = go (isBad 5 w)
 
 -- ## Codes
 
+-- what holds for each of the six
+each : (P : ℕ → Type 0) → P 1 → P 2 → P 3 → P 4 → P 5 → P 8 → (code : ℕ) → isCode code ≡ true → P code
+each P a b c d e f code h = go code (code-is code h)
+  where
+    go : (code : ℕ) → Code code → P code
+    go code ibm = a
+    go code whole32 = b
+    go code whole16 = c
+    go code gain = d
+    go code ieee = e
+    go code whole8 = f
+
 -- what the code writes of a word is the sample in its place
 pub word-copied : (s : List ℕ) (code at n : ℕ) → isCode code ≡ true → n ≡ number (bytesAt s at (sampleBytes code)) → wordContent code n ≡ sampleCopied s code at
 unfolding bytesAt
-word-copied s code at n h e = ap (wordContent code) e ∙ go code (code-is code h)
-  where
-    go : (code : ℕ) → Code code → wordContent code (number (bytesAt s at (sampleBytes code))) ≡ sampleCopied s code at
-    go code ibm = refl
-    go code whole32 = refl
-    go code whole16 = refl
-    go code gain = refl
-    go code ieee = refl
-    go code whole8 = refl
+word-copied s code at n h e =
+    ap (wordContent code) e ∙ each (λ k. wordContent k (number (bytesAt s at (sampleBytes k))) ≡ sampleCopied s k at) refl refl refl refl refl refl code h
 
 -- the same of a word of four bytes, under a code that was told
 pub four-copied : (s : List ℕ) (code at k n : ℕ) → isCode code ≡ true → sampleBytes code ≡ 4 → k ≡ code → n ≡ number (bytesAt s at 4) → wordContent k n ≡ sampleCopied s code at
@@ -105,68 +110,32 @@ four-copied s code at k n h v is e = ap (λ (k : ℕ). wordContent k n) is ∙ w
 
 -- the codes of four bytes: 1, 2, 4 and 5
 pub code-of-four : (code : ℕ) → isCode code ≡ true → sampleBytes code ≡ 4 → (1 ≤ code) × (code ≤ 5) × (code ≡ 3 → ⊥)
-code-of-four code h = go code (code-is code h)
-  where
-    go : (code : ℕ) → Code code → sampleBytes code ≡ 4 → (1 ≤ code) × (code ≤ 5) × (code ≡ 3 → ⊥)
-    go code ibm w = (omega arith, omega arith, λ e. omega arith)
-    go code whole32 w = (omega arith, omega arith, λ e. omega arith)
-    go code whole16 w = absurd (omega arith)
-    go code gain w = (omega arith, omega arith, λ e. omega arith)
-    go code ieee w = (omega arith, omega arith, λ e. omega arith)
-    go code whole8 w = absurd (omega arith)
+code-of-four = each (λ k. sampleBytes k ≡ 4 → (1 ≤ k) × (k ≤ 5) × (k ≡ 3 → ⊥))
+    (λ w. (omega arith, omega arith, λ e. omega arith)) (λ w. (omega arith, omega arith, λ e. omega arith)) (λ w. absurd (omega arith))
+    (λ w. (omega arith, omega arith, λ e. omega arith)) (λ w. (omega arith, omega arith, λ e. omega arith)) (λ w. absurd (omega arith))
 
 -- a code is no more than 8
 pub code-low : (code : ℕ) → isCode code ≡ true → code ≤ 8
-code-low code h = go code (code-is code h)
-  where
-    go : (code : ℕ) → Code code → code ≤ 8
-    go code ibm = omega arith
-    go code whole32 = omega arith
-    go code whole16 = omega arith
-    go code gain = omega arith
-    go code ieee = omega arith
-    go code whole8 = omega arith
+code-low = each (λ k. k ≤ 8) (omega arith) (omega arith) (omega arith) (omega arith) (omega arith) (omega arith)
 
--- the codes of fewer: 3 and 8
-data Short : ℕ → Type 0 where
-  two : Short 3
-  one : Short 8
-
-code-of-fewer : (code : ℕ) → isCode code ≡ true → sampleBytes code < 4 → Short code
-code-of-fewer code h = go code (code-is code h)
-  where
-    go : (code : ℕ) → Code code → sampleBytes code < 4 → Short code
-    go code ibm w = absurd (omega arith)
-    go code whole32 w = absurd (omega arith)
-    go code whole16 w = two
-    go code gain w = absurd (omega arith)
-    go code ieee w = absurd (omega arith)
-    go code whole8 w = one
-
--- told apart by a test
 module _ (code : ℕ) (h : isCode code ≡ true) (l : sampleBytes code < 4) where
+  -- the codes of fewer, 3 and 8, told apart by a test
+  fewer : (P : ℕ → Type 0) → P 3 → P 8 → P code
+  fewer P a b =
+      each (λ k. sampleBytes k < 4 → P k) (λ w. absurd (omega arith)) (λ w. absurd (omega arith)) (λ w. a) (λ w. absurd (omega arith)) (λ w. absurd (omega arith)) (λ w. b) code h l
+
   pub short-low : code < 4 → code ≡ 3
-  short-low t = go (code-of-fewer code h l) t
-    where
-      go : {code : ℕ} → Short code → code < 4 → code ≡ 3
-      go two t = refl
-      go one t = absurd (omega arith)
+  short-low = fewer (λ k. k < 4 → k ≡ 3) (λ t. refl) (λ t. absurd (omega arith))
 
   pub short-high : 4 ≤ code → code ≡ 8
-  short-high t = go (code-of-fewer code h l) t
-    where
-      go : {code : ℕ} → Short code → 4 ≤ code → code ≡ 8
-      go two t = absurd (omega arith)
-      go one t = refl
+  short-high = fewer (λ k. 4 ≤ k → k ≡ 8) (λ t. absurd (omega arith)) (λ t. refl)
 
--- what a number of 16 bits writes is the sample whose number it is
-pub short-copied : (s : List ℕ) (code at w : ℕ) → isCode code ≡ true → sampleBytes code < 4 → signedOf 16 w ≡ shortNumber s code at
-    → sampleContent (pairTaken (wholeValue (signedOf 16 w))) ≡ sampleCopied s code at
-short-copied s code at w h l e = ap (λ (v : ℤ). sampleContent (pairTaken (wholeValue v))) e ∙ go (code-of-fewer code h l) ∙ word-copied s code at (number (bytesAt s at (sampleBytes code))) h refl
-  where
-    go : {code : ℕ} → Short code → sampleContent (pairTaken (wholeValue (shortNumber s code at))) ≡ wordContent code (number (bytesAt s at (sampleBytes code)))
-    go two = refl
-    go one = refl
+  -- what a number of 16 bits writes is the sample whose number it is
+  pub short-copied : (s : List ℕ) (at w : ℕ) → signedOf 16 w ≡ shortNumber s code at → sampleContent (pairTaken (wholeValue (signedOf 16 w))) ≡ sampleCopied s code at
+  short-copied s at w e =
+      ap (λ (v : ℤ). sampleContent (pairTaken (wholeValue v))) e
+      ∙ fewer (λ k. sampleContent (pairTaken (wholeValue (shortNumber s k at))) ≡ wordContent k (number (bytesAt s at (sampleBytes k)))) refl refl
+      ∙ word-copied s code at (number (bytesAt s at (sampleBytes code))) h refl
 
 -- four bytes with the first lowest, in reverse order
 pub turned : (a b c d : ℕ) → a < 256 → b < 256 → c < 256 → d < 256 → reversed (number (d ∷ c ∷ b ∷ a ∷ [])) ≡ number (a ∷ b ∷ c ∷ d ∷ [])

@@ -1,7 +1,6 @@
 -- `read_samples::put_samples` meets its contract. Assumes nothing.
 use Rattle.read_samples.proofs.SampleLaws.{code-low}
 use Rattle.formats.specs.Codes.{sampleBytes}
-use Prim.Native.Nat.{_+_, _*_, _≤_}
 use mathlib.Core.Path.{_≡_, sym, _∙_}
 use native.Mathlib.Omega.{arith}
 use borrow.Author.Needs.{needs}

@@ -88,7 +88,7 @@ loop-again c =
     let l = c .before .before .before .before .before .loop in
     let some = c .before .before .before .before .loop-test .taken in
     let g = c .before .before .put-whole16-word .ensures in
-    let is = short-copied s k (l .at) (l .w) (p .0) (fewer k (a .v) (p .1) (p .2)) (l .inv .3) in
+    let is = short-copied k (p .0) (fewer k (a .v) (p .1) (p .2)) s (l .at) (l .w) (l .inv .3) in
     let f = again (next-put (sampleCopied s k) (λ p. p) (sampleBytes k) 6 (size-copied s k) (l .left) (l .at) (l .o) (l .o + 6) some refl (l .inv .4) (g .1 ∙ is)) (ap (λ (v : ℕ). samplePairs s k (l .left - 1 + 1) (l .at + v)) (p .1)) in (
       omega (arith, times-more (l .left) (a .v) some, l .inv .0),
       f .size ∙ sym (l .inv .4 .size) ∙ l .inv .1,
@@ -118,7 +118,7 @@ returns-2 c =
     let none = c .before .before .before .before .before .loop-test .left in
     let last = (a .n - 1) * 6 in
     last-put (sampleCopied s k) (λ p. p) (sampleBytes k) 6 (size-copied s k) (l .left) (l .at) last (last + 6) none refl (from (l .inv .4) (omega (arith, none, l .inv .2)))
-    (c .before .before .put-sample .ensures ∙ ap sampleContent (c .before .before .before .before .whole16 .ensures) ∙ short-copied s k (l .at) (l .w) (p .0) (fewer k (a .v) (p .1) (p .2)) (l .inv .3))
+    (c .before .before .put-sample .ensures ∙ ap sampleContent (c .before .before .before .before .whole16 .ensures) ∙ short-copied k (p .0) (fewer k (a .v) (p .1) (p .2)) s (l .at) (l .w) (l .inv .3))
 
 same-length : tie.Need-same-length Inv-loop μ-loop
 same-length c =

@@ -1,11 +1,9 @@
 -- `read_samples::short_at` meets its contract. Assumes nothing.
 use Rattle.read_samples.proofs.SampleLaws.{short-low, short-high}
-use Rattle.read_samples.specs.Parts.{shortNumber}
 use Rattle.formats.specs.Codes.{sampleBytes}
 use Rattle.numbers.specs.Walk.{bytesAt}
 use Rattle.numbers.specs.TwosComplement.{signedOf}
-use Prim.Native.Nat.{ℕ}
-use mathlib.Core.Path.{_≡_, sym, ap, _∙_}
+use mathlib.Core.Path.{_≡_, ap}
 use native.Mathlib.Nat.{zero-add}
 use native.Mathlib.Omega.{arith}
 use borrow.Author.Needs.{needs}
