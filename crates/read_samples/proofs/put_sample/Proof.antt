@@ -5,18 +5,6 @@ use borrow.Author.Needs.{needs}
 use Rattle.read_samples.proofs.put_sample.Statement.{statement}
 use Rattle.read_samples.proofs.put_sample.Tie as tie
 
-part-put-exponent-end : tie.Need-part-put-exponent-end
-part-put-exponent-end c = omega (arith, c .before .pre)
-
-put-exponent-requires : tie.Need-put-exponent-requires
-put-exponent-requires c κs = c .put-exponent-arg .given .2
-
-part-put-mantissa-end : tie.Need-part-put-mantissa-end
-part-put-mantissa-end c = omega (arith, c .before .before .before .before .before .pre, c .before .out .given .1)
-
-put-mantissa-requires : tie.Need-put-mantissa-requires
-put-mantissa-requires c κs = c .put-mantissa-arg .given .2
-
 returns : tie.Need-returns
 returns c =
     let x = c .before .before .before .before .before .before in
@@ -29,11 +17,11 @@ put-sample-spec =
     (tie.spec
     (λ c. omega arith)
     (λ c. omega arith)
-    part-put-exponent-end
-    put-exponent-requires
+    (λ c. search needs)
+    (λ c κs. search needs)
     (λ c. omega arith)
     (λ c. omega arith)
-    part-put-mantissa-end
-    put-mantissa-requires
+    (λ c. search needs)
+    (λ c κs. search needs)
     (λ c. search needs)
     returns)

@@ -7,21 +7,6 @@ use mathlib.Core.Path.{ap, _∙_}
 use Rattle.read_samples.proofs.put_whole16_word.Statement.{statement}
 use Rattle.read_samples.proofs.put_whole16_word.Tie as tie
 
-part-put-exponent-end : tie.Need-part-put-exponent-end
-part-put-exponent-end c = omega (arith, c .before .before .before .pre .3)
-
-put-exponent-requires : tie.Need-put-exponent-requires
-put-exponent-requires c κs = c .put-exponent-arg .given .2
-
-short-at-requires : tie.Need-short-at-requires
-short-at-requires c κs = let p = c .before .before .before .before .before .before .before .pre in (p .0, p .1, p .2)
-
-part-put-mantissa-end : tie.Need-part-put-mantissa-end
-part-put-mantissa-end c = omega (arith, c .before .before .before .before .before .before .before .before .pre .3, c .before .before .out .given .1)
-
-put-mantissa-requires : tie.Need-put-mantissa-requires
-put-mantissa-requires c κs = c .put-mantissa-arg .given .2
-
 returns : tie.Need-returns
 returns c =
     let p = (c .before .before .before .before .before .before .before .before .before) in
@@ -38,12 +23,12 @@ put-whole16-word-spec =
     (λ c κs. tt)
     (λ c. omega arith)
     (λ c. omega arith)
-    part-put-exponent-end
-    put-exponent-requires
-    short-at-requires
+    (λ c. search needs)
+    (λ c κs. search needs)
+    (λ c κs. search needs)
     (λ c. omega arith)
     (λ c. omega arith)
-    part-put-mantissa-end
-    put-mantissa-requires
+    (λ c. search needs)
+    (λ c κs. search needs)
     (λ c. search needs)
     returns)
