@@ -1,7 +1,6 @@
 // The samples of a trace, from words to pairs: a loop for words of four bytes and one for shorter words. Each function that writes is lent exactly the bytes that it writes.
 ghost use mathlib.Core.Path.{_≡_};
 ghost use mathlib.Core.Bool.{true, _&&_};
-ghost use mathlib.Core.List.{[], _∷_};
 ghost use Prim.Native.Nat.{_+_, _*_, _%_, _^_, _≤_, _<_};
 ghost use lib.Dec.{leb, eqb};
 ghost use lib.ListN.{length};
@@ -126,6 +125,7 @@ fn finite_or_zero(word: u32) -> u32
     if sample::is_bad(5, word) { 0 } else { word }
 }
 
+// The same for an IEEE word.
 fn put_ieee_word(reel: &[u8], word: u32, next: usize, out: &mut [u8]) -> u32
     requires { ⌜ (next + 4 ≤ length (now reel)) × (length (now out) ≡ 6) ⌝ }
     ensures { λ r. ⌜ (r ≡ number (bytesAt (now (reel .entry)) next 4)) × (now (out .exit) ≡ wordContent 5 word) ⌝ }
@@ -283,8 +283,8 @@ fn do_fit(bytes: usize, code: usize, n: usize, start: usize, size: usize) -> boo
     slices::make_up(size, n, 6)
 }
 
-// The samples of a trace: the pairs of n words from a place on. Where the code is none, the words aren't all there or the output isn't as
-// long as n pairs, it is left as it was.
+// The samples of a trace: the pairs of n words from a place on. Where the code is no format code, the words aren't all there or the output
+// isn't as long as n pairs, it is left as it was.
 pub fn read_samples(reel: &[u8], code: usize, n: usize, start: Place, out: &mut [u8])
     ensures { λ _. ⌜ now (out .exit) ≡ samplesRead (now (reel .entry)) code n (placeNo start) (now (out .entry)) ⌝ }
 {
