@@ -2,33 +2,69 @@
 use mathlib.Core.Path.{_≡_, refl, sym, ap, _∙_}
 use mathlib.Core.Bool.{Bool, true, false, _&&_}
 use mathlib.Core.List.{List, []}
-use Prim.Native.Nat.{ℕ, _+_, _*_, _≤_}
+use Prim.Native.Nat.{ℕ, _+_, _*_, _≤_, _<_}
+use native.Mathlib.Omega.{arith}
 use borrow.Author.Tests.{leb-true, le-leb, eq-eqb}
 use lib.Dec.{leb, eqb}
-use lib.ListN.{length, take}
+use lib.ListN.{length}
 use Rattle.numbers.specs.Walk.{pick, walk, bytesAt, copyOf}
 use Rattle.numbers.specs.BigEndian.{number, bytesOf}
 use Rattle.numbers.specs.Cause.{firstOf}
 use Rattle.numbers.proofs.WalkLaws.{flat-length, flat-none, copied}
 use Rattle.numbers.proofs.BoolLaws.{and-true}
+use Rattle.numbers.proofs.ByteLaws.{length-bytes}
 use Rattle.formats.specs.Codes.{isCode, sampleBytes}
 use Rattle.value.specs.Writing.{writePair}
 use Rattle.formats.specs.Words.{wordBits}
 use Rattle.value.specs.Pair.{pairLength, pairOfBits}
 use Rattle.value.specs.declared.Pair.{Pair}
 use Rattle.formats.specs.declared.Written.{Written}
-use Rattle.formats.specs.declared.Written.the-variants.{Word, Refused}
+use Rattle.formats.proofs.CodeLaws.{Code, code-is, ibm, whole32, whole16, gain, ieee, whole8}
 use Rattle.value.proofs.PairBytes.{pair-fetched}
-use Rattle.write_samples.specs.Samples.{wordContent, wordBytes, writtenAt, pairCheck, pairsThere, samplesChecked, sampleWords, samplesWritten}
+use Rattle.write_samples.specs.Samples.{wordBytes, writtenAt, pairCheck, pairsThere, samplesChecked, sampleWords, samplesWritten}
+
+-- ## The code
+
+-- what tests of a code leave of the six,
+pub code-limits : (code : ℕ) → isCode code ≡ true → (0 < code) × (5 < code → 8 ≡ code)
+code-limits code h = go code (code-is code h)
+  where
+    go : (code : ℕ) → Code code → (0 < code) × (5 < code → 8 ≡ code)
+    go code ibm = (omega arith, λ t. omega (arith, t))
+    go code whole32 = (omega arith, λ t. omega (arith, t))
+    go code whole16 = (omega arith, λ t. omega (arith, t))
+    go code gain = (omega arith, λ t. omega (arith, t))
+    go code ieee = (omega arith, λ t. omega (arith, t))
+    go code whole8 = (omega arith, λ t. refl)
+
+-- of the four whose words have four bytes
+pub long-code : (code : ℕ) → isCode code ≡ true → sampleBytes code ≡ 4 → (code ≡ 3 → ⊥) × (code < 6)
+long-code code h v = go code (code-is code h) v
+  where
+    go : (code : ℕ) → Code code → sampleBytes code ≡ 4 → (code ≡ 3 → ⊥) × (code < 6)
+    go code ibm v = (λ e. omega (arith, e), omega arith)
+    go code whole32 v = (λ e. omega (arith, e), omega arith)
+    go code gain v = (λ e. omega (arith, e), omega arith)
+    go code ieee v = (λ e. omega (arith, e), omega arith)
+    go code whole16 v = omega (arith, v)
+    go code whole8 v = omega (arith, v)
+
+-- and of the two whose words have fewer
+pub short-code : (code : ℕ) → isCode code ≡ true → sampleBytes code < 4 → (code < 4 → 3 ≡ code) × (4 ≤ code → 8 ≡ code)
+short-code code h v = go code (code-is code h) v
+  where
+    go : (code : ℕ) → Code code → sampleBytes code < 4 → (code < 4 → 3 ≡ code) × (4 ≤ code → 8 ≡ code)
+    go code whole16 v = (λ t. refl, λ t. omega (arith, t))
+    go code whole8 v = (λ t. omega (arith, t), λ t. refl)
+    go code ibm v = omega (arith, v)
+    go code whole32 v = omega (arith, v)
+    go code gain v = omega (arith, v)
+    go code ieee v = omega (arith, v)
+
+-- ## Words
 
 pub size-word : (code : ℕ) (w : Written) → length (wordBytes code w) ≡ sampleBytes code
-size-word code w = go (eqb code 3) w
-  where
-    go : (b : Bool) (w : Written) → length (take (pick b 2 4) (wordContent w)) ≡ pick b 2 4
-    go true (Word n) = refl
-    go true (Refused number) = refl
-    go false (Word n) = refl
-    go false (Refused number) = refl
+size-word code w = length-bytes (sampleBytes code) (wordBits w)
 
 pub size-written : (s : List ℕ) (code p : ℕ) → length (wordBytes code (writtenAt s code p)) ≡ sampleBytes code
 size-written s code p = size-word code (writtenAt s code p)
@@ -37,14 +73,13 @@ pub size-samples : (s : List ℕ) (code n at : ℕ) → length (sampleWords s co
 unfolding sampleWords
 size-samples s code n at = flat-length (wordBytes code) (writtenAt s code) (sampleBytes code) (size-written s code) pairLength n at
 
--- under a code of four bytes, the bits of a word stored in four
-pub bits-stored : (code bits : ℕ) (w : Written) (out : List ℕ) {ys : List ℕ} → sampleBytes code ≡ 4 → bits ≡ wordBits w → length out ≡ 4 → ys ≡ copyOf (bytesOf 4 bits) out → ys ≡ wordBytes code w
-bits-stored code bits w out v e n is = copied (bytesOf 4 bits) out is n ∙ ap (bytesOf 4) e ∙ ap (λ (k : ℕ). take k (wordContent w)) (sym v)
+-- the bits of a word stored in four bytes, of which a sample of the code has as many
+pub bits-stored : (code bits : ℕ) (out : List ℕ) {ys : List ℕ} → sampleBytes code ≡ 4 → length out ≡ 4 → ys ≡ copyOf (bytesOf 4 bits) out → ys ≡ bytesOf (sampleBytes code) bits
+bits-stored code bits out v n is = copied (bytesOf 4 bits) out is n ∙ ap (λ (k : ℕ). bytesOf k bits) (sym v)
 
--- the same for the word of a pair, by the code's number
-pub pair-stored : (code k bits : ℕ) (p : Pair) (out : List ℕ) {ys : List ℕ} → sampleBytes code ≡ 4 → k ≡ code → bits ≡ wordBits (writePair k p) → length out ≡ 4 → ys ≡ copyOf (bytesOf 4 bits) out
-    → ys ≡ wordBytes code (writePair code p)
-pair-stored code k bits p out v q e n is = bits-stored code bits (writePair code p) out v (e ∙ ap (λ (j : ℕ). wordBits (writePair j p)) q) n is
+-- the word of a pair, by the code's number
+pub pair-stored : (code k bits : ℕ) (p : Pair) {ys : List ℕ} → k ≡ code → bits ≡ wordBits (writePair k p) → ys ≡ bytesOf (sampleBytes code) bits → ys ≡ wordBytes code (writePair code p)
+pair-stored code k bits p q e is = is ∙ ap (bytesOf (sampleBytes code)) (e ∙ ap (λ (j : ℕ). wordBits (writePair j p)) q)
 
 -- ## Samples
 
@@ -53,17 +88,15 @@ unfolding sampleWords
 samples-none s code k at h = flat-none (wordBytes code) (writtenAt s code) pairLength k at h
 
 -- what is written of a pair that has been fetched
-module _ (s : List ℕ) (code : ℕ) where
-  -- a sample's bytes, by the bits of its pair
-  pub sample-bytes : (at e m : ℕ) (p : Pair) (bits : ℕ) → bits ≡ wordBits (writePair code p) → p ≡ pairOfBits e m → e ≡ number (bytesAt s at 2) → m ≡ number (bytesAt s (at + 2) 4)
-      → take (sampleBytes code) (bytesOf 4 bits) ≡ wordBytes code (writtenAt s code at)
-  sample-bytes at e m p bits h q i j =
-      ap (λ (x : ℕ). take (sampleBytes code) (bytesOf 4 x)) (h ∙ ap (λ (x : Pair). wordBits (writePair code x)) (pair-fetched s at e m p q i j))
+module _ (s : List ℕ) (code at e m : ℕ) (p : Pair) where
+  -- the bytes of its word,
+  pub fetched-bytes : p ≡ pairOfBits e m → e ≡ number (bytesAt s at 2) → m ≡ number (bytesAt s (at + 2) 4) → wordBytes code (writePair code p) ≡ wordBytes code (writtenAt s code at)
+  fetched-bytes q i j = ap (λ (x : Pair). wordBytes code (writePair code x)) (pair-fetched s at e m p q i j)
 
-  -- the bytes of the pair's word
-  pub fetched-bytes : (at e m : ℕ) (p : Pair) → p ≡ pairOfBits e m → e ≡ number (bytesAt s at 2) → m ≡ number (bytesAt s (at + 2) 4)
-      → wordBytes code (writePair code p) ≡ wordBytes code (writtenAt s code at)
-  fetched-bytes at e m p q i j = ap (λ (x : Pair). wordBytes code (writePair code x)) (pair-fetched s at e m p q i j)
+  -- by the word's bits
+  pub fetched-stored : (bits : ℕ) {ys : List ℕ} → ys ≡ bytesOf (sampleBytes code) bits → bits ≡ wordBits (writePair code p) → p ≡ pairOfBits e m → e ≡ number (bytesAt s at 2) → m ≡ number (bytesAt s (at + 2) 4)
+      → ys ≡ wordBytes code (writtenAt s code at)
+  fetched-stored bits is h q i j = pair-stored code code bits p refl h is ∙ fetched-bytes q i j
 
 -- ## The calls
 

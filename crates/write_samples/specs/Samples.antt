@@ -2,7 +2,7 @@
 use Prim.Native.Nat.{ℕ, _+_, _*_}
 use mathlib.Core.Bool.{Bool, not, _&&_}
 use mathlib.Core.List.{List, map}
-use lib.ListN.{length, take}
+use lib.ListN.{length}
 use lib.Dec.{leb, eqb}
 use Rattle.numbers.specs.Walk.{pick, walk, flat, bytesAt}
 use Rattle.numbers.specs.BigEndian.{bytesOf}
@@ -44,13 +44,9 @@ samplesChecked s code n at =
 
 -- ## Words
 
--- The four bytes of a word. Where there is none, 14 refuses the call; the bytes are then given as 00.
-abbrev pub wordContent : Written → List ℕ
-wordContent w = bytesOf 4 (wordBits w)
-
--- The bytes of a word under a code, of which code 3 has the first two.
+-- The bytes of a word under a code. Where there is none, 14 refuses the call; the bytes are then given as 00.
 abbrev pub wordBytes : ℕ → Written → List ℕ
-wordBytes code w = take (sampleBytes code) (wordContent w)
+wordBytes code w = bytesOf (sampleBytes code) (wordBits w)
 
 -- n samples from a place on.
 unfoldable pub sampleWords : List ℕ → ℕ → ℕ → ℕ → List ℕ

@@ -1,10 +1,10 @@
 // The samples of a trace, from pairs to words: whether they can be written under a code, in one loop, and their words, in a loop
-// for words of four bytes and one for words of two.
+// for words of four bytes and one for shorter words.
 ghost use mathlib.Core.Path.{_≡_};
 ghost use mathlib.Core.Bool.{true, _&&_};
-ghost use Prim.Native.Nat.{_+_, _*_, _≤_};
+ghost use Prim.Native.Nat.{_+_, _*_, _≤_, _<_};
 ghost use lib.Dec.{leb};
-ghost use lib.ListN.{length, take};
+ghost use lib.ListN.{length};
 ghost use Rattle.numbers.specs.Walk.{walk, bytesAt};
 ghost use Rattle.numbers.specs.BigEndian.{number, bytesOf};
 ghost use Rattle.numbers.specs.Cause.{firstOf};
@@ -13,10 +13,10 @@ ghost use Rattle.formats.specs.Codes.{isCode, sampleBytes};
 ghost use Rattle.value.specs.Writing.{writePair};
 ghost use Rattle.formats.specs.Words.{wordBits};
 ghost use Rattle.write_samples.specs.Samples.{pairRefused, pairCheck, wordBytes, sampleWords, samplesChecked, samplesWritten};
+use formats::Written;
 use numbers::Check;
 use numbers::Place;
 use value::Pair;
-use value::Written;
 
 // The bits of the exponent and of the mantissa of the pair at a place.
 fn exponent_at(record: &[u8], at: usize) -> u16
@@ -47,22 +47,28 @@ fn refused(word: Written, at: usize) -> Check
     }
 }
 
-// What writing a pair under a code gives, which is 1 to 4. The tests are not of equality, which the compiler would make a switch of: so it
+// What writing a pair under one of the codes gives. The tests are not of equality, which the compiler would make a switch of: so it
 // takes each out of the loop that calls this, which becomes a loop for each code.
 fn word_of(code: u32, p: Pair) -> Written
     requires { ⌜ isCode code ≡ true ⌝ }
     ensures { λ r. ⌜ r ≡ writePair code p ⌝ }
 {
     if code < 2 {
-        return p.ibm_word();
+        return value::write(1, p);
     }
     if code < 3 {
-        return p.whole32_word();
+        return value::write(2, p);
     }
     if code < 4 {
-        return p.whole16_word();
+        return value::write(3, p);
     }
-    p.gain_word()
+    if code < 5 {
+        return value::write(4, p);
+    }
+    if code < 6 {
+        return value::write(5, p);
+    }
+    value::write(8, p)
 }
 
 // The first of n pairs from start on that is refused by 13 or 14 under a code. The bits of a pair are fetched a turn early: the compiler then
@@ -91,41 +97,26 @@ fn check_pairs(record: &[u8], code: u32, n: usize, start: usize) -> Check
     refused(value::write(code, value::pair_of_bits(e, m)), at)
 }
 
-// The two bytes that code 3 has of a word.
-fn put_half(bits: u32, out: &mut [u8])
-    requires { ⌜ length (now out) ≡ 2 ⌝ }
-    ensures { λ _. ⌜ now (out .exit) ≡ take 2 (bytesOf 4 bits) ⌝ }
-{
-    let b = numbers::bytes32(bits);
-    out[0] = b[0];
-    out[1] = b[1];
-}
-
-// The bits of a word, 0 where there is none. The pairs of a record that came through the causes 11 to 14 all have a word; for one without,
-// which only the types allow here, the bits are 0, so that the loops need no condition on each pair.
-fn bits_of(word: Written) -> u32
-    ensures { λ r. ⌜ r ≡ wordBits word ⌝ }
-{
-    match word {
-        Written::Word { bits } => bits,
-        Written::Refused { number: _ } => 0,
-    }
-}
-
-// The word of a pair under a code that has four bytes. The tests are as they are in `word_of`, and for the same reason.
+// The word of a pair under a code that has four bytes. The pairs of a record that came through the causes 11 to 14 all have a word; for one
+// without, which only the types allow here, the bits are 0, so that the loops need no condition on each pair. The tests are as they are in
+// `word_of`, and for the same reason.
 fn put_word(code: u32, p: Pair, out: &mut [u8])
     requires { ⌜ (isCode code ≡ true) × (sampleBytes code ≡ 4) × (length (now out) ≡ 4) ⌝ }
     ensures { λ _. ⌜ now (out .exit) ≡ wordBytes code (writePair code p) ⌝ }
 {
     if code < 2 {
-        slices::put32(p.ibm_bits(), out);
+        slices::put32(value::bits(1, p), out);
         return;
     }
     if code < 3 {
-        slices::put32(p.whole32_bits(), out);
+        slices::put32(value::bits(2, p), out);
         return;
     }
-    slices::put32(p.gain_bits(), out);
+    if code < 5 {
+        slices::put32(value::bits(4, p), out);
+        return;
+    }
+    slices::put32(value::bits(5, p), out);
 }
 
 // The samples of a trace, words of four bytes. The bits of a pair are fetched a turn early.
@@ -150,64 +141,92 @@ fn put_words(record: &[u8], code: u32, n: usize, start: usize, out: &mut [u8])
         o = next;
         left -= 1;
     }
-    let bits = bits_of(value::write(code, value::pair_of_bits(e, m)));
+    let bits = value::bits(code, value::pair_of_bits(e, m));
     slices::put32(bits, &mut out[o..o + 4]);
 }
 
-// The same of words of two bytes, which code 3 has.
-fn put_whole16(record: &[u8], n: usize, start: usize, out: &mut [u8])
-    requires { ⌜ (start + n * 6 ≤ length (now «record»)) × (length (now out) ≡ n * 2) ⌝ }
-    ensures { λ _. ⌜ now (out .exit) ≡ sampleWords (now («record» .entry)) 3 n start ⌝ }
+// The bits of the word of a pair under a code that has two bytes or one.
+fn short_bits(code: u32, p: Pair) -> u32
+    requires { ⌜ (isCode code ≡ true) × (sampleBytes code < 4) ⌝ }
+    ensures { λ r. ⌜ r ≡ wordBits (writePair code p) ⌝ }
+{
+    if code < 4 {
+        return value::bits(3, p);
+    }
+    value::bits(8, p)
+}
+
+// The bytes of such a word: its lowest two, or its lowest.
+fn put_short(code: u32, bits: u32, out: &mut [u8])
+    requires { ⌜ (isCode code ≡ true) × (sampleBytes code < 4) × (length (now out) ≡ sampleBytes code) ⌝ }
+    ensures { λ _. ⌜ now (out .exit) ≡ bytesOf (sampleBytes code) bits ⌝ }
+{
+    let b = numbers::bytes32(bits);
+    if code < 4 {
+        out[0] = b[2];
+        out[1] = b[3];
+        return;
+    }
+    out[0] = b[3];
+}
+
+// The samples of a trace, words of two bytes or one.
+fn put_shorts(record: &[u8], code: u32, n: usize, start: usize, out: &mut [u8])
+    requires { ⌜ (isCode code ≡ true) × (sampleBytes code < 4) × (start + n * 6 ≤ length (now «record»)) × (length (now out) ≡ n * sampleBytes code) ⌝ }
+    ensures { λ _. ⌜ now (out .exit) ≡ sampleWords (now («record» .entry)) code n start ⌝ }
 {
     if n < 1 {
         return;
     }
+    let v = formats::width_of(code as usize);
     let mut at = start;
     let mut o = 0;
     let mut left = n - 1;
     let mut e = exponent_at(record, start);
     let mut m = mantissa_at(record, start);
     while 0 < left {
-        let next = o + 2;
-        put_half(value::pair_of_bits(e, m).whole16_bits(), &mut out[o..next]);
+        let next = o + v;
+        let bits = short_bits(code, value::pair_of_bits(e, m));
+        put_short(code, bits, &mut out[o..next]);
         at += 6;
         e = exponent_at(record, at);
         m = mantissa_at(record, at);
         o = next;
         left -= 1;
     }
-    put_half(value::pair_of_bits(e, m).whole16_bits(), &mut out[o..o + 2]);
+    let bits = value::bits(code, value::pair_of_bits(e, m));
+    put_short(code, bits, &mut out[o..o + v]);
 }
 
-// The samples of a trace under a code, which is 1 to 4.
+// The samples of a trace under one of the codes.
 fn put_samples(record: &[u8], code: u32, n: usize, start: usize, out: &mut [u8])
     requires { ⌜ (isCode code ≡ true) × (start + n * 6 ≤ length (now «record»)) × (length (now out) ≡ n * sampleBytes code) ⌝ }
     ensures { λ _. ⌜ now (out .exit) ≡ sampleWords (now («record» .entry)) code n start ⌝ }
 {
-    if code == 3 {
-        put_whole16(record, n, start, out);
+    if formats::width_of(code as usize) < 4 {
+        put_shorts(record, code, n, start, out);
         return;
     }
     put_words(record, code, n, start, out);
 }
 
-// Whether the code is 1 to 4, and n pairs from a place on are within so many bytes.
+// Whether the code is one of the codes, and n pairs from a place on are within so many bytes.
 fn are_there(bytes: usize, code: u32, n: usize, start: usize) -> bool
     ensures { λ r. ⌜ r ≡ (isCode code && leb (start + n * 6) bytes) ⌝ }
 {
-    if !reel::is_code(code as usize) {
+    if !formats::is_code(code as usize) {
         return false;
     }
     slices::are_within(bytes, n, 6, start)
 }
 
-// Whether a trace's samples can be written under a code: 11 where the code isn't 1 to 4; 12 where n pairs from a place on aren't all there;
+// Whether a trace's samples can be written under a code: 11 where the code is none; 12 where n pairs from a place on aren't all there;
 // else the cause 13 or 14 against the first pair that has one.
 pub fn check_samples(record: &[u8], code: u32, n: usize, start: Place) -> Check
     ensures { λ r. ⌜ r ≡ samplesChecked (now («record» .entry)) code n (placeNo start) ⌝ }
 {
     let at = start.0;
-    if !reel::is_code(code as usize) {
+    if !formats::is_code(code as usize) {
         return Check::Refused {
             number: 11,
             place: Place(0),
@@ -222,7 +241,7 @@ pub fn check_samples(record: &[u8], code: u32, n: usize, start: Place) -> Check
     check_pairs(record, code, n, at)
 }
 
-// The samples of a trace: the words of n pairs from a place on. Where the code isn't 1 to 4, the pairs aren't all there or the output isn't as
+// The samples of a trace: the words of n pairs from a place on. Where the code is none, the pairs aren't all there or the output isn't as
 // long as n words, it is left as it was.
 pub fn write_samples(record: &[u8], code: u32, n: usize, start: Place, out: &mut [u8])
     ensures { λ _. ⌜ now (out .exit) ≡ samplesWritten (now («record» .entry)) code n (placeNo start) (now (out .entry)) ⌝ }
@@ -231,7 +250,7 @@ pub fn write_samples(record: &[u8], code: u32, n: usize, start: Place, out: &mut
     if !are_there(record.len(), code, n, at) {
         return;
     }
-    if !slices::make_up(out.len(), n, reel::width_of(code as usize)) {
+    if !slices::make_up(out.len(), n, formats::width_of(code as usize)) {
         return;
     }
     put_samples(record, code, n, at, out);

@@ -1,5 +1,5 @@
 -- `write_samples::put_words` meets its contract. Assumes nothing.
-use Rattle.write_samples.proofs.WordLaws.{size-written, size-samples, samples-none, fetched-bytes, bits-stored}
+use Rattle.write_samples.proofs.WordLaws.{size-written, size-samples, samples-none, fetched-bytes, fetched-stored, bits-stored}
 use Rattle.write_samples.specs.Samples.{wordBytes, writtenAt, sampleWords}
 use Rattle.numbers.proofs.Filling.{Filling, start as begin, finish, again, next-put, last-put}
 use Rattle.numbers.proofs.WalkLaws.{times-more}
@@ -102,28 +102,27 @@ loop-again c =
     )
 
 add-put32 : tie.Need-add-put32 Inv-loop μ-loop
-add-put32 c = omega (arith, c .before .before .before .before .loop .inv .1, c .before .before .before .before .loop .inv .2)
+add-put32 c = omega (arith, c .before .before .before .loop .inv .1, c .before .before .before .loop .inv .2)
 
 part-put32-end : tie.Need-part-put32-end Inv-loop μ-loop
-part-put32-end c = omega (arith, c .before .before .before .before .loop .inv .1, c .before .before .before .before .loop .inv .2)
+part-put32-end c = omega (arith, c .before .before .before .loop .inv .1, c .before .before .before .loop .inv .2)
 
 returns-2 : tie.Need-returns-2 Inv-loop μ-loop
 unfolding sampleWords
 returns-2 c =
-    let l = c .before .before .before .before .before .before .before .before .loop in
-    let b = c .before .before .before .before .before .before .before .before .before .before .before .before .before .before in
+    let l = c .before .before .before .before .before .before .before .loop in
+    let b = c .before .before .before .before .before .before .before .before .before .before .before .before .before in
     let s = b .args .«record» .now in
-    let p = c .before .before .before .before .before .before .pair-of-bits2 in
-    let w = c .before .before .before .before .before .write in
-    let bits = c .before .before .before .before .bits-of in
-    let new = bits-stored (b .args .code) (bits .result) (w .result) _ (b .pre .1) (bits .ensures) (c .before .before .before .put32-arg .given .2 ∙ omega arith) (c .before .before .put32 .ensures)
-    ∙ ap (wordBytes (b .args .code)) (w .ensures) ∙ fetched-bytes s (b .args .code) (l .at) (l .e) (l .m) (p .result) (p .ensures) (l .inv .3) (l .inv .4) in
     let k = b .args .code in
-    last-put (wordBytes k) (writtenAt s k) 6 (sampleBytes k) (size-written s k) (l .left) (l .at) (l .o) (l .o + 4) (c .before .before .before .before .before .before .before .loop-test .left) (ap (λ (v : ℕ). l .o + v) (sym (b .pre .1))) (l .inv .5) new
+    let p = c .before .before .before .before .before .pair-of-bits2 in
+    let bits = c .before .before .before .before .bits in
+    let stored = bits-stored k (bits .result) _ (b .pre .1) (c .before .before .before .put32-arg .given .2 ∙ omega arith) (c .before .before .put32 .ensures) in
+    let new = fetched-stored s k (l .at) (l .e) (l .m) (p .result) (bits .result) stored (bits .ensures) (p .ensures) (l .inv .3) (l .inv .4) in
+    last-put (wordBytes k) (writtenAt s k) 6 (sampleBytes k) (size-written s k) (l .left) (l .at) (l .o) (l .o + 4) (c .before .before .before .before .before .before .loop-test .left) (ap (λ (v : ℕ). l .o + v) (sym (b .pre .1))) (l .inv .5) new
 
 same-length : tie.Need-same-length Inv-loop μ-loop
 same-length c =
-    let b = c .before .before .before .before .before .before .before .before .before .before .before .before .before .before in
+    let b = c .before .before .before .before .before .before .before .before .before .before .before .before .before in
     ap length (returns-2 c) ∙ sym (size b)
 
 pub put-words-spec : {M : Type 1} → statement M
@@ -148,7 +147,6 @@ put-words-spec =
     sub-left
     loop-less
     loop-again
-    (λ c κs. tt)
     (λ c κs. tt)
     (λ c κs. tt)
     add-put32
