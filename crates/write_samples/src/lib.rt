@@ -47,8 +47,8 @@ fn refused(word: Written, at: usize) -> Check
     }
 }
 
-// What writing a pair under one of the codes gives. The tests are not of equality, which the compiler would make a switch of: so it
-// takes each out of the loop that calls this, which becomes a loop for each code.
+// What writing a pair under one of the codes gives. The tests are not of equality, which the compiler would make a switch of: so it takes each
+// out of the loop that calls this, which becomes a loop for each code.
 fn word_of(code: u32, p: Pair) -> Written
     requires { ⌜ isCode code ≡ true ⌝ }
     ensures { λ r. ⌜ r ≡ writePair code p ⌝ }
@@ -145,7 +145,7 @@ fn put_words(record: &[u8], code: u32, n: usize, start: usize, out: &mut [u8])
     slices::put32(bits, &mut out[o..o + 4]);
 }
 
-// The bits of the word of a pair under a code that has two bytes or one.
+// The bits of the word of a pair under a code that has two bytes or one, 0 where there is none.
 fn short_bits(code: u32, p: Pair) -> u32
     requires { ⌜ (isCode code ≡ true) × (sampleBytes code < 4) ⌝ }
     ensures { λ r. ⌜ r ≡ wordBits (writePair code p) ⌝ }
@@ -194,8 +194,8 @@ fn put_shorts(record: &[u8], code: u32, n: usize, start: usize, out: &mut [u8])
         o = next;
         left -= 1;
     }
-    let bits = value::bits(code, value::pair_of_bits(e, m));
-    put_short(code, bits, &mut out[o..o + v]);
+    let last = value::bits(code, value::pair_of_bits(e, m));
+    put_short(code, last, &mut out[o..o + v]);
 }
 
 // The samples of a trace under one of the codes.
