@@ -52,7 +52,7 @@ use Rattle.formats.specs.Value.{exactValue}
 use Rattle.value.specs.Pair.{valueOf, isCanonical, pairIn}
 use Rattle.formats.specs.Words.{isNormal, wordOf}
 use Rattle.value.specs.Writing.{writePair}
-use Rattle.value.proofs.WrittenLaws.{Only14, only-14}
+use Rattle.formats.proofs.WordLaws.{Only14, only-14}
 use Rattle.formats.specs.declared.Written.{Written}
 use Rattle.formats.specs.declared.Written.the-variants as written
 use Rattle.sample.specs.Reading.{badGain, notNormal, pairTaken, readWord}

@@ -14,7 +14,7 @@ use Rattle.numbers.proofs.CauseLaws.{not-fine, passed, then-fine}
 use Rattle.formats.specs.Codes.{isCode}
 use Rattle.value.specs.Pair.{valueOf, isCanonical, pairLength, pairIn}
 use Rattle.formats.specs.Words.{wordOf}
-use Rattle.value.proofs.WrittenLaws.{Only14, only-14}
+use Rattle.formats.proofs.WordLaws.{Only14, only-14}
 use Rattle.value.specs.declared.Pair.{Pair}
 use Rattle.formats.specs.declared.Written.{Written}
 use Rattle.formats.specs.declared.Written.the-variants as written

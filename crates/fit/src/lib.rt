@@ -61,7 +61,7 @@ fn check_body(record: &[u8], code: u32, n: u16, i: u16) -> Check
 fn check_causes(record: &[u8], code: u32) -> Check
     ensures { λ r. ⌜ r ≡ targetCauses (now («record» .entry)) code ⌝ }
 {
-    let a = reel::check_limits(code as usize, 1, 4, 11, Place(0));
+    let a = reel::check_code(code as usize, 11, Place(0));
     let Check::Fine = a else {
         return a;
     };

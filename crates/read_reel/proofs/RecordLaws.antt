@@ -14,9 +14,9 @@ use Rattle.numbers.specs.BigEndian.{bytesOf}
 use Rattle.numbers.specs.declared.Check.the-variants.{Fine}
 use Rattle.numbers.proofs.WalkLaws.{size-walk}
 use Rattle.numbers.proofs.CauseLaws.{passed, then-fine}
-use Rattle.formats.specs.Codes.{isCode, sampleBytes}
-use Rattle.formats.specs.Value.{exactValue}
-use Rattle.sample.specs.Reading.{badGain}
+use Rattle.formats.specs.Codes.{isCode, sampleBytes, wordLength}
+use Rattle.formats.specs.Value.{exactValue, isBad, wordNumber}
+use Rattle.sample.specs.Reading.{badNumber}
 use Rattle.reel.specs.Layout.{cardBytes, firstTrace, traceHeader, samplesOf, intervalOf, codeOf, strideOf, tracesOf}
 use Rattle.reel.specs.Causes.{wordCause, traceCauses, causesOf}
 use Rattle.reel.specs.Meaning.{cardText, binaryNumbers, traceNumber, headerOf, traceMeaning, meaningOf}
@@ -58,11 +58,11 @@ head-is s h =
 -- ## Samples
 
 -- a word that is not refused
-sample-is : (s : List ℕ) (code p : ℕ) → isCode code ≡ true → wordCause s code p ≡ Fine → valueBytes (exactValue code (bytesAt s p 4)) ≡ sampleCopied s code p
-sample-is s code p h e = rw (h, passed (badGain code (bytesAt s p 4)) 9 p e)
+sample-is : (s : List ℕ) (code p : ℕ) → isCode code ≡ true → wordCause s code p ≡ Fine → valueBytes (exactValue code (bytesAt s p wordLength)) ≡ sampleCopied s code p
+sample-is s code p h e = rw (h, passed (isBad code (wordNumber code (bytesAt s p wordLength))) (badNumber code) p e)
 
 samples-walk : (s : List ℕ) (code w : ℕ) → isCode code ≡ true → (k at : ℕ) → firstOf (walk (wordCause s code) w k at) ≡ Fine
-    → flat (map valueBytes (walk (λ p. exactValue code (bytesAt s p 4)) w k at)) ≡ flat (map (sampleCopied s code) (places w k at))
+    → flat (map valueBytes (walk (λ p. exactValue code (bytesAt s p wordLength)) w k at)) ≡ flat (map (sampleCopied s code) (places w k at))
 samples-walk s code w h zero at e = refl
 samples-walk s code w h (suc k) at e =
     let t = then-fine (wordCause s code at) (firstOf (walk (wordCause s code) w k (at + w))) e in
@@ -72,7 +72,7 @@ samples-walk s code w h (suc k) at e =
 
 module _ (s : List ℕ) (code n i : ℕ) (h : isCode code ≡ true) where
   samples-are : (at : ℕ) → firstOf (walk (wordCause s code) (sampleBytes code) n at) ≡ Fine
-      → flat (map valueBytes (walk (λ p. exactValue code (bytesAt s p 4)) (sampleBytes code) n at)) ≡ samplePairs s code n at
+      → flat (map valueBytes (walk (λ p. exactValue code (bytesAt s p wordLength)) (sampleBytes code) n at)) ≡ samplePairs s code n at
   unfolding samplePairs
   samples-are at e = samples-walk s code (sampleBytes code) h n at e
 
@@ -80,7 +80,7 @@ module _ (s : List ℕ) (code n i : ℕ) (h : isCode code ≡ true) where
   unfolding traceBytes traceMeaning samplesField recordTraceCopied
   trace-is at e =
       let header = headerBytes (headerOf (traceNumber s n i at)) in
-      let samples = flat (map valueBytes (walk (λ p. exactValue code (bytesAt s p 4)) (sampleBytes code) n (at + traceHeader))) in
+      let samples = flat (map valueBytes (walk (λ p. exactValue code (bytesAt s p wordLength)) (sampleBytes code) n (at + traceHeader))) in
       let si : samples ≡ samplePairs s code n (at + traceHeader) = samples-are (at + traceHeader) (words-fine s code n i at e) in
       let hf : field 3 header ≡ tagBytes 3 180 ++ header = field-is 3 180 header (size-header (traceNumber s n i at)) in
       let sf : field 4 samples ≡ tagBytes 4 (6 * n) ++ samplePairs s code n (at + traceHeader) =
@@ -97,7 +97,7 @@ module _ (s : List ℕ) (code n i : ℕ) (h : isCode code ≡ true) where
 -- ## The record
 
 pub code-sound : (code n i : ℕ) → Numbers code n i → isCode code ≡ true
-code-sound code n i h = rw (le-leb 1 code (h .code-low)) (le-leb code 4 (h .code-high))
+code-sound code n i h = h .is-code
 
 pub record-is : (s : List ℕ) → Bytes s → causesOf s ≡ Fine → reelRecord s ≡ recordCopied s (codeOf s) (samplesOf s) (intervalOf s) (strideOf s) (tracesOf s)
 unfolding recordOf meaningOf recordCopied

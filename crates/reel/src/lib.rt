@@ -83,21 +83,21 @@ fn check_scalar(reel: &[u8], at: usize, b: ByteNo) -> Check
     Check::Refused { number: 18, place }
 }
 
-// 2: a format code that is none.
-fn check_code(code: usize, place: Place) -> Check
-    ensures { λ r. ⌜ r ≡ refuseIf (not (isCode code)) 2 (placeNo place) ⌝ }
+// A cause that applies where a number is no code: 2 for a reel's, 11 for a target.
+pub fn check_code(code: usize, number: u8, place: Place) -> Check
+    ensures { λ r. ⌜ r ≡ refuseIf (not (isCode code)) number (placeNo place) ⌝ }
 {
     if formats::is_code(code) {
         return Check::Fine;
     }
-    Check::Refused { number: 2, place }
+    Check::Refused { number, place }
 }
 
 // 2, 3 and 4: the format code, N and the interval.
 fn check_header(code: usize, n: usize, i: usize) -> Check
     ensures { λ r. ⌜ r ≡ limitCauses code n i ⌝ }
 {
-    let a = check_code(code, places::field_at(Place(0), ByteNo(3225)));
+    let a = check_code(code, 2, places::field_at(Place(0), ByteNo(3225)));
     let Check::Fine = a else {
         return a;
     };

@@ -96,7 +96,7 @@ fn write_checked(record: &[u8], code: u32, n: usize, t: usize, reel: &mut [u8]) 
     requires { ⌜ fitJudged (now «record») code ≡ Judged.Fine n t ⌝ }
     ensures { λ r. ⌜ outcome r (now (reel .exit)) ≡ writeOutcome (now («record» .entry)) code (now (reel .entry)) ⌝ }
 {
-    let v = reel::width_of(code as usize);
+    let v = formats::width_of(code as usize);
     let w = 240 + n * v;
     let length = 3600 + t * w;
     if reel.len() < length {

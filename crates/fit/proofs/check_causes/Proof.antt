@@ -22,14 +22,14 @@ use Rattle.fit.proofs.check_causes.Statement.{statement}
 use Rattle.fit.proofs.check_causes.Tie as tie
 
 a-code : (c : tie.After-enum-told) → isCode (c .before .before .before .before .args .code) ≡ true
-a-code c = not-false (isCode (c .before .before .before .before .args .code)) (passed (not (isCode (c .before .before .before .before .args .code))) 11 0 (sym (c .before .before .check-limits .ensures) ∙ c .enum-told .given .1))
+a-code c = not-false (isCode (c .before .before .before .before .args .code)) (passed (not (isCode (c .before .before .before .before .args .code))) 11 0 (sym (c .before .before .check-code .ensures) ∙ c .enum-told .given .1))
 
 front : (c : tie.After-enum-told3) → let s = c .before .before .before .before .before .before .before .args .«record» .now in then (cardsCauses s) (binaryCauses s) ≡ Fine
 front c = sym (c .before .before .check-front .ensures) ∙ c .enum-told3 .given .1
 
 returns : tie.Need-returns
 unfolding targetCauses
-returns c = let e = c .before .before .check-limits .ensures in e ∙ then-stop _ _ (sym e ∙ c .enum-told2 .given .1)
+returns c = let e = c .before .before .check-code .ensures in e ∙ then-stop _ _ (sym e ∙ c .enum-told2 .given .1)
 
 returns-2 : tie.Need-returns-2
 returns-2 c =

@@ -1,5 +1,5 @@
 -- `write_reel::put_code` meets its contract. Assumes nothing.
-use Rattle.reel.proofs.CheckLaws.{code-limits}
+use Rattle.formats.proofs.CodeLaws.{code-limits}
 use Rattle.numbers.proofs.Filling.{over}
 use Rattle.numbers.proofs.PlaceLaws.{field-place}
 use Rattle.numbers.proofs.WalkLaws.{copied}
