@@ -20,7 +20,7 @@
 -- - `program_line`, of `line`: the line is `programLine input (output before)`. That `main` reads its input, lends 65,536 bytes and prints
 --   this line is tested, not proved.
 --
--- The rows of each call are in `specs/Tables`, those of 1 to 9 and 18 in `ReelTable` of `reel_theorems`; 18, and 13 at a scalar, are set by
+-- The rows of each call are in `specs/Tables`, those of 1 to 9, 18 and 19 in `ReelTable` of `reel_theorems`; 18, and 13 at a scalar, are set by
 -- document 02 (CR 2). Over each theorem stands the clause that it answers, in the user's words; where it is a sentence of document 01, that is said. Beside each, here and in the files on the other
 -- demands, stands what it rules out of document 01's list: the six wrong programs of "Agreement between the parties", and the six "Mistakes
 -- to rule out".

@@ -9,13 +9,13 @@
 --
 -- - `reading`: where reading a reel is taken, the numbers returned are the reel's T and N and 3273 + T × (186 + 6N), the output's first
 --   bytes are the record of what the reel means, of that length, and the rest of the output keeps its content.
--- - `writing`: writing a valid record is taken, with the record's T and N and the reel's length, exactly when the code is from 1 to 4, every
+-- - `writing`: writing a valid record is taken, with the record's T and N and the reel's length, exactly when the code is one of the codes, every
 --   sample that the record holds has a word under it, and the output is long enough.
 -- - `written`: where writing is taken, the record is valid, the numbers returned are its T and N and the reel's length, the output's first
 --   bytes are the reel of what the record holds, of that length, and the rest of the output keeps its content.
 -- - `read-back`: reading the reel that was written, into an output long enough, is taken with the same T and N, and gives the record again
 --   byte for byte.
--- - `round-trip`: the second sentence at once. A valid record, a code of 1 to 4 that holds every sample exactly and an output long enough:
+-- - `round-trip`: the second sentence at once. A valid record, a code that holds every sample exactly and an output long enough:
 --   the writing is taken, and reading what it wrote gives the record again.
 --
 -- "A record is valid when neither 12 nor 13 applies to it" (document 01): `formCauses` finds nothing, and `valid-is` in `Determined` spells

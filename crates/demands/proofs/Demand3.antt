@@ -21,7 +21,7 @@
 -- - `cards-alike`, `own-alike`: of card bytes and of fields 115 and 117, the spellings taken as one, and no others. Those of elevations and
 --   coordinates are compared by value.
 -- - `reel-again`: where the reading of a reel is taken, and the writing of its record under any code is taken, the writing returns the same
---   T and N and the length of such a reel; no cause of 1 to 9 and 18 applies to the reel that was written, it is in that code, it means the same
+--   T and N and the length of such a reel; no cause of 1 to 9, 18 and 19 applies to the reel that was written, it is in that code, it means the same
 --   as the first reel and has the same record; and reading it into an output long enough is taken with the same T, N and length and the count 0, and gives
 --   that record.
 -- - `written-in-each-code`: so that `reel-again` is no empty promise, the record of a reel whose reading is taken is written under every
@@ -174,7 +174,7 @@ reel-again s out t n l c code out₂ t₂ n₂ l₂ b e e₂ =
 
 -- ## Which reels are written
 
--- THEOREM. "in whichever of the formats holds it": the record of a reel so read is written under every code of 1 to 4 that has a word for
+-- THEOREM. "in whichever of the formats holds it": the record of a reel so read is written under every code that has a word for
 -- each of the reel's sample values, "wherever the outputs are long enough".
 -- Rules out a writer that declines every record, and one whose T or length is invented.
 pub written-in-each-code : (s out : List ℕ) (t n l c : ℕ) (code : ℕ) (out₂ : List ℕ) → Bytes s → readOutcome s out .said ≡ taken (t ∷ n ∷ l ∷ c ∷ [])
@@ -205,7 +205,7 @@ trace-words s h code n i at e =
           value = refl;
         }
 
--- Each sample value of a reel to which no cause of 1 to 9 and 18 applies has a word under the reel's own code.
+-- Each sample value of a reel to which no cause of 1 to 9, 18 and 19 applies has a word under the reel's own code.
 reel-words : (s : List ℕ) → Bytes s → causesOf s ≡ Fine → Worded (codeOf s) (meaningOf s .traces)
 unfolding meaningOf
 reel-words s h f =

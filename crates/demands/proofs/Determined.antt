@@ -39,7 +39,7 @@ use Rattle.demands.specs.Results.{RecordHolds}
 
 -- ## The record that reading gives
 
--- The record of what a reel means to which no cause of 1 to 9 and 18 applies.
+-- The record of what a reel means to which no cause of 1 to 9, 18 and 19 applies.
 meant : (s : List ℕ) → Bytes s → causesOf s ≡ Fine → RecordHolds s (tracesOf s) (samplesOf s) (recordOf (meaningOf s))
 meant s b f =
     let n = samplesOf s in

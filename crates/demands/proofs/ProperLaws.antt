@@ -1,6 +1,6 @@
 -- # What reels mean and records hold is proper
 --
--- What a reel means to which no cause of 1 to 9 and 18 applies, and what a record holds to which neither 12 nor 13 applies. Each byte of either is
+-- What a reel means to which no cause of 1 to 9, 18 and 19 applies, and what a record holds to which neither 12 nor 13 applies. Each byte of either is
 -- below 256; nothing else is assumed.
 use mathlib.Core.Path.{_≡_, refl, ap, _∙_}
 use mathlib.Core.List.{List, map}
@@ -182,7 +182,7 @@ trace-meant s h code n i at p q e =
       canonical = l .canonical;
     }
 
--- LAW. What a reel means to which no cause of 1 to 9 and 18 applies is proper, with the reel's N and interval.
+-- LAW. What a reel means to which no cause of 1 to 9, 18 and 19 applies is proper, with the reel's N and interval.
 pub reel-proper : (s : List ℕ) → Bytes s → causesOf s ≡ Fine → Proper (samplesOf s) (intervalOf s) (meaningOf s)
 unfolding meaningOf
 reel-proper s h e =

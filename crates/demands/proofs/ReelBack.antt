@@ -1,7 +1,7 @@
 -- # The reel of a meaning means it again
 --
 -- A proper meaning each of whose samples has a word under a code: its reel under that code has the length that document 01 sets, its own
--- numbers are those of the meaning, no cause of 1 to 9 and 18 applies to it, and it means that meaning. Nothing else is assumed.
+-- numbers are those of the meaning, no cause of 1 to 9, 18 and 19 applies to it, and it means that meaning. Nothing else is assumed.
 use mathlib.Core.Path.{_≡_, refl, sym, ap, ap₂, _∙_, subst}
 use mathlib.Core.List.{List, [], _∷_, _++_, map, map-id, append-nil, append-assoc}
 use mathlib.Core.Bool.{Bool, true, false, not, _&&_}
@@ -339,7 +339,7 @@ module _ (code n i : ℕ) (m : Meaning) (p : Proper n i m) (c : isCode code ≡ 
   unfolding behindCauses
   behind-fine = rw (whole, over, le-ltb mostTraces (length (m .traces)) (p .few)) traces-fine
 
-  -- LAW. No cause of 1 to 9 and 18 applies to the reel.
+  -- LAW. No cause of 1 to 9, 18 and 19 applies to the reel.
   pub reel-no-cause : causesOf (reelOf code m) ≡ Fine
   unfolding causesOf
   reel-no-cause =

@@ -7,7 +7,7 @@
 --
 -- - `positive-multiplies`, `negative-divides`, `zero-as-one`: what a scalar does to a number; scaled values are whole numbers over 10,000.
 -- - `own-power`: the power of a reel's own scalar is one of the nine, and serves its group.
--- - `has-record`: so every reel to which none of 1 to 9 and 18 applies has a record, which is valid and holds what the reel means.
+-- - `has-record`: so every reel to which none of 1 to 9, 18 and 19 applies has a record, which is valid and holds what the reel means.
 -- - `record-scalars`: where the reading of a reel is taken, the record holds each group of each trace at the smallest power, spelled out:
 --   at each smaller power some number leaves 32 signed bits.
 -- - `smallest-means`, `scalar-means`: 13's test of a scalar in a record, spelled out alike, of numbers that fit 32 signed bits and of the

@@ -41,7 +41,7 @@ use Rattle.demands.specs.Words.{HasWord, Worded}
 
 -- ## Words for every sample
 
--- The samples of a proper meaning fit a code of 1 to 4 exactly when each has a word under it.
+-- The samples of a proper meaning fit a code exactly when each has a word under it.
 module _ (code n i : ℕ) (m : Meaning) (p : Proper n i m) (c : isCode code ≡ true) where
   pub fitting-words : Fitting code m → Worded code (m .traces)
   fitting-words f =
@@ -55,7 +55,7 @@ module _ (code n i : ℕ) (m : Meaning) (p : Proper n i m) (c : isCode code ≡ 
 
 -- ## Readings
 
--- Where no cause of 1 to 9 and 18 applies to a reel, and the output is long enough, its reading is taken.
+-- Where no cause of 1 to 9, 18 and 19 applies to a reel, and the output is long enough, its reading is taken.
 pub read-taken : (s out : List ℕ) → causesOf s ≡ Fine → recordLengthOf s ≤ length out → readOutcome s out ≡ readEnd s out Fine
 read-taken s out f h =
     let k = recordLengthOf s in
@@ -69,7 +69,7 @@ meant-count s = size-walk (traceMeaning s (codeOf s) (samplesOf s) (intervalOf s
 
 -- ## Writings
 
--- What a writing needs: a code of 1 to 4, a record to which neither 12 nor 13 applies, no cause of 14, and an output that is long enough.
+-- What a writing needs: a code, a record to which neither 12 nor 13 applies, no cause of 14, and an output that is long enough.
 pub record Writable (r : List ℕ) (code : ℕ) (out : List ℕ) : Type 0 where
   pub code-is : isCode code ≡ true
   pub form : formCauses r ≡ Fine
@@ -108,7 +108,7 @@ module _ (r : List ℕ) (code : ℕ) (out : List ℕ) where
       ∙ ap (λ (c : Check). writeEnd r code out (then c (refuseIf (ltb (length out) k) 10 k))) (w .fit)
       ∙ ap (writeEnd r code out) room
 
--- A valid record, a code of 1 to 4 that has a word for each of its samples and an output long enough are what a writing needs.
+-- A valid record, a code that has a word for each of its samples and an output long enough are what a writing needs.
 pub needs : (r : List ℕ) (code : ℕ) (out : List ℕ) → Bytes r → formCauses r ≡ Fine → isCode code ≡ true → Worded code (heldBy r .traces)
     → reelLengthOf r code ≤ length out → Writable r code out
 needs r code out b v c f h =
@@ -150,7 +150,7 @@ module _ (r : List ℕ) (b : Bytes r) (code : ℕ) (out : List ℕ) (w : Writabl
   pub written-bytes : Bytes (reelOf code (heldBy r))
   written-bytes = reel-bytes code (heldSamples r) (heldInterval r) (heldBy r) proper (w .code-is) fitting
 
-  -- No cause of 1 to 9 and 18 applies to it.
+  -- No cause of 1 to 9, 18 and 19 applies to it.
   pub written-no-cause : causesOf (reelOf code (heldBy r)) ≡ Fine
   written-no-cause = reel-no-cause code (heldSamples r) (heldInterval r) (heldBy r) proper (w .code-is) fitting
 

@@ -92,7 +92,7 @@ example = exampleWith (0x41 ∷ 0x10 ∷ 0 ∷ 0 ∷ 0xC2 ∷ 0x76 ∷ 0xA0 ∷ 
 
 -- ## Writing a record
 
--- What it takes to write a record: the code is from 1 to 4, it holds every sample exactly, and the output is long enough.
+-- What it takes to write a record: the code is one of the codes, it holds every sample exactly, and the output is long enough.
 pub record CanBeWritten (r : List ℕ) (code : ℕ) (out : List ℕ) : Type 0 where
   pub code-is : isCode code ≡ true
   pub held : Worded code (heldBy r .traces)
@@ -121,7 +121,7 @@ pub record ReelAgain (s : List ℕ) (t n l : ℕ) (r : List ℕ) (code t₂ n₂
   pub traces : t₂ ≡ t
   pub samples : n₂ ≡ n
   pub size : l₂ ≡ 3600 + t * (240 + n * sampleBytes code)
-  -- No cause of 1 to 9 and 18 applies to the reel that was written, and its format code is the one asked for.
+  -- No cause of 1 to 9, 18 and 19 applies to the reel that was written, and its format code is the one asked for.
   pub no-cause : causesOf reel ≡ Fine
   pub code-is : codeOf reel ≡ code
   -- It means the same as the reel s.

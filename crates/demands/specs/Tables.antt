@@ -25,9 +25,9 @@ use Rattle.demands.specs.Words.{HasWord}
 -- ## Reading
 
 -- "Reading: 1 to 6 in that order; then trace by trace 7, 8, 9 (first such word); then 10." And 18 "in each trace after 8, field 69 first"
--- (document 02, CR 2). The rows of 1 to 9 and 18 are `ReelRow`, in `ReelTable` of `reel_theorems`; the output has `room` bytes.
+-- (document 02, CR 2). The rows of 1 to 9, 18 and 19 are `ReelRow`, in `ReelTable` of `reel_theorems`; the output has `room` bytes.
 pub data ReadRow (s : List ℕ) (room : ℕ) : ℕ → ℕ → Type 0 where
-  -- 1 to 9 and 18: a row of their table applies to the reel
+  -- 1 to 9, 18 and 19: a row of their table applies to the reel
   by-reel : {number place : ℕ} → ReelRow s number place → ReadRow s room number place
   -- 10: none of them applies, and the output is too short for the record, with the record's length, 3273 + T × (186 + 6N)
   short-output : ((number place : ℕ) → ¬ (ReelRow s number place)) → room < recordLengthOf s → ReadRow s room 10 (recordLengthOf s)
@@ -134,7 +134,7 @@ NoField k b = All (λ f. ¬ (f .begins ≡ byteNo b)) (headerFields k)
 -- "Look-up takes a reel, a trace number (0 means the binary header, 1 the first trace) and a byte number. It refuses by 1 to 9, then 15,
 -- then 16." And by 18, where reading does: "look-up included" (document 02, CR 2). The trace number is k, the byte number b.
 pub data LookUpRow (s : List ℕ) (k : ℕ) (b : ByteNo) : ℕ → ℕ → Type 0 where
-  -- 1 to 9 and 18: a row of their table applies to the reel
+  -- 1 to 9, 18 and 19: a row of their table applies to the reel
   by-reel : {number place : ℕ} → ReelRow s number place → LookUpRow s k b number place
   -- 15: the reel has no trace k
   no-trace : ((number place : ℕ) → ¬ (ReelRow s number place)) → tracesOf s < k → LookUpRow s k b 15 0

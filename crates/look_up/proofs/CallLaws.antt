@@ -99,7 +99,7 @@ is-found k b = go (eqb k 0)
     go true = binary-told (byteNo b) .is
     go false = trace-told (byteNo b) .is
 
--- where none of 1 to 9 and 18 applies, 15 and 16 are the causes
+-- where none of 1 to 9, 18 and 19 applies, 15 and 16 are the causes
 pub causes-are : (s : List ℕ) (t k : ℕ) (b : ByteNo) (w : ℕ) → causesOf s ≡ Fine → t ≡ tracesOf s → w ≡ widthOf (fieldAt k b)
     → fieldCauses t k (eqb w 0) ≡ lookUpCauses s k b
 causes-are s t k b w f p q = rw (f, nowhere k b, p, q)

@@ -62,7 +62,7 @@ foundNumber s k none = pos 0
 abbrev pub fieldCauses : ℕ → ℕ → Bool → Check
 fieldCauses t k missing = firstOf (refuseIf (ltb t k) 15 0 ∷ refuseIf missing 16 0 ∷ [])
 
--- 1 to 9 and 18; then 15 and 16.
+-- 1 to 9, 18 and 19; then 15 and 16.
 abbrev pub lookUpCauses : List ℕ → ℕ → ByteNo → Check
 lookUpCauses s k b = then (causesOf s) (fieldCauses (tracesOf s) k (isNone (fieldAt k b)))
 

@@ -34,7 +34,7 @@ pub record OnReel (s : List ℕ) (start b w : ℕ) : Type 0 where
   pub from : 1 ≤ b
   pub end : start + (b - 1) + w ≤ length s
 
--- A reel to which none of 1 to 9 and 18 applies, with its own numbers: N, the interval, and the bytes from trace to trace.
+-- A reel to which none of 1 to 9, 18 and 19 applies, with its own numbers: N, the interval, and the bytes from trace to trace.
 pub record Own (s : List ℕ) (n i w : ℕ) : Type 0 where
   pub fine : causesOf s ≡ Fine
   pub samples : n ≡ samplesOf s

@@ -177,7 +177,7 @@ fn check_field(traces: usize, trace: usize, width: u32) -> Check
     Check::Fine
 }
 
-// One header field of a reel to which none of 1 to 9 and 18 applies.
+// One header field of a reel to which none of 1 to 9, 18 and 19 applies.
 fn look(
     reel: &[u8],
     samples: usize,

@@ -21,7 +21,7 @@ recordLengthOf s = recordLength (tracesOf s) (samplesOf s)
 abbrev pub readNumbers : List ℕ → List ℕ
 readNumbers s = tracesOf s ∷ samplesOf s ∷ recordLengthOf s ∷ notNormalOf s ∷ []
 
--- 1 to 9 and 18, then 10: the output is too short.
+-- 1 to 9, 18 and 19, then 10: the output is too short.
 abbrev pub readCauses : List ℕ → ℕ → Check
 readCauses s room = then (causesOf s) (refuseIf (ltb room (recordLengthOf s)) 10 (recordLengthOf s))
 

@@ -153,7 +153,7 @@ fn put_record(reel: &[u8], code: usize, n: u16, i: u16, w: usize, t: usize, out:
     count
 }
 
-// A reel to which no cause of 1 to 9 and 18 applies, by its own numbers.
+// A reel to which no cause of 1 to 9, 18 and 19 applies, by its own numbers.
 fn read_checked(
     reel: &[u8],
     code: usize,

@@ -29,7 +29,7 @@ pub taken-fine : (s out numbers : List ℕ) → readOutcome s out .said ≡ take
 taken-fine s out numbers e =
     says-fine (λ (c : Check). readEnd s out c .said) (readNumbers s) refl (λ n p. refl) (readCauses s (length out)) numbers e
 
--- the reel of a reading that is taken has no cause of 1 to 9 and 18
+-- the reel of a reading that is taken has no cause of 1 to 9, 18 and 19
 pub taken-reel : (s out numbers : List ℕ) → readOutcome s out .said ≡ taken numbers → causesOf s ≡ Fine
 taken-reel s out numbers e = then-fine (causesOf s) _ (taken-fine s out numbers e) .0
 

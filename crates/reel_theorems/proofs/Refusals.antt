@@ -1,15 +1,15 @@
 -- # Refusals are exact
 --
--- The table of the causes 1 to 9 and 18 is `ReelTable`, in `specs/`. A reel is refused by a number with a place exactly when that row of the table
+-- The table of the causes 1 to 9, 18 and 19 is `ReelTable`, in `specs/`. A reel is refused by a number with a place exactly when that row of the table
 -- applies to it, and it has no cause exactly when no row does. Assumes nothing.
-use mathlib.Core.Path.{_≡_, refl, sym, subst}
+use mathlib.Core.Path.{_≡_, refl, sym, ap, _∙_, subst}
 use mathlib.Core.List.{List, [], _∷_}
 use mathlib.Core.Logic.{_⊎_, inl, inr}
 use mathlib.Core.Bool.{Bool, true, false, not, _&&_, _||_}
-use Prim.Native.Nat.{ℕ, _+_, _-_, _*_, _≤_, _<_}
+use Prim.Native.Nat.{ℕ, _+_, _-_, _*_, _^_, _≤_, _<_}
 use native.Mathlib.Nat.{div-add-mod'}
 use native.Mathlib.Omega.{arith}
-use borrow.Author.Tests.{ltb-true, ltb-false, eqb-true, eqb-false, eq-eqb}
+use borrow.Author.Tests.{lt-ltb, ltb-true, ltb-false, eqb-true, eqb-false, eq-eqb, ne-eqb, not-true, not-false}
 use lib.Dec.{T, ltb, eqb}
 use lib.IntN.{natAbs}
 use lib.ListN.{length, getD}
@@ -21,22 +21,30 @@ use Rattle.numbers.specs.declared.Check.the-variants.{Fine, Refused}
 use Rattle.numbers.specs.Iff.{Iff}
 use Rattle.numbers.specs.Terms.{atPlace, Between, ZeroOr}
 use Rattle.numbers.proofs.RowLaws.{Tests, test-by, then-row, then-first, then-second, fine-then, refused-then, holds-then, row-then, no-row, test-between, test-either, test-room, not-enough, too-short, first-is, first-of, walk-fine, walk-holds, walk-refused, walk-row, fine-none}
-use Rattle.formats.specs.Codes.{isCode, sampleBytes}
+use Rattle.numbers.specs.BigEndian.{number}
+use Rattle.formats.specs.Codes.{isCode, sampleBytes, wordLength}
+use Rattle.formats.specs.Value.{isFinite, isBad, wordNumber}
+use Rattle.formats.proofs.CodeLaws.{word-there}
+use Rattle.sample.specs.Reading.{badNumber}
 use Rattle.numbers.proofs.BoolLaws.{or-true}
 use Rattle.scalars.specs.Scalar.{isAmong, isAllowed}
 use Rattle.reel.specs.Layout.{Field, elevationScalar, coordinateScalar, fieldNumber, firstTrace, traceHeader, number16, samplesOf, intervalOf, codeOf, strideOf, overIn, tracesOf}
 use Rattle.reel.specs.Causes.{mostSamples, mostTraces, mostInterval, within, neither, limitCauses, sizeCauses, scalarCause, wordCause, traceCauses, behindCauses, causesOf}
-use Rattle.reel_theorems.specs.ReelTable.{traceAt, sampleAt, Headed, Whole, OwnNumbers, Among, Allowed, Passed, Until, ReelRow, short-reel, bad-code, bad-samples, bad-interval, left-over, many, bad-115, bad-117, bad-69, bad-71, bad-gain}
+use Rattle.reel_theorems.specs.ReelTable.{traceAt, sampleAt, wordAt, ZeroFirst, FiniteAt, HasValue, Headed, Whole, OwnNumbers, Among, Allowed, Passed, Until, ReelRow, short-reel, bad-code, bad-samples, bad-interval, left-over, many, bad-115, bad-117, bad-69, bad-71, bad-gain, not-finite}
 
 -- ## Headers and size
+
+-- A number that is a code.
+pub test-code : (code number place : ℕ) → Tests (isCode code ≡ true) number place (refuseIf (not (isCode code)) number place)
+test-code code number place = test-by (isCode code ≡ true) (isCode code) number place (λ e. e) (λ e. e)
 
 module _ (s : List ℕ) where
   -- The tests of 1 to 6.
   long-test : Tests (3600 ≤ length s) 1 (length s) (refuseIf (ltb (length s) firstTrace) 1 (length s))
   long-test = test-room (length s) 3600 1 (length s)
 
-  code-test : Tests (Between 1 4 (codeOf s)) 2 3224 (refuseIf (not (isCode (codeOf s))) 2 3224)
-  code-test = test-between 1 4 (codeOf s) 2 3224
+  code-test : Tests (isCode (codeOf s) ≡ true) 2 3224 (refuseIf (not (isCode (codeOf s))) 2 3224)
+  code-test = test-code (codeOf s) 2 3224
 
   samples-test : Tests (Between 1 8000 (samplesOf s)) 3 3220 (refuseIf (not (within 1 mostSamples (samplesOf s))) 3 3220)
   samples-test = test-between 1 8000 (samplesOf s) 3 3220
@@ -97,19 +105,56 @@ module _ (s : List ℕ) where
 
 -- ## Traces
 
--- The first cause of 7, 8, 18 and 9 of the trace at a place.
+-- The first cause of 7, 8, 18, 9 and 19 of the trace at a place.
 abbrev causesAt : List ℕ → ℕ → Check
 causesAt s at = traceCauses s (codeOf s) (samplesOf s) (intervalOf s) at
 
--- A sample that begins with 00 under code 4.
-test-gain : (s : List ℕ) (code at : ℕ) → Tests (code ≡ 4 → getD s at 0 ≡ 0) 9 at (wordCause s code at)
-unfolding bytesAt
-test-gain s code at = go (eqb code 4) (eqb (getD s at 0) 0) refl refl
+-- A word at a place has a value: it begins with 00 under code 4, and is finite under code 5.
+record Valued (s : List ℕ) (code at : ℕ) : Type 0 where
+  zero : code ≡ 4 → ZeroFirst s at
+  finite : code ≡ 5 → FiniteAt s at
+
+test-word : (s : List ℕ) (code at : ℕ) → Tests (Valued s code at) (badNumber code) at (wordCause s code at)
+test-word s code at = go (isBad code (wordNumber code (bytesAt s at wordLength))) refl
   where
-    go : (a b : Bool) → eqb code 4 ≡ a → eqb (getD s at 0) 0 ≡ b → Tests (code ≡ 4 → getD s at 0 ≡ 0) 9 at (refuseIf (a && not b) 9 at)
-    go false b p q = inl (λ c. absurd (eqb-false code 4 p c), refl)
-    go true true p q = inl (λ c. eqb-true (getD s at 0) 0 q, refl)
-    go true false p q = inr (λ h. eqb-false (getD s at 0) 0 q (h (eqb-true code 4 p)), refl)
+    four : (k : ℕ) → code ≡ k → sampleBytes k ≡ 4 → wordNumber code (bytesAt s at wordLength) ≡ wordAt s at
+    four k e h = word-there s code at ∙ ap (λ (m : ℕ). number (bytesAt s at m)) (ap sampleBytes e ∙ h)
+
+    -- under each code, what is bad
+    gain-bad : code ≡ 4 → isBad code (wordNumber code (bytesAt s at wordLength)) ≡ not (ltb (wordAt s at) (2 ^ 24))
+    gain-bad e = ap (isBad code) (four 4 e refl) ∙ rw e
+
+    ieee-bad : code ≡ 5 → isBad code (wordNumber code (bytesAt s at wordLength)) ≡ not (isFinite 8 23 (wordAt s at))
+    ieee-bad e = ap (isBad code) (four 5 e refl) ∙ rw e
+
+    other-bad : (code ≡ 4 → ⊥) → (code ≡ 5 → ⊥) → isBad code (wordNumber code (bytesAt s at wordLength)) ≡ false
+    other-bad p q = rw (ne-eqb code 4 p, ne-eqb code 5 q)
+
+    go : (b : Bool) → isBad code (wordNumber code (bytesAt s at wordLength)) ≡ b → Tests (Valued s code at) (badNumber code) at (refuseIf b (badNumber code) at)
+    go false h =
+        inl (record { zero = λ e. ltb-true _ _ (not-false _ (sym (gain-bad e) ∙ h)); finite = λ e. not-false _ (sym (ieee-bad e) ∙ h) }, refl)
+    go true h = inr (none (eqb code 4) (eqb code 5) refl refl, refl)
+      where
+        none : (a b : Bool) → eqb code 4 ≡ a → eqb code 5 ≡ b → ¬ (Valued s code at)
+        none true b p q v = let e = eqb-true code 4 p in subst T (sym (lt-ltb _ _ (v .zero e)) ∙ not-true _ (sym (gain-bad e) ∙ h)) tt
+        none false true p q v = let e = eqb-true code 5 q in subst T (sym (v .finite e) ∙ not-true _ (sym (ieee-bad e) ∙ h)) tt
+        none false false p q v = subst T (sym h ∙ other-bad (eqb-false code 4 p) (eqb-false code 5 q)) tt
+
+-- Where it has none, the code is 4 or 5.
+bad-code-is : (s : List ℕ) (code at : ℕ) → ¬ (Valued s code at) → (code ≡ 4) ⊎ (code ≡ 5)
+bad-code-is s code at h = go (eqb code 4) (eqb code 5) refl refl
+  where
+    go : (a b : Bool) → eqb code 4 ≡ a → eqb code 5 ≡ b → (code ≡ 4) ⊎ (code ≡ 5)
+    go true b p q = inl (eqb-true code 4 p)
+    go false true p q = inr (eqb-true code 5 q)
+    go false false p q = absurd (h (record { zero = λ e. absurd (eqb-false code 4 p e); finite = λ e. absurd (eqb-false code 5 q e) }))
+
+-- Under each of them, what it has not.
+gain-valued : (s : List ℕ) (code at : ℕ) → code ≡ 4 → ZeroFirst s at → Valued s code at
+gain-valued s code at e h = record { zero = λ c. h; finite = λ c. absurd (let z : _≡_ {A = ℕ} 4 5 = sym e ∙ c in omega arith) }
+
+ieee-valued : (s : List ℕ) (code at : ℕ) → code ≡ 5 → FiniteAt s at → Valued s code at
+ieee-valued s code at e h = record { zero = λ c. absurd (let z : _≡_ {A = ℕ} 5 4 = sym e ∙ c in omega arith); finite = λ c. h }
 
 -- A number that is found in a list is one of its numbers, and the other way round.
 among-is : (n : ℕ) (ms : List ℕ) → isAmong n ms ≡ true → Among n ms
@@ -125,16 +170,8 @@ is-among n [] h = absurd h
 is-among n (m ∷ ms) (inl e) = rw (eq-eqb n m e)
 is-among n (m ∷ ms) (inr h) = rw (is-among n ms h) (or-true (eqb n m))
 
--- Where it doesn't, the code is 4.
-gain-code : (code b : ℕ) → ¬ (code ≡ 4 → b ≡ 0) → code ≡ 4
-gain-code code b h = go (eqb code 4) refl
-  where
-    go : (x : Bool) → eqb code 4 ≡ x → code ≡ 4
-    go true e = eqb-true code 4 e
-    go false e = absurd (h (λ c. absurd (eqb-false code 4 e c)))
-
 module _ (s : List ℕ) (k : ℕ) where
-  -- The tests of 7, 8, 18 and 9.
+  -- The tests of 7, 8, 18, 9 and 19.
   count-test : Tests (ZeroOr (samplesOf s) (number16 s (traceAt s k + 114))) 7 (traceAt s k + 114) (refuseIf (neither (number16 s (traceAt s k + 114)) (samplesOf s)) 7 (traceAt s k + 114))
   count-test = test-either (samplesOf s) (number16 s (traceAt s k + 114)) 7 (traceAt s k + 114)
 
@@ -153,14 +190,18 @@ module _ (s : List ℕ) (k : ℕ) where
   unfolding traceCauses
   behind-head o e c q = fine-then count-test (o .count) (fine-then own-test (o .interval) (fine-then (scalar-test elevationScalar) e (fine-then (scalar-test coordinateScalar) c q)))
 
-  gain-tests : (j : ℕ) → j < samplesOf s → Tests (codeOf s ≡ 4 → getD s (sampleAt s k j) 0 ≡ 0) 9 (sampleAt s k j) (wordCause s (codeOf s) (sampleAt s k j))
-  gain-tests j l = test-gain s (codeOf s) (sampleAt s k j)
+  -- Each of its words.
+  abbrev valued : ℕ → Type 0
+  valued j = Valued s (codeOf s) (sampleAt s k j)
+
+  word-tests : (j : ℕ) → j < samplesOf s → Tests (valued j) (badNumber (codeOf s)) (sampleAt s k j) (wordCause s (codeOf s) (sampleAt s k j))
+  word-tests j l = test-word s (codeOf s) (sampleAt s k j)
 
   -- Where none of them applies to a trace, it has no cause.
   from-passed : Passed s k → causesAt s (traceAt s k) ≡ Fine
   from-passed h =
       behind-head (h .own) (h .elevations) (h .coordinates)
-      (walk-fine (λ j. codeOf s ≡ 4 → getD s (sampleAt s k j) 0 ≡ 0) 9 (wordCause s (codeOf s)) (sampleBytes (codeOf s)) (samplesOf s) (traceAt s k + traceHeader) (sampleAt s k) gain-tests (h .words))
+      (walk-fine valued (badNumber (codeOf s)) (wordCause s (codeOf s)) (sampleBytes (codeOf s)) (samplesOf s) (traceAt s k + traceHeader) (sampleAt s k) word-tests (λ j l. let v = h .words j l in record { zero = v .zero; finite = v .finite }))
 
   -- And where it has no cause, none of them applies.
   to-passed : causesAt s (traceAt s k) ≡ Fine → Passed s k
@@ -174,7 +215,7 @@ module _ (s : List ℕ) (k : ℕ) where
         own = record { count = a .0; interval = b .0 };
         elevations = c .0;
         coordinates = d .0;
-        words = walk-holds (λ j. codeOf s ≡ 4 → getD s (sampleAt s k j) 0 ≡ 0) 9 (wordCause s (codeOf s)) (sampleBytes (codeOf s)) (samplesOf s) (traceAt s k + traceHeader) (sampleAt s k) gain-tests (d .1);
+        words = λ j l. let v = walk-holds valued (badNumber (codeOf s)) (wordCause s (codeOf s)) (sampleBytes (codeOf s)) (samplesOf s) (traceAt s k + traceHeader) (sampleAt s k) word-tests (d .1) j l in record { zero = v .zero; finite = v .finite };
       }
 
 -- ## From the rows to the causes
@@ -195,6 +236,14 @@ module _ (s : List ℕ) where
       (fine-then (over-test s (w .headed .long)) (w .whole) (fine-then (few-test s) (w .few) refl))
       (first-of (causesAt s) (strideOf s) (tracesOf s) firstTrace n p (record { j = k; below = h .trace; before = λ i l. from-passed s i (h .before i l); here = e })))
 
+  -- A word without a value is the cause of its trace, where the words before it have one.
+  from-word : (k j : ℕ) → Until s k → OwnNumbers s k → Allowed s k elevationScalar → Allowed s k coordinateScalar → j < samplesOf s → ((i : ℕ) → i < j → valued s k i) → ¬ (valued s k j)
+      → causesOf s ≡ Refused (badNumber (codeOf s)) (atPlace (sampleAt s k j))
+  from-word k j u o e c l b h =
+      from-trace k u
+      (behind-head s k o e c
+      (walk-refused (valued s k) (badNumber (codeOf s)) (wordCause s (codeOf s)) (sampleBytes (codeOf s)) (samplesOf s) (traceAt s k + traceHeader) (sampleAt s k) (word-tests s k) j l b h))
+
   -- Each row is the answer where it applies: all that comes before it finds nothing, and its own test refuses.
   from-row : {n p : ℕ} → ReelRow s n p → causesOf s ≡ Refused n (atPlace p)
   unfolding causesOf traceCauses
@@ -214,11 +263,24 @@ module _ (s : List ℕ) where
       (fine-then (own-test s k) (o .interval)
       (fine-then (scalar-test s k elevationScalar) e (refused-then (scalar-test s k coordinateScalar) _ h))))
   from-row (bad-gain k j u o e c g l b h) =
-      from-trace k u
-      (behind-head s k o e c
-      (walk-refused (λ y. codeOf s ≡ 4 → getD s (sampleAt s k y) 0 ≡ 0) 9 (wordCause s (codeOf s)) (sampleBytes (codeOf s)) (samplesOf s) (traceAt s k + traceHeader) (sampleAt s k) (gain-tests s k) j l (λ y m q. b y m) (λ q. h (q g))))
+      subst (λ (x : ℕ). causesOf s ≡ Refused x (atPlace (sampleAt s k j))) (ap badNumber g)
+      (from-word k j u o e c l (λ y m. gain-valued s (codeOf s) (sampleAt s k y) g (b y m)) (λ q. h (q .zero g)))
+  from-row (not-finite k j u o e c g l b h) =
+      subst (λ (x : ℕ). causesOf s ≡ Refused x (atPlace (sampleAt s k j))) (ap badNumber g)
+      (from-word k j u o e c l (λ y m. ieee-valued s (codeOf s) (sampleAt s k y) g (b y m)) (λ q. h (q .finite g)))
 
 -- ## From the causes to the rows
+
+module _ (s : List ℕ) where
+  -- A word without a value has its row, by the code.
+  to-word : (k j : ℕ) → Until s k → OwnNumbers s k → Allowed s k elevationScalar → Allowed s k coordinateScalar → j < samplesOf s → ((i : ℕ) → i < j → valued s k i) → ¬ (valued s k j)
+      → (codeOf s ≡ 4) ⊎ (codeOf s ≡ 5) → ReelRow s (badNumber (codeOf s)) (sampleAt s k j)
+  to-word k j u o e c l b h (inl g) =
+      subst (λ (x : ℕ). ReelRow s x (sampleAt s k j)) (sym (ap badNumber g))
+      (bad-gain k j u o e c g l (λ i m. b i m .zero g) (λ z. h (gain-valued s (codeOf s) (sampleAt s k j) g z)))
+  to-word k j u o e c l b h (inr g) =
+      subst (λ (x : ℕ). ReelRow s x (sampleAt s k j)) (sym (ap badNumber g))
+      (not-finite k j u o e c g l (λ i m. b i m .finite g) (λ z. h (ieee-valued s (codeOf s) (sampleAt s k j) g z)))
 
 module _ (s : List ℕ) {n p : ℕ} where
   -- What 2 to 4 refuse has its row.
@@ -241,8 +303,8 @@ module _ (s : List ℕ) {n p : ℕ} where
       (λ c. row-then (own-test s k) (ReelRow s) (bad-117 k u c)
       (λ q. row-then (scalar-test s k elevationScalar) (ReelRow s) (bad-69 k u (record { count = c; interval = q }))
       (λ e. row-then (scalar-test s k coordinateScalar) (ReelRow s) (bad-71 k u (record { count = c; interval = q }) e)
-      (λ d. walk-row (λ j. codeOf s ≡ 4 → getD s (sampleAt s k j) 0 ≡ 0) 9 (wordCause s (codeOf s)) (sampleBytes (codeOf s)) (samplesOf s) (traceAt s k + traceHeader) (sampleAt s k) (gain-tests s k) (ReelRow s)
-      (λ j l b h. let g = gain-code (codeOf s) (getD s (sampleAt s k j) 0) h in bad-gain k j u (record { count = c; interval = q }) e d g l (λ i m. b i m g) (λ z. h (λ x. z)))))))
+      (λ d. walk-row (valued s k) (badNumber (codeOf s)) (wordCause s (codeOf s)) (sampleBytes (codeOf s)) (samplesOf s) (traceAt s k + traceHeader) (sampleAt s k) (word-tests s k) (ReelRow s)
+      (λ j l b h. to-word s k j u (record { count = c; interval = q }) e d l b h (bad-code-is s (codeOf s) (sampleAt s k j) h))))))
 
   -- What is refused has its row: the first that applies.
   to-row : causesOf s ≡ Refused n (atPlace p) → ReelRow s n p
@@ -255,10 +317,10 @@ module _ (s : List ℕ) {n p : ℕ} where
       (λ z y. let r = first-is (causesAt s) (strideOf s) (tracesOf s) firstTrace n p y in
       to-trace (r .j) (record { reel = to-whole s h z; trace = r .below; before = λ i m. to-passed s i (r .before i m) }) (r .here))))
 
--- THEOREM. A reel has a cause of 1 to 9 and 18, with what stands beside it, exactly when that row of the table applies.
+-- THEOREM. A reel has a cause of 1 to 9, 18 and 19, with what stands beside it, exactly when that row of the table applies.
 pub exact-causes : (s : List ℕ) (number place : ℕ) → Iff (causesOf s ≡ Refused number (atPlace place)) (ReelRow s number place)
 exact-causes s number place = (to-row s, from-row s)
 
--- THEOREM. No cause of 1 to 9 and 18 applies to a reel exactly when no row of the table does.
+-- THEOREM. No cause of 1 to 9, 18 and 19 applies to a reel exactly when no row of the table does.
 pub no-cause : (s : List ℕ) → Iff (causesOf s ≡ Fine) ((number place : ℕ) → ¬ (ReelRow s number place))
 no-cause s = fine-none (ReelRow s) (causesOf s) (exact-causes s)

@@ -1,6 +1,6 @@
 -- # Records are equal exactly when the reels mean the same
 --
--- The first half of the user's third demand: for any two reels, each in any code, to which no cause of 1 to 9 and 18 applies, the records are
+-- The first half of the user's third demand: for any two reels, each in any code, to which no cause of 1 to 9, 18 and 19 applies, the records are
 -- equal byte for byte exactly when the reels mean the same. Each byte of a reel is below 256; nothing else is assumed.
 use mathlib.Core.Path.{_≡_, refl, sym, ap, ap₂, _∙_, subst}
 use mathlib.Core.List.{List, [], _∷_, _++_, map, append-nil}
@@ -25,7 +25,7 @@ use Rattle.formats.specs.Value.{exactValue}
 use Rattle.value.specs.Pair.{pairOf, valueOf, isCanonical, pairIn}
 use Rattle.sample_theorems.proofs.Pairs.{pair-value, bytes-pair, value-canonical}
 use Rattle.reel.specs.Layout.{fieldsFrom, binaryWidths, binaryFields, traceWidths, traceFields, fieldNumber, firstTrace, traceHeader, samplesOf, intervalOf, codeOf, strideOf, tracesOf}
-use Rattle.formats.specs.Codes.{sampleBytes}
+use Rattle.formats.specs.Codes.{isCode, sampleBytes, wordLength}
 use Rattle.reel.specs.Causes.{causesOf}
 use Rattle.reel.specs.Meaning.{cardText, binaryNumbers, filled, traceNumber, Header, headerOf, Trace, traceMeaning, meaningOf, MeanTheSame}
 use Rattle.reel.proofs.CheckLaws.{reel-fine}
@@ -130,13 +130,13 @@ trace-inj n t u p q e =
     trace-eq (bytes-only (t .header) (u .header) (p .header) (q .header) (h .0))
     (flat-inj valueBytes (λ v. isCanonical (pairOf v) ≡ true) 6 (λ v c. refl) value-inj (t .values) (u .values) (p .count ∙ sym (q .count)) (p .canonical) (q .canonical) (g .0))
 
-pub trace-like : (s : List ℕ) → Bytes s → (code n i at : ℕ) → n < 2 ^ 15 → i < 2 ^ 15 → Like n (traceMeaning s code n i at)
+pub trace-like : (s : List ℕ) → Bytes s → (code n i at : ℕ) → isCode code ≡ true → n < 2 ^ 15 → i < 2 ^ 15 → Like n (traceMeaning s code n i at)
 unfolding traceMeaning
-trace-like s h code n i at p q =
+trace-like s h code n i at c p q =
     record {
       header = header-fits s h n i at p q;
-      count = size-walk (λ k. exactValue code (bytesAt s k 4)) (sampleBytes code) n (at + traceHeader);
-      canonical = all-at (λ v. isCanonical (pairOf v) ≡ true) (λ k. exactValue code (bytesAt s k 4)) (λ k. value-canonical code (bytesAt s k 4) (bytes-at s h k 4)) (sampleBytes code) n (at + traceHeader);
+      count = size-walk (λ k. exactValue code (bytesAt s k wordLength)) (sampleBytes code) n (at + traceHeader);
+      canonical = all-at (λ v. isCanonical (pairOf v) ≡ true) (λ k. exactValue code (bytesAt s k wordLength)) (λ k. value-canonical code (bytesAt s k wordLength) c (bytes-at s h k wordLength)) (sampleBytes code) n (at + traceHeader);
     }
 
 -- ## Reels
@@ -145,11 +145,12 @@ trace-like s h code n i at p q =
 record Limits (s : List ℕ) : Type 0 where
   n-fits : samplesOf s < 2 ^ 15
   i-fits : intervalOf s < 2 ^ 15
+  is-code : isCode (codeOf s) ≡ true
 
 limits : (s : List ℕ) → causesOf s ≡ Fine → Limits s
 limits s e =
     let k = reel-fine s e .numbers in
-    record { n-fits = omega (arith, k .n-high); i-fits = omega (arith, k .i-high) }
+    record { n-fits = omega (arith, k .n-high); i-fits = omega (arith, k .i-high); is-code = k .is-code }
 
 tracesIn : List ℕ → List Trace
 tracesIn s = walk (traceMeaning s (codeOf s) (samplesOf s) (intervalOf s)) (strideOf s) (tracesOf s) firstTrace
@@ -157,7 +158,7 @@ tracesIn s = walk (traceMeaning s (codeOf s) (samplesOf s) (intervalOf s)) (stri
 traces-like : (s : List ℕ) → Bytes s → Limits s → All (Like (samplesOf s)) (tracesIn s)
 unfolding tracesIn
 traces-like s h l =
-    all-at (Like (samplesOf s)) (traceMeaning s (codeOf s) (samplesOf s) (intervalOf s)) (λ at. trace-like s h (codeOf s) (samplesOf s) (intervalOf s) at (l .n-fits) (l .i-fits)) (strideOf s) (tracesOf s) firstTrace
+    all-at (Like (samplesOf s)) (traceMeaning s (codeOf s) (samplesOf s) (intervalOf s)) (λ at. trace-like s h (codeOf s) (samplesOf s) (intervalOf s) at (l .is-code) (l .n-fits) (l .i-fits)) (strideOf s) (tracesOf s) firstTrace
 
 traces-count : (s : List ℕ) → length (tracesIn s) ≡ tracesOf s
 unfolding tracesIn

@@ -1,2 +1,2 @@
--- The table of the causes 1 to 9 and 18, row by row.
+-- The table of the causes 1 to 9, 18 and 19, row by row.
 pub mod ReelTable

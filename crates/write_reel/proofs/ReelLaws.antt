@@ -31,7 +31,7 @@ use Rattle.write_reel.proofs.CopiedLaws.{header-bytes}
 
 -- ## Samples
 
--- a canonical pair under one of the four codes
+-- a canonical pair under one of the codes
 sample-is : (s : List ℕ) (code p : ℕ) → isCode code ≡ true → pairCause s p ≡ Fine → sampleWritten code (heldValue s p) ≡ wordBytes code (writtenAt s code p)
 sample-is s code p h e =
     let c : isCanonical (pairIn (bytesAt s p pairLength)) ≡ true = not-false (isCanonical (pairIn (bytesAt s p pairLength))) (passed _ 13 p e) in

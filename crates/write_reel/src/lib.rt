@@ -70,7 +70,7 @@ fn put_traces(record: &[u8], code: u32, n: usize, w: usize, m: usize, t: usize, 
     }
 }
 
-// A format code, which is 1 to 4, in its field of a reel.
+// A format code in its field of a reel.
 fn put_code(code: u32, out: &mut [u8])
     requires { ⌜ (isCode code ≡ true) × (firstTrace ≤ length (now out)) ⌝ }
     ensures { λ _. ⌜ now (out .exit) ≡ overwritten (now (out .entry)) (bytePlace 0 3225) (bytesOf 2 code) ⌝ }
