@@ -26,12 +26,12 @@
 -- to rule out".
 use mathlib.Core.Path.{_≡_, refl, sym, ap, _∙_, subst}
 use mathlib.Core.List.{List, [], _∷_}
-use mathlib.Core.Logic.{_⊎_}
+use mathlib.Core.Logic.{_⊎_, ⊎-elim}
 use mathlib.Core.Bool.{Bool, true, false, not}
-use Prim.Native.Nat.{ℕ, _≤_}
+use Prim.Native.Nat.{ℕ, _^_, _≤_, _<_}
 use native.Mathlib.Omega.{arith}
-use borrow.Author.Tests.{le-leb, eq-eqb, ne-eqb, eqb-true, eqb-false, not-true}
-use lib.Dec.{leb, ltb, eqb}
+use borrow.Author.Tests.{lt-ltb, le-ltb, ne-eqb, eqb-true, eqb-false, not-true}
+use lib.Dec.{T, ltb, eqb}
 use lib.ListN.{length, getD, drop, replicate}
 use lib.IntN.{pos}
 use Rattle.numbers.specs.Walk.{pick, bytesAt}
@@ -41,21 +41,23 @@ use Rattle.numbers.specs.Places.{placeNo, byteNo}
 use Rattle.numbers.specs.declared.ByteNo.{ByteNo}
 use Rattle.numbers.specs.declared.Check.{Check}
 use Rattle.numbers.specs.declared.Check.the-variants.{Fine, Refused}
-use Rattle.numbers.specs.Terms.{All, Bytes, atPlace, Between}
+use Rattle.numbers.specs.Terms.{All, Bytes, atPlace}
 use Rattle.numbers.specs.Iff.{Iff}
 use Rattle.numbers.proofs.CauseLaws.{passed, then-fine, at-most}
 use Rattle.numbers.proofs.BoolLaws.{and-true, and-both}
-use Rattle.numbers.proofs.RowLaws.{Tests, apart, refused-where, row-where, then-row, then-first, then-second, test-between, test-room, test-by, not-enough, too-short, test-flag, not-no, fine-then, refused-then, row-then, no-row}
+use Rattle.numbers.proofs.RowLaws.{Tests, apart, refused-where, row-where, then-row, then-first, then-second, test-room, test-by, not-enough, too-short, test-flag, not-no, fine-then, refused-then, row-then, no-row}
 use Rattle.numbers.proofs.SaidLaws.{not-taken, iff-trans, says-refused, says-fine, says-either, refused-by, taken-by, keeps-rest}
 use Rattle.formats.specs.Codes.{isCode}
-use Rattle.formats.specs.Value.{exactValue}
+use Rattle.formats.specs.Value.{isFinite, isBad, wordNumber, exactValue}
+use Rattle.reel_theorems.specs.ReelTable.{wordAt}
+use Rattle.numbers.proofs.SignLaws.{below-or}
 use Rattle.value.specs.Pair.{valueOf, isCanonical, pairIn}
 use Rattle.formats.specs.Words.{isNormal, wordOf}
 use Rattle.value.specs.Writing.{writePair}
 use Rattle.formats.proofs.WordLaws.{Only14, only-14}
 use Rattle.formats.specs.declared.Written.{Written}
 use Rattle.formats.specs.declared.Written.the-variants as written
-use Rattle.sample.specs.Reading.{badGain, notNormal, pairTaken, readWord}
+use Rattle.sample.specs.Reading.{badNumber, notNormal, pairTaken, readWord}
 use Rattle.sample.specs.Calls as calls
 use Rattle.sample.specs.declared.Sample.{Sample}
 use Rattle.sample.specs.declared.Sample.the-variants as sample
@@ -70,13 +72,13 @@ use Rattle.read_reel.specs.Reading.{recordLengthOf, readNumbers, readCauses, re
 use Rattle.write_reel.specs.Reel.{reelOf}
 use Rattle.write_reel.specs.Writing.{reelLengthOf, writtenNumbers, writeCauses, writeEnd, writeOutcome}
 use Rattle.look_up.specs.LookUp.{Found, found, none, isNone, fieldIn, headerFields, fieldAt, foundNumber, fieldCauses, lookUpCauses, numberSaid, lookUpOutcome}
-use Rattle.reel_theorems.proofs.Refusals.{exact-causes, no-cause}
+use Rattle.reel_theorems.proofs.Refusals.{test-code, exact-causes, no-cause}
 use Rattle.reel_theorems.proofs.Same.{record-size}
 use Rattle.demands.proofs.Fitting.{fits-is}
 use Rattle.demands.proofs.WriteRefusals.{exact-writing}
 use Rattle.demands.proofs.WrittenSize.{reel-size}
 use Rattle.demands.specs.Words.{HasWord}
-use Rattle.demands.specs.Tables.{WriteRow, ReadRow, LookUpRow, no-trace, no-field, WordRow, bad-code, bad-gain, PairRow}
+use Rattle.demands.specs.Tables.{WriteRow, ReadRow, LookUpRow, no-trace, no-field, WordRow, bad-code, bad-gain, not-finite, PairRow}
 use Rattle.demands.specs.Results.{exampleWith, example, AssignedNumber}
 
 -- ## Reading a reel
@@ -334,45 +336,74 @@ module _ (said : Said) (numbers : List ℕ) (c : Check) (is : said ≡ says numb
   single-taken = iff-trans (λ e. sym is ∙ e, λ e. is ∙ e) (taken-by (says numbers) numbers refl (λ n p. refl) R c exact)
 
 module _ (code : ℕ) (w : List ℕ) where
+  -- The word has no value.
+  abbrev bad : Bool
+  bad = isBad code (wordNumber code w)
+
   -- The checks of a single word.
   wordChecks : Check
-  wordChecks = then (refuseIf (not (isCode code)) 2 0) (refuseIf (badGain code w) 9 0)
+  wordChecks = then (refuseIf (not (isCode code)) 2 0) (refuseIf bad (badNumber code) 0)
 
   -- What the call says is what they answer.
   word-says : calls.wordOutcome code w .said ≡ says (notNormal code w ∷ []) wordChecks
   unfolding wordChecks
-  word-says = go (isCode code) (badGain code w)
+  word-says = go (isCode code) bad
     where
-      go : (a g : Bool) → calls.readSaid (notNormal code w) (pick a (pick g (sample.Refused 9) (pairTaken (exactValue code w))) (sample.Refused 2)) .said
-          ≡ says (notNormal code w ∷ []) (then (refuseIf (not a) 2 0) (refuseIf g 9 0))
+      go : (a g : Bool) → calls.readSaid (notNormal code w) (pick a (pick g (sample.Refused (badNumber code)) (pairTaken (exactValue code w))) (sample.Refused 2)) .said
+          ≡ says (notNormal code w ∷ []) (then (refuseIf (not a) 2 0) (refuseIf g (badNumber code) 0))
       go true true = refl
       go true false = refl
       go false g = refl
 
-  -- A gain word whose first byte is not 00.
-  gain-true : code ≡ 4 → ¬ (getD w 0 0 ≡ 0) → badGain code w ≡ true
-  gain-true c h = and-both (eqb code 4) _ (eq-eqb code 4 c) (ap not (ne-eqb (getD w 0 0) 0 h))
+  -- What is bad, under code 4 and under code 5; under the others no word is.
+  gain-bad : code ≡ 4 → bad ≡ not (ltb (wordAt w 0) (2 ^ 24))
+  gain-bad e = rw e
 
-  -- And the other way round.
-  true-gain : badGain code w ≡ true → (code ≡ 4) × (¬ (getD w 0 0 ≡ 0))
-  true-gain e =
-      let h = and-true (eqb code 4) _ e in
-      (eqb-true code 4 (h .0), eqb-false (getD w 0 0) 0 (not-true (eqb (getD w 0 0) 0) (h .1)))
+  ieee-bad : code ≡ 5 → bad ≡ not (isFinite 8 23 (wordAt w 0))
+  ieee-bad e = rw e
 
   -- Its causes are the rows.
   word-exact : (number place : ℕ) → Iff (wordChecks ≡ Refused number (atPlace place)) (WordRow code w number place)
   unfolding wordChecks
   word-exact number place = (there, back)
     where
-      there : then (refuseIf (not (isCode code)) 2 0) (refuseIf (badGain code w) 9 0) ≡ Refused number (atPlace place) → WordRow code w number place
-      there =
-          row-then (test-between 1 4 code 2 0) (WordRow code w) bad-code
-          (λ e. row-where (test-flag (badGain code w) 9 0) (WordRow code w) (λ m. let g = true-gain (not-no _ m) in bad-gain (g .0) (g .1)))
+      bad-row : bad ≡ true → WordRow code w (badNumber code) 0
+      bad-row h = go (eqb code 4) (eqb code 5) refl refl
+        where
+          go : (x y : Bool) → eqb code 4 ≡ x → eqb code 5 ≡ y → WordRow code w (badNumber code) 0
+          go true y p q =
+              let e = eqb-true code 4 p in
+              subst (λ (n : ℕ). WordRow code w n 0) (sym (ap badNumber e))
+              (bad-gain e (λ l. subst T (sym (lt-ltb _ _ l) ∙ not-true _ (sym (gain-bad e) ∙ h)) tt))
+          go false true p q =
+              let e = eqb-true code 5 q in
+              subst (λ (n : ℕ). WordRow code w n 0) (sym (ap badNumber e))
+              (not-finite e (λ l. subst T (sym l ∙ not-true _ (sym (ieee-bad e) ∙ h)) tt))
+          go false false p q = absurd (subst T (sym h ∙ other) tt)
+            where
+              other : bad ≡ false
+              other = rw (p, q)
 
-      back : {number place : ℕ} → WordRow code w number place → then (refuseIf (not (isCode code)) 2 0) (refuseIf (badGain code w) 9 0) ≡ Refused number (atPlace place)
-      back (bad-code h) = refused-then (test-between 1 4 code 2 0) _ h
-      back (bad-gain c h) =
-          fine-then (test-between 1 4 code 2 0) (omega arith, omega arith) (ap (λ (x : Bool). refuseIf x 9 0) (gain-true c h))
+      there : then (refuseIf (not (isCode code)) 2 0) (refuseIf bad (badNumber code) 0) ≡ Refused number (atPlace place) → WordRow code w number place
+      there =
+          row-then (test-code code 2 0) (WordRow code w) bad-code
+          (λ e. row-where (test-flag bad (badNumber code) 0) (WordRow code w) (λ m. bad-row (not-no _ m)))
+
+      -- a row of a code, where the word is bad
+      refuses : (k : ℕ) → isCode k ≡ true → code ≡ k → bad ≡ true → then (refuseIf (not (isCode code)) 2 0) (refuseIf bad (badNumber code) 0) ≡ Refused (badNumber k) (atPlace 0)
+      refuses k i e h = fine-then (test-code code 2 0) (ap isCode e ∙ i) (ap (λ (x : Bool). refuseIf x (badNumber code) 0) h ∙ ap (λ (n : ℕ). Refused n (atPlace 0)) (ap badNumber e))
+
+      back : {number place : ℕ} → WordRow code w number place → then (refuseIf (not (isCode code)) 2 0) (refuseIf bad (badNumber code) 0) ≡ Refused number (atPlace place)
+      back (bad-code h) = refused-then (test-code code 2 0) _ h
+      back (bad-gain c h) = refuses 4 refl c (gain-bad c ∙ ap not (le-ltb _ _ (least h)))
+        where
+          least : ¬ (wordAt w 0 < 2 ^ 24) → 2 ^ 24 ≤ wordAt w 0
+          least h = ⊎-elim (λ l. absurd (h l)) (λ l. l) (below-or (wordAt w 0) (2 ^ 24))
+      back (not-finite c h) = refuses 5 refl c (ieee-bad c ∙ ap not (no-true _ h))
+        where
+          no-true : (b : Bool) → ¬ (b ≡ true) → b ≡ false
+          no-true true h = absurd (h refl)
+          no-true false h = refl
 
   -- THEOREM. "Every call comes to a defined end on every input: no access outside the lent buffers and no number that loses bits": reading a
   -- single word is taken, with 1 or 0, or refused by a number with a place. The rest of the clause Rattle proves of each function.
@@ -381,8 +412,8 @@ module _ (code : ℕ) (w : List ℕ) where
   word-ends = single-ends (calls.wordOutcome code w .said) (notNormal code w ∷ []) wordChecks word-says (WordRow code w) word-exact
 
   -- THEOREM. "each refusal has the number and place that document 01 sets, and is given in just the cases set there"; document 01: "A
-  -- single word is refused by 2, then 9; a single pair by 11, 13, 14; the place is 0 and the bytes handed out are all 00." Exactly when
-  -- that row applies.
+  -- single word is refused by 2, then 9; a single pair by 11, 13, 14; the place is 0 and the bytes handed out are all 00", and document 02
+  -- (CR 4) sets 19 "where 9 stands". Exactly when that row applies.
   -- Rules out a call that declines every word.
   pub word-refused : (number place : ℕ) → Iff (calls.wordOutcome code w .said ≡ refused number place) (WordRow code w number place)
   word-refused = single-refused (calls.wordOutcome code w .said) (notNormal code w ∷ []) wordChecks word-says (WordRow code w) word-exact
@@ -413,7 +444,7 @@ module _ (code : ℕ) (b : List ℕ) where
   unfolding pairChecks
   pair-says = go (isCode code) (isCanonical (pairIn b)) (wordOf code (valueOf (pairIn b))) (only-14 code (valueOf (pairIn b)))
     where
-      go : (a c : Bool) (r : Written) → Only14 r → calls.writeSaid (pick a (pick c r (written.Refused 13)) (written.Refused 11)) .said
+      go : (a c : Bool) (r : Written) → Only14 r → calls.writeSaid code (pick a (pick c r (written.Refused 13)) (written.Refused 11)) .said
           ≡ says [] (then (refuseIf (not a) 11 0) (then (refuseIf (not c) 13 0) (refuseIf (isUnfit r) 14 0)))
       go true true (written.Word n) h = refl
       go true true (written.Refused n) h = ap (λ (x : ℕ). refused x 0) h
@@ -421,9 +452,9 @@ module _ (code : ℕ) (b : List ℕ) where
       go false c r h = refl
 
   -- A canonical pair has a word exactly where some word of the code has its value.
-  unfit-is : Between 1 4 code → isCanonical (pairIn b) ≡ true → Iff (isUnfit (wordOf code (valueOf (pairIn b))) ≡ false) (HasWord code (valueOf (pairIn b)))
+  unfit-is : isCode code ≡ true → isCanonical (pairIn b) ≡ true → Iff (isUnfit (wordOf code (valueOf (pairIn b))) ≡ false) (HasWord code (valueOf (pairIn b)))
   unfit-is g c =
-      fits-is code (valueOf (pairIn b)) (and-both (leb 1 code) _ (le-leb 1 code (g .0)) (le-leb code 4 (g .1)))
+      fits-is code (valueOf (pairIn b)) g
       (ap isCanonical (value-pair-back (pairIn b) c) ∙ c)
 
   -- Its causes are the rows.
@@ -437,15 +468,15 @@ module _ (code : ℕ) (b : List ℕ) where
       there : pairChecks ≡ Refused number (atPlace place) → PairRow code b number place
       there =
           let row = PairRow code b in
-          row-then (test-between 1 4 code 11 0) row PairRow.bad-target
+          row-then (test-code code 11 0) row PairRow.bad-target
           (λ g. row-then canonical row (PairRow.bad-pair g)
           (λ c. row-where (test-flag (isUnfit (wordOf code (valueOf (pairIn b)))) 14 0) row (λ m. PairRow.unfit g c (λ h. m (unfit-is g c .1 h)))))
 
       back : {number place : ℕ} → PairRow code b number place → pairChecks ≡ Refused number (atPlace place)
-      back (PairRow.bad-target h) = refused-then (test-between 1 4 code 11 0) _ h
-      back (PairRow.bad-pair g h) = fine-then (test-between 1 4 code 11 0) g (refused-then canonical _ h)
+      back (PairRow.bad-target h) = refused-then (test-code code 11 0) _ h
+      back (PairRow.bad-pair g h) = fine-then (test-code code 11 0) g (refused-then canonical _ h)
       back (PairRow.unfit g c h) =
-          fine-then (test-between 1 4 code 11 0) g
+          fine-then (test-code code 11 0) g
           (fine-then canonical c (refused-where (test-flag (isUnfit (wordOf code (valueOf (pairIn b)))) 14 0) (λ e. h (unfit-is g c .0 e))))
 
   -- THEOREM. "Every call comes to a defined end on every input: no access outside the lent buffers and no number that loses bits": writing a
@@ -470,6 +501,6 @@ module _ (code : ℕ) (b : List ℕ) where
   pub pair-zero : (number place : ℕ) → calls.pairOutcome code b .said ≡ refused number place → calls.pairOutcome code b .bytes ≡ 0 ∷ 0 ∷ 0 ∷ 0 ∷ []
   pair-zero number place e = go (writePair code (pairIn b)) e
     where
-      go : (r : Written) → calls.writeSaid r .said ≡ refused number place → calls.writeSaid r .bytes ≡ 0 ∷ 0 ∷ 0 ∷ 0 ∷ []
+      go : (r : Written) → calls.writeSaid code r .said ≡ refused number place → calls.writeSaid code r .bytes ≡ 0 ∷ 0 ∷ 0 ∷ 0 ∷ []
       go (written.Word n) e = absurd (not-taken (sym e))
       go (written.Refused n) e = refl

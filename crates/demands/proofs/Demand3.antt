@@ -228,7 +228,7 @@ own-code s out t n l c b e =
     let f = taken-reel s out (t ∷ n ∷ l ∷ c ∷ []) e in
     let x = reading s out t n l c b e in
     let k = reel-fine s f .numbers in
-    let i : isCode (codeOf s) ≡ true = rw (le-leb 1 (codeOf s) (k .code-low), le-leb (codeOf s) 4 (k .code-high)) in
+    let i : isCode (codeOf s) ≡ true = k .is-code in
     let size : reelLength (codeOf s) t n ≡ length s = ap₂ (reelLength (codeOf s)) (x .traces) (x .samples) ∙ own-size s f in
     record {
       code-is = i;

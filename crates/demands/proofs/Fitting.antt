@@ -23,7 +23,8 @@ use Rattle.formats.specs.declared.Written.{Written}
 use Rattle.formats.specs.declared.Written.the-variants.{Word, Refused}
 use Rattle.sample_theorems.proofs.Pairs.{pair-value}
 use Rattle.value.proofs.WrittenLaws.{written-is}
-use Rattle.sample_theorems.proofs.Words.{writing-sound, writing-complete}
+use Rattle.sample.specs.Calls.{singleWord}
+use Rattle.sample_theorems.proofs.Words.{single-bytes, writing-sound, writing-complete}
 use Rattle.reel.specs.Meaning.{Trace, Meaning}
 use Rattle.record.specs.Form.{tracesPlace, heldSamples, heldStride, heldCount}
 use Rattle.record.specs.Held.{heldValue, heldTrace, heldBy}
@@ -74,9 +75,10 @@ fits-is code v h c = (there, back)
         let x = fit-word (wordOf code v) e in
         let w : writePair code (pairOf v) ≡ Word (x .0) = rw (h, c, pair-value v) (x .1) in
         let s = writing-sound code (pairOf v) (x .0) w in
-        record { word = bytesOf 4 (x .0); size = refl; bytes = bytes-of 4 (x .0); good = s .good; value = s .value ∙ pair-value v }
+        let b = single-bytes code (x .0) h in
+        record { word = singleWord code (x .0); size = b .0; bytes = b .1; good = s .good; value = s .value ∙ pair-value v }
 
     back : HasWord code v → isUnfit (wordOf code v) ≡ false
     back w =
-        let x = writing-complete code (pairOf v) (w .word) h c (w .bytes) (w .value ∙ sym (pair-value v)) in
+        let x = writing-complete code (pairOf v) (w .word) h c (w .bytes) (w .good) (w .value ∙ sym (pair-value v)) in
         ap (λ (z : ℤ). isUnfit (wordOf code z)) (sym (pair-value v)) ∙ ap isUnfit (written-is code (pairOf v) (x .0) (x .1) .2)

@@ -30,7 +30,7 @@ use Rattle.numbers.proofs.WalkLaws.{walk-same, four-bytes, sum-zero, zero-each}
 use Rattle.numbers.proofs.ByteLaws.{number-at, bytes-again}
 use Rattle.formats.specs.Value.{ibmValue, exactValue}
 use Rattle.formats.specs.Words.{isNormal}
-use Rattle.value.proofs.NormalWords.{normal-same}
+use Rattle.format_theorems.proofs.NormalWords.{normal-same}
 use Rattle.sample.specs.Reading.{notNormal}
 use Rattle.sample.specs.Calls.{wordOutcome}
 use Rattle.reel.specs.Layout.{firstTrace, traceHeader, samplesOf, codeOf, stride, strideOf, tracesOf}

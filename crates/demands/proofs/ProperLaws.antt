@@ -21,6 +21,7 @@ use Rattle.numbers.proofs.WalkLaws.{size-walk, size-bytes, all-both}
 use Rattle.numbers.proofs.ByteLaws.{bytes-at}
 use Rattle.numbers.proofs.CauseLaws.{passed, then-fine, first-all}
 use Rattle.numbers.proofs.AllLaws.{all-each, all-map}
+use Rattle.formats.specs.Codes.{isCode}
 use Rattle.value.specs.Pair.{pairOf, isCanonical, pairLength, pairIn}
 use Rattle.sample_theorems.proofs.Pairs.{value-pair-back}
 use Rattle.reel.specs.Layout.{Field, cardBytes, binaryWidths, binaryFields, traceWidths, traceFields, fieldNumber, firstTrace, number16, samplesOf, intervalOf, codeOf, strideOf, tracesOf}
@@ -168,12 +169,12 @@ unfolding traceMeaning
 meant-interval s code n i at = held-interval (traceNumber s n i at)
 
 -- A trace to which 7 and 8 don't apply means a proper trace.
-trace-meant : (s : List ℕ) → Bytes s → (code n i at : ℕ) → n < 2 ^ 15 → i < 2 ^ 15 → traceCauses s code n i at ≡ Fine → ProperTrace n i (traceMeaning s code n i at)
+trace-meant : (s : List ℕ) → Bytes s → (code n i at : ℕ) → isCode code ≡ true → n < 2 ^ 15 → i < 2 ^ 15 → traceCauses s code n i at ≡ Fine → ProperTrace n i (traceMeaning s code n i at)
 unfolding traceCauses
-trace-meant s h code n i at p q e =
+trace-meant s h code n i at c p q e =
     let a = then-fine (refuseIf (neither (number16 s (at + 114)) n) 7 (at + 114)) _ e in
     let b = then-fine (refuseIf (neither (number16 s (at + 116)) i) 8 (at + 116)) _ (a .1) in
-    let l = trace-like s h code n i at p q in
+    let l = trace-like s h code n i at c p q in
     record {
       header = l .header;
       n-is = meant-count s code n i at ∙ filled-own n (number16 s (at + 114)) p (passed _ _ _ (a .0));
@@ -205,5 +206,5 @@ reel-proper s h e =
       n-is = eighth s ∙ signed-low n p;
       i-is = sixth s ∙ signed-low i q;
       few = rw (size-walk (traceMeaning s code n i) (strideOf s) (tracesOf s) firstTrace) (v .few);
-      traces = first-all (traceCauses s code n i) (traceMeaning s code n i) (ProperTrace n i) (λ a. trace-meant s h code n i a p q) (strideOf s) (tracesOf s) firstTrace (v .traces);
+      traces = first-all (traceCauses s code n i) (traceMeaning s code n i) (ProperTrace n i) (λ a. trace-meant s h code n i a (k .is-code) p q) (strideOf s) (tracesOf s) firstTrace (v .traces);
     }

@@ -18,21 +18,23 @@ use Rattle.numbers.specs.TwosComplement.{signedOf}
 use Rattle.numbers.specs.Cause.{refuseIf, firstOf}
 use Rattle.numbers.specs.declared.Check.the-variants.{Fine}
 use Rattle.numbers.specs.Terms.{All, Bytes}
-use Rattle.numbers.proofs.WalkLaws.{all-take, cons-eq, flat-size, all-both}
+use Rattle.numbers.proofs.WalkLaws.{cons-eq, flat-size, all-both}
 use Rattle.numbers.proofs.BoolLaws.{and-true}
-use Rattle.numbers.proofs.ByteLaws.{length-bytes, bytes-of}
+use Rattle.numbers.proofs.ByteLaws.{length-bytes, bytes-of, number-bytes}
 use Rattle.numbers.proofs.AllLaws.{all-append, bytes-zeros, all-flat}
-use Rattle.formats.specs.Value.{wholeValue, exactValue}
-use Rattle.formats.specs.Codes.{isCode, sampleBytes}
+use Rattle.formats.specs.Value.{isBad, valueIn, wordNumber, exactValue}
+use Rattle.formats.specs.Codes.{isCode, sampleBytes, wordLength}
 use Rattle.value.specs.Pair.{pairOf, isCanonical}
-use Rattle.formats.specs.Words.{wordOf}
+use Rattle.formats.specs.Words.{wordOf, wordBits}
 use Rattle.value.specs.Writing.{writePair}
 use Rattle.formats.specs.declared.Written.{Written}
 use Rattle.formats.specs.declared.Written.the-variants.{Word, Refused}
-use Rattle.sample.specs.Reading.{badGain, notNormal}
+use Rattle.sample.specs.Reading.{badNumber, notNormal}
+use Rattle.sample.specs.Calls.{singleWord}
+use Rattle.formats.proofs.CodeLaws.{word-there, code-limits}
 use Rattle.sample_theorems.proofs.Pairs.{pair-value}
 use Rattle.sample_theorems.specs.Statements.{Says}
-use Rattle.sample_theorems.proofs.Words.{writing-sound, writing-0}
+use Rattle.sample_theorems.proofs.Words.{single-number, count-by, writing-sound, writing-0}
 use Rattle.reel.specs.Layout.{cardBytes, firstTrace, traceHeader, binaryFields, traceFields, fieldNumber, intervalOf, samplesOf, codeOf, stride, strideOf, wholeIn, overIn, tracesOf}
 use Rattle.reel.specs.Causes.{mostSamples, mostTraces, mostInterval, neither, limitCauses, wordCause, traceCauses, behindCauses, causesOf}
 use Rattle.reel.specs.Meaning.{blank, cardText, otherThan, binaryNumbers, filled, traceNumber, Trace, traceMeaning, Meaning, meaningOf}
@@ -44,7 +46,6 @@ use Rattle.headers.proofs.HeaderBytes.{header-again, allowed-again}
 use Rattle.record.specs.Record.{binaryBytes}
 use Rattle.fit.specs.Target.{isUnfit}
 use Rattle.reel_theorems.proofs.Same.{trace-eq}
-use Rattle.write_samples.specs.Samples.{wordContent}
 use Rattle.write_reel.specs.Reel.{sampleWritten, traceWritten, reelOf, reelLength}
 use Rattle.demands.proofs.Proper.{ProperTrace, Proper}
 use Rattle.demands.proofs.Fitting.{Fitting}
@@ -59,7 +60,7 @@ abbrev Writable : ℕ → ℤ → Type 0
 Writable code v = (isUnfit (wordOf code v) ≡ false) × (isCanonical (pairOf v) ≡ true)
 
 -- Its word has the value, and reading takes it.
-word-of : (code : ℕ) (v : ℤ) → isCode code ≡ true → Writable code v → (k : ℕ) × (wordOf code v ≡ Word k) × Says code v k × (notNormal code (bytesOf 4 k) ≡ 0)
+word-of : (code : ℕ) (v : ℤ) → isCode code ≡ true → Writable code v → (k : ℕ) × (wordOf code v ≡ Word k) × Says code v k × (notNormal code (singleWord code k) ≡ 0)
 word-of code v c h = go (wordOf code v) refl (h .0)
   where
     written : (k : ℕ) → wordOf code v ≡ Word k → writePair code (pairOf v) ≡ Word k
@@ -68,57 +69,35 @@ word-of code v c h = go (wordOf code v) refl (h .0)
     says : (k : ℕ) → wordOf code v ≡ Word k → Says code v k
     says k e = subst (λ (x : ℤ). Says code x k) (pair-value v) (writing-sound code (pairOf v) k (written k e))
 
-    go : (w : Written) → wordOf code v ≡ w → isUnfit w ≡ false → (k : ℕ) × (wordOf code v ≡ Word k) × Says code v k × (notNormal code (bytesOf 4 k) ≡ 0)
+    go : (w : Written) → wordOf code v ≡ w → isUnfit w ≡ false → (k : ℕ) × (wordOf code v ≡ Word k) × Says code v k × (notNormal code (singleWord code k) ≡ 0)
     go (Word k) e q = (k, e, says k e, writing-0 code (pairOf v) k (written k e))
     go (Refused number) e q = absurd (subst T q tt)
 
--- The content of a word is bytes.
-bytes-content : (w : Written) → Bytes (wordContent w)
-bytes-content (Word k) = bytes-of 4 k
-bytes-content (Refused number) = bytes-zeros 4
-
 -- The bytes of a sample are bytes.
 bytes-sample : (code : ℕ) (v : ℤ) → Bytes (sampleWritten code v)
-bytes-sample code v = all-take (λ b. b < 256) (sampleBytes code) (wordContent (wordOf code v)) (bytes-content (wordOf code v))
+bytes-sample code v = bytes-of (sampleBytes code) (wordBits (wordOf code v))
 
 -- What is read of a sample that stands at a place.
 record Read (s : List ℕ) (code : ℕ) (v : ℤ) (at : ℕ) : Type 0 where
-  good : badGain code (bytesAt s at 4) ≡ false
-  value : exactValue code (bytesAt s at 4) ≡ v
-  count : notNormal code (bytesAt s at 4) ≡ 0
+  good : isBad code (wordNumber code (bytesAt s at wordLength)) ≡ false
+  value : exactValue code (bytesAt s at wordLength) ≡ v
+  count : notNormal code (bytesAt s at wordLength) ≡ 0
 
--- Under codes 1, 2 and 4 the word's four bytes stand there.
-read-four : (s : List ℕ) (code : ℕ) (v : ℤ) (at k : ℕ) (rest : List ℕ) → Says code v k → notNormal code (bytesOf 4 k) ≡ 0 → From s at (bytesOf 4 k ++ rest) → Read s code v at
-read-four s code v at k rest h z f =
-    let e : bytesAt s at 4 ≡ bytesOf 4 k = from-bytes (bytesOf 4 k) rest 4 (length-bytes 4 k) f in
-    record {
-      good = ap (badGain code) e ∙ h .good;
-      value = ap (exactValue code) e ∙ h .value;
-      count = ap (notNormal code) e ∙ z;
-    }
-
--- Under code 3 the first two of them, and no others are read.
-read-two : (s : List ℕ) (v : ℤ) (at k : ℕ) (rest : List ℕ) → Says 3 v k → From s at (take 2 (bytesOf 4 k) ++ rest) → Read s 3 v at
-unfolding bytesAt
-read-two s v at k rest h f =
-    let e : bytesAt s at 2 ≡ take 2 (bytesOf 4 k) = from-bytes (take 2 (bytesOf 4 k)) rest 2 refl f in
-    record {
-      good = refl;
-      value = ap (λ (l : List ℕ). wholeValue (signedOf 16 (number l))) e ∙ h .value;
-      count = refl;
-    }
-
--- A sample under a code, at a place.
+-- The bytes of the word stand there, and no others are read.
 read-sample : (s : List ℕ) (code : ℕ) (v : ℤ) (at : ℕ) (rest : List ℕ) → isCode code ≡ true → Writable code v → From s at (sampleWritten code v ++ rest) → Read s code v at
 read-sample s code v at rest c h f =
     let w = word-of code v c h in
-    go (w .0) (w .2) (w .3) (subst (λ (x : Written). From s at (take (sampleBytes code) (wordContent x) ++ rest)) (w .1) f) (eqb code 3) refl
-  where
-    go : (k : ℕ) → Says code v k → notNormal code (bytesOf 4 k) ≡ 0 → From s at (take (sampleBytes code) (bytesOf 4 k) ++ rest) → (b : Bool) → eqb code 3 ≡ b → Read s code v at
-    go k x z f true q =
-        let e : code ≡ 3 = eqb-true code 3 q in
-        rw e (read-two s v at k rest (rw e at x) (rw e at f))
-    go k x z f false q = read-four s code v at k rest x z (rw q at f)
+    let k = w .0 in
+    let m = sampleBytes code in
+    let x = w .2 in
+    let g = subst (λ (y : Written). From s at (bytesOf m (wordBits y) ++ rest)) (w .1) f in
+    let same : wordNumber code (bytesAt s at wordLength) ≡ wordNumber code (singleWord code k) =
+    word-there s code at ∙ ap number (from-bytes (bytesOf m k) rest m (length-bytes m k) g) ∙ number-bytes m k (x .fit) ∙ sym (single-number code k c (x .fit)) in
+    record {
+      good = ap (isBad code) same ∙ x .good;
+      value = ap (valueIn code) same ∙ x .value;
+      count = count-by code (bytesAt s at wordLength) (singleWord code k) same ∙ w .3;
+    }
 
 -- ## Traces
 
@@ -191,13 +170,13 @@ module _ (code n i : ℕ) (c : isCode code ≡ true) (t : Trace) (h : Ready code
         (from-next (replicate 60 0) _ 60 (size-zeros 60)
         (from-next (headerBytes (t .header)) _ 180 (size-header n i t (h .proper)) from-header))
 
-    -- No cause of 7, 8, 18 and 9 applies to it.
+    -- No cause of 7, 8, 18, 9 and 19 applies to it.
     trace-fine : traceCauses s code n i at ≡ Fine
     unfolding traceCauses
     trace-fine =
         let words =
         from-fine s (sampleWritten code) (Writable code) (sampleBytes code) (λ v q. sample-size code v) (wordCause s code)
-        (λ v p r q e. ap (λ (x : Bool). refuseIf x 9 p) (read-sample s code v p r c q e .good)) (t .values) (at + traceHeader) rest (h .writable) from-samples in
+        (λ v p r q e. ap (λ (x : Bool). refuseIf x (badNumber code) p) (read-sample s code v p r c q e .good)) (t .values) (at + traceHeader) rest (h .writable) from-samples in
         let scalars = allowed-again s at (t .header) (h .proper .header .scaled) (numbers-again n i t (h .proper) s b at _ from-header) in
         rw (count-again n i t (h .proper) s b at _ from-header, spacing-again n i t (h .proper) s b at _ from-header, neither-same n, neither-same i, scalars .0, scalars .1)
         (ap (λ (k : ℕ). firstOf (walk (wordCause s code) (sampleBytes code) k (at + traceHeader))) (sym (h .proper .size)) ∙ words)
@@ -206,9 +185,9 @@ module _ (code n i : ℕ) (c : isCode code ≡ true) (t : Trace) (h : Ready code
     trace-count : notNormalIn s code n (at + traceHeader) ≡ 0
     unfolding notNormalIn
     trace-count =
-        ap (λ (k : ℕ). sum (walk (λ p. notNormal code (bytesAt s p 4)) (sampleBytes code) k (at + traceHeader))) (sym (h .proper .size))
+        ap (λ (k : ℕ). sum (walk (λ p. notNormal code (bytesAt s p wordLength)) (sampleBytes code) k (at + traceHeader))) (sym (h .proper .size))
         ∙ ap sum
-        (from-walk s (sampleWritten code) (Writable code) (sampleBytes code) (λ v q. sample-size code v) (λ p. notNormal code (bytesAt s p 4)) (λ v. 0)
+        (from-walk s (sampleWritten code) (Writable code) (sampleBytes code) (λ v q. sample-size code v) (λ p. notNormal code (bytesAt s p wordLength)) (λ v. 0)
         (λ v p r q e. read-sample s code v p r c q e .count) (t .values) (at + traceHeader) rest (h .writable) from-samples)
         ∙ sum-zeros (t .values)
 
@@ -231,10 +210,10 @@ module _ (code n i : ℕ) (c : isCode code ≡ true) (t : Trace) (h : Ready code
             trace-numbers s n i at
             ∙ rw (filled-same n (fieldNumber s at countField) count, filled-same i (fieldNumber s at intervalField) spacing) (sym (trace-around s at) ∙ whole)
 
-        values : walk (λ p. exactValue code (bytesAt s p 4)) (sampleBytes code) n (at + traceHeader) ≡ t .values
+        values : walk (λ p. exactValue code (bytesAt s p wordLength)) (sampleBytes code) n (at + traceHeader) ≡ t .values
         values =
-            ap (λ (k : ℕ). walk (λ p. exactValue code (bytesAt s p 4)) (sampleBytes code) k (at + traceHeader)) (sym (h .proper .size))
-            ∙ from-walk s (sampleWritten code) (Writable code) (sampleBytes code) (λ v q. sample-size code v) (λ p. exactValue code (bytesAt s p 4)) (λ v. v)
+            ap (λ (k : ℕ). walk (λ p. exactValue code (bytesAt s p wordLength)) (sampleBytes code) k (at + traceHeader)) (sym (h .proper .size))
+            ∙ from-walk s (sampleWritten code) (Writable code) (sampleBytes code) (λ v q. sample-size code v) (λ p. exactValue code (bytesAt s p wordLength)) (λ v. v)
             (λ v p r q e. read-sample s code v p r c q e .value) (t .values) (at + traceHeader) rest (h .writable) from-samples
             ∙ map-id (t .values)
 
@@ -249,9 +228,6 @@ blank-same (b ∷ l) h = cons-eq (rw (ne-eqb b 0 (λ e. some (h .0 .0) e))) (bla
     some p e = omega arith
 
 -- The codes are at most 4.
-code-high : (code : ℕ) → isCode code ≡ true → code ≤ 4
-code-high code c = leb-true code 4 (and-true (leb 1 code) (leb code 4) c .1)
-
 module _ (code n i : ℕ) (m : Meaning) (p : Proper n i m) (c : isCode code ≡ true) (f : Fitting code m) where
   -- Each trace is proper and has words for its samples.
   ready : All (Ready code n i) (m .traces)
@@ -294,7 +270,7 @@ module _ (code n i : ℕ) (m : Meaning) (p : Proper n i m) (c : isCode code ≡ 
 
   -- LAW. The reel's format code is the code.
   pub reel-code : codeOf (reelOf code m) ≡ code
-  reel-code = code-again n i m p code (reelOf code m) reel-bytes 0 _ from-binary (omega (arith, code-high code c))
+  reel-code = code-again n i m p code (reelOf code m) reel-bytes 0 _ from-binary (omega (arith, code-limits code c .1))
 
   -- LAW. The reel's N is that of the meaning.
   pub reel-samples : samplesOf (reelOf code m) ≡ n

@@ -31,6 +31,7 @@ use Rattle.write_reel.specs.Reel.{reelLength}
 use Rattle.write_reel.specs.Writing.{writeCauses}
 use Rattle.demands.proofs.Valid.{countIn, end-counted, record-fine, record-right}
 use Rattle.demands.proofs.ProperLaws.{value-held}
+use Rattle.reel_theorems.proofs.Refusals.{test-code}
 use Rattle.demands.proofs.Fitting.{fits-is}
 use Rattle.demands.proofs.FormRefusals.{exact-form}
 use Rattle.demands.specs.ValidRecord.{CanonicalAt, tracePlace, pairPlace, RightUntil, RecordRight}
@@ -54,21 +55,21 @@ test-fit s code at h c = go (isUnfit (wordOf code (heldValue s at))) refl
 
 module _ (s : List ℕ) (code room : ℕ) where
   -- The samples of trace k of a valid record, by whether they fit.
-  fit-tests : (t k : ℕ) → Between 1 4 code → RecordRight s t → k < t → (j : ℕ) → j < heldSamples s
+  fit-tests : (t k : ℕ) → isCode code ≡ true → RecordRight s t → k < t → (j : ℕ) → j < heldSamples s
       → Tests (Fits s code k j) 14 (pairPlace s k j) (fitCause s code (pairPlace s k j))
   fit-tests t k g h l j m =
-      test-fit s code (pairPlace s k j) (and-both (leb 1 code) _ (le-leb 1 code (g .0)) (le-leb code 4 (g .1)))
+      test-fit s code (pairPlace s k j) g
       (h .end .until .before k l .pairs j m)
 
   -- Where every sample of a trace fits, 14 finds nothing in it.
-  trace-fits : (t k : ℕ) → Between 1 4 code → RecordRight s t → k < t → ((j : ℕ) → j < heldSamples s → Fits s code k j)
+  trace-fits : (t k : ℕ) → isCode code ≡ true → RecordRight s t → k < t → ((j : ℕ) → j < heldSamples s → Fits s code k j)
       → traceFit s code (heldSamples s) (tracePlace s k) ≡ Fine
   unfolding traceFit
   trace-fits t k g h l f =
       walk-fine (Fits s code k) 14 (fitCause s code) pairLength (heldSamples s) (tracePlace s k + 186) (pairPlace s k) (fit-tests t k g h l) f
 
   -- And where it finds nothing in it, every sample fits.
-  fits-trace : (t k : ℕ) → Between 1 4 code → RecordRight s t → k < t → traceFit s code (heldSamples s) (tracePlace s k) ≡ Fine
+  fits-trace : (t k : ℕ) → isCode code ≡ true → RecordRight s t → k < t → traceFit s code (heldSamples s) (tracePlace s k) ≡ Fine
       → (j : ℕ) → j < heldSamples s → Fits s code k j
   unfolding traceFit
   fits-trace t k g h l e =
@@ -79,25 +80,25 @@ module _ (s : List ℕ) (code room : ℕ) where
   fitsOver t = fitCauses s code (heldSamples s) t
 
   -- Where every sample of a valid record fits, 14 finds nothing.
-  all-fit : (t : ℕ) → Between 1 4 code → RecordRight s t → ((k j : ℕ) → k < t → j < heldSamples s → Fits s code k j) → fitsOver t ≡ Fine
+  all-fit : (t : ℕ) → isCode code ≡ true → RecordRight s t → ((k j : ℕ) → k < t → j < heldSamples s → Fits s code k j) → fitsOver t ≡ Fine
   unfolding fitCauses
   all-fit t g h f =
       none-of (traceFit s code (heldSamples s)) (heldStride (heldSamples s)) t tracesPlace (λ k l. trace-fits t k g h l (λ j m. f k j l m))
 
   -- And where it finds nothing in a valid record, every sample fits.
-  fit-all : (t : ℕ) → Between 1 4 code → RecordRight s t → fitsOver t ≡ Fine → (k j : ℕ) → k < t → j < heldSamples s → Fits s code k j
+  fit-all : (t : ℕ) → isCode code ≡ true → RecordRight s t → fitsOver t ≡ Fine → (k j : ℕ) → k < t → j < heldSamples s → Fits s code k j
   unfolding fitCauses
   fit-all t g h e k j l m =
       fits-trace t k g h l (none-is (traceFit s code (heldSamples s)) (heldStride (heldSamples s)) t tracesPlace e k l) j m
 
   -- Of a valid record, the answer before the output's length is that of 14.
-  from-fits : {x : Check} (t : ℕ) → Between 1 4 code → RecordRight s t → fitsOver t ≡ x → targetCauses s code ≡ x
+  from-fits : {x : Check} (t : ℕ) → isCode code ≡ true → RecordRight s t → fitsOver t ≡ x → targetCauses s code ≡ x
   unfolding targetCauses
   from-fits t g h e =
-      fine-then (test-between 1 4 code 11 0) g (then-second _ _ (record-fine s t h) (ap fitsOver (end-counted s t (h .end)) ∙ e))
+      fine-then (test-code code 11 0) g (then-second _ _ (record-fine s t h) (ap fitsOver (end-counted s t (h .end)) ∙ e))
 
   -- The first sample that doesn't fit is refused by 14.
-  from-unfit : (t k j : ℕ) → Between 1 4 code → RecordRight s t → k < t → j < heldSamples s
+  from-unfit : (t k j : ℕ) → isCode code ≡ true → RecordRight s t → k < t → j < heldSamples s
       → ((h i : ℕ) → h < k → i < heldSamples s → Fits s code h i) → ((i : ℕ) → i < j → Fits s code k i) → ¬ (Fits s code k j)
       → fitsOver t ≡ Refused 14 (atPlace (pairPlace s k j))
   unfolding fitCauses traceFit
@@ -114,9 +115,9 @@ module _ (s : List ℕ) (code room : ℕ) where
   -- Each row is the answer where it applies: all that comes before it finds nothing, and its own test refuses.
   from-row : {n p : ℕ} → WriteRow s code room n p → writeCauses s code room ≡ Refused n (atPlace p)
   unfolding targetCauses
-  from-row (WriteRow.bad-target h) = then-first (targetCauses s code) _ (refused-then (test-between 1 4 code 11 0) _ h)
+  from-row (WriteRow.bad-target h) = then-first (targetCauses s code) _ (refused-then (test-code code 11 0) _ h)
   from-row {n} {p} (by-form g r) =
-      then-first (targetCauses s code) _ (fine-then (test-between 1 4 code 11 0) g (then-first (formCauses s) _ (exact-form s n p .1 r)))
+      then-first (targetCauses s code) _ (fine-then (test-code code 11 0) g (then-first (formCauses s) _ (exact-form s n p .1 r)))
   from-row (WriteRow.unfit t k j g h l m f b n) = then-first (targetCauses s code) _ (from-fits t g h (from-unfit t k j g h l m f b n))
   from-row (WriteRow.short-output t g h f l) =
       let size = reelLength code t (heldSamples s) in
@@ -126,7 +127,7 @@ module _ (s : List ℕ) (code room : ℕ) where
 
 -- ## From the causes to the rows
 
-module _ (s : List ℕ) (code room : ℕ) {n p : ℕ} (g : Between 1 4 code) where
+module _ (s : List ℕ) (code room : ℕ) {n p : ℕ} (g : isCode code ≡ true) where
   -- What 14 refuses in a valid record has its row.
   to-fits : (t : ℕ) → RecordRight s t → fitsOver s code room t ≡ Refused n (atPlace p) → WriteRow s code room n p
   unfolding fitCauses traceFit
@@ -144,7 +145,7 @@ module _ (s : List ℕ) (code room : ℕ) where
   unfolding targetCauses
   to-row {n} {p} =
       let row = WriteRow s code room in
-      let target = test-between 1 4 code 11 0 in
+      let target = test-code code 11 0 in
       let size = reelLength code (countIn s) (heldSamples s) in
       then-row row (targetCauses s code) _
       (row-then target row WriteRow.bad-target
@@ -164,7 +165,7 @@ pub no-writing-cause : (s : List ℕ) (code room : ℕ) → Iff (writeCauses s c
 no-writing-cause s code room = fine-none (WriteRow s code room) (writeCauses s code room) (exact-writing s code room)
 
 -- THEOREM. Where 100,000 traces stand and are right, and trace 100,001 follows them, writing is refused by 12 at the place of its tag.
-pub trace-beyond : (s : List ℕ) (code room : ℕ) → Between 1 4 code → RightUntil s 100000 → getD s (tracePlace s 100000) 0 ≡ 3
+pub trace-beyond : (s : List ℕ) (code room : ℕ) → isCode code ≡ true → RightUntil s 100000 → getD s (tracePlace s 100000) 0 ≡ 3
     → writeCauses s code room ≡ Refused 12 (atPlace (tracePlace s 100000))
 trace-beyond s code room g h tag =
     from-row s code room (by-form g (no-end 100000 (record { until = h; few = omega arith; end = inl refl }) (λ f. other (f .tag-is))))

@@ -10,6 +10,7 @@ use Rattle.numbers.specs.Places.{byteNo}
 use Rattle.numbers.specs.BigEndian.{number}
 use Rattle.numbers.specs.Terms.{All, Between}
 use Rattle.numbers.specs.declared.ByteNo.{ByteNo}
+use Rattle.formats.specs.Codes.{isCode}
 use Rattle.value.specs.Pair.{valueOf, isCanonical, pairIn}
 use Rattle.reel.specs.Layout.{elevationScalar, coordinateScalar, number16, tracesOf}
 use Rattle.reel.specs.Meaning.{elevationFields, coordinateFields}
@@ -18,14 +19,14 @@ use Rattle.record.specs.Held.{heldValue}
 use Rattle.read_reel.specs.Reading.{recordLengthOf}
 use Rattle.write_reel.specs.Reel.{reelLength}
 use Rattle.look_up.specs.LookUp.{headerFields}
-use Rattle.reel_theorems.specs.ReelTable.{ReelRow}
+use Rattle.reel_theorems.specs.ReelTable.{ZeroFirst, FiniteAt, ReelRow}
 use Rattle.demands.specs.ValidRecord.{Stands, CanonicalAt, tracePlace, headerPlace, pairPlace, CardsRight, SmallestAt, ScalarsRight, HeaderRight, TraceNext, EndNext, RecordRight}
 use Rattle.demands.specs.Words.{HasWord}
 
 -- ## Reading
 
 -- "Reading: 1 to 6 in that order; then trace by trace 7, 8, 9 (first such word); then 10." And 18 "in each trace after 8, field 69 first"
--- (document 02, CR 2). The rows of 1 to 9, 18 and 19 are `ReelRow`, in `ReelTable` of `reel_theorems`; the output has `room` bytes.
+-- (document 02, CR 2), and 19 "where 9 stands" (CR 4). The rows of 1 to 9, 18 and 19 are `ReelRow`, in `ReelTable` of `reel_theorems`; the output has `room` bytes.
 pub data ReadRow (s : List ℕ) (room : ℕ) : ℕ → ℕ → Type 0 where
   -- 1 to 9, 18 and 19: a row of their table applies to the reel
   by-reel : {number place : ℕ} → ReelRow s number place → ReadRow s room number place
@@ -94,36 +95,39 @@ Fits s code k j = HasWord code (heldValue s (pairPlace s k j))
 -- "Writing: 11; then the record front to back, each field first by 12, then by 13; then 14, first sample first; then 10." The output has
 -- `room` bytes.
 pub data WriteRow (s : List ℕ) (code room : ℕ) : ℕ → ℕ → Type 0 where
-  -- 11: the target code is not 1 to 4
-  bad-target : ¬ (Between 1 4 code) → WriteRow s code room 11 0
+  -- 11: the target code is none of 1, 2, 3, 4, 5, 8
+  bad-target : ¬ (isCode code ≡ true) → WriteRow s code room 11 0
   -- 12 and 13: a row of their table applies to the record
-  by-form : {number place : ℕ} → Between 1 4 code → FormRow s number place → WriteRow s code room number place
+  by-form : {number place : ℕ} → isCode code ≡ true → FormRow s number place → WriteRow s code room number place
   -- 14: a sample doesn't fit the target, the first such, at its pair
-  unfit : (t k j : ℕ) → Between 1 4 code → RecordRight s t → k < t → j < heldSamples s → ((h i : ℕ) → h < k → i < heldSamples s → Fits s code h i)
+  unfit : (t k j : ℕ) → isCode code ≡ true → RecordRight s t → k < t → j < heldSamples s → ((h i : ℕ) → h < k → i < heldSamples s → Fits s code h i)
       → ((i : ℕ) → i < j → Fits s code k i) → ¬ (Fits s code k j)
       → WriteRow s code room 14 (pairPlace s k j)
   -- 10: the output is too short for the reel, with the reel's length
-  short-output : (t : ℕ) → Between 1 4 code → RecordRight s t → ((k j : ℕ) → k < t → j < heldSamples s → Fits s code k j)
+  short-output : (t : ℕ) → isCode code ≡ true → RecordRight s t → ((k j : ℕ) → k < t → j < heldSamples s → Fits s code k j)
       → room < reelLength code t (heldSamples s)
       → WriteRow s code room 10 (reelLength code t (heldSamples s))
 
 -- ## Single samples
 
--- "A single word is refused by 2, then 9; a single pair by 11, 13, 14; the place is 0": the rows of a single word w, four bytes.
+-- "A single word is refused by 2, then 9; a single pair by 11, 13, 14; the place is 0", and by 19 "where 9 stands" (document 02, CR 4): the
+-- rows of a single word w, four bytes.
 pub data WordRow (code : ℕ) (w : List ℕ) : ℕ → ℕ → Type 0 where
-  -- 2: the format code is not 1 to 4
-  bad-code : ¬ (Between 1 4 code) → WordRow code w 2 0
+  -- 2: the format code is none of 1, 2, 3, 4, 5, 8
+  bad-code : ¬ (isCode code ≡ true) → WordRow code w 2 0
   -- 9: the first byte of a gain word is not 00
-  bad-gain : code ≡ 4 → ¬ (getD w 0 0 ≡ 0) → WordRow code w 9 0
+  bad-gain : code ≡ 4 → ¬ (ZeroFirst w 0) → WordRow code w 9 0
+  -- 19: an IEEE word is an infinity or a not-a-number
+  not-finite : code ≡ 5 → ¬ (FiniteAt w 0) → WordRow code w 19 0
 
 -- The rows of a single pair b, six bytes.
 pub data PairRow (code : ℕ) (b : List ℕ) : ℕ → ℕ → Type 0 where
-  -- 11: the target code is not 1 to 4
-  bad-target : ¬ (Between 1 4 code) → PairRow code b 11 0
+  -- 11: the target code is none of 1, 2, 3, 4, 5, 8
+  bad-target : ¬ (isCode code ≡ true) → PairRow code b 11 0
   -- 13: the pair isn't canonical
-  bad-pair : Between 1 4 code → ¬ (isCanonical (pairIn b) ≡ true) → PairRow code b 13 0
+  bad-pair : isCode code ≡ true → ¬ (isCanonical (pairIn b) ≡ true) → PairRow code b 13 0
   -- 14: it doesn't fit: no word of the code has its value
-  unfit : Between 1 4 code → isCanonical (pairIn b) ≡ true → ¬ (HasWord code (valueOf (pairIn b))) → PairRow code b 14 0
+  unfit : isCode code ≡ true → isCanonical (pairIn b) ≡ true → ¬ (HasWord code (valueOf (pairIn b))) → PairRow code b 14 0
 
 -- ## Looking up a field
 
@@ -132,7 +136,7 @@ abbrev pub NoField : ℕ → ByteNo → Type 0
 NoField k b = All (λ f. ¬ (f .begins ≡ byteNo b)) (headerFields k)
 
 -- "Look-up takes a reel, a trace number (0 means the binary header, 1 the first trace) and a byte number. It refuses by 1 to 9, then 15,
--- then 16." And by 18, where reading does: "look-up included" (document 02, CR 2). The trace number is k, the byte number b.
+-- then 16." And by 18, where reading does: "look-up included" (document 02, CR 2), and by 19, "where 9 stands" (CR 4). The trace number is k, the byte number b.
 pub data LookUpRow (s : List ℕ) (k : ℕ) (b : ByteNo) : ℕ → ℕ → Type 0 where
   -- 1 to 9, 18 and 19: a row of their table applies to the reel
   by-reel : {number place : ℕ} → ReelRow s number place → LookUpRow s k b number place

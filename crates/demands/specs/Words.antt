@@ -7,16 +7,15 @@ use Prim.Native.Nat.{ℕ}
 use lib.ListN.{length}
 use lib.IntN.{ℤ}
 use Rattle.numbers.specs.Terms.{All, Bytes}
-use Rattle.formats.specs.Value.{exactValue}
-use Rattle.sample.specs.Reading.{badGain}
+use Rattle.formats.specs.Value.{isBad, wordNumber, exactValue}
 use Rattle.reel.specs.Meaning.{Trace}
 
--- Some word of the code has the value v: four bytes, of which code 3 has the first two, that reading doesn't refuse by 9.
+-- Some word of the code has the value v: four bytes, of which a sample has the first, that reading doesn't refuse by 9 or 19.
 pub record HasWord (code : ℕ) (v : ℤ) : Type 0 where
   pub word : List ℕ
   pub size : length word ≡ 4
   pub bytes : Bytes word
-  pub good : badGain code word ≡ false
+  pub good : isBad code (wordNumber code word) ≡ false
   pub value : exactValue code word ≡ v
 
 -- Each sample of a list of traces has a word under the code: the format holds every sample exactly.

@@ -10,14 +10,14 @@ use native.Mathlib.Omega.{arith}
 use borrow.Author.Tests.{eqb-true, eqb-false, ne-eqb, lt-ltb, ltb-true, not-true}
 use lib.Dec.{T, eqb, ltb}
 use lib.IntN.{ℤ, pos}
-use lib.ListN.{getD}
+use lib.ListN.{length, getD}
 use Rattle.numbers.specs.Terms.{Bytes}
 use Rattle.numbers.specs.Iff.{Iff}
 use Rattle.numbers.specs.Walk.{pick, bytesAt}
 use Rattle.numbers.specs.BigEndian.{number, bytesOf}
 use Rattle.numbers.specs.TwosComplement.{signedOf}
 use Rattle.numbers.proofs.BoolLaws.{and-true, and-both}
-use Rattle.numbers.proofs.ByteLaws.{number-at, number-bytes}
+use Rattle.numbers.proofs.ByteLaws.{bytes-of, number-at, number-bytes}
 use Rattle.numbers.proofs.SignLaws.{below-or}
 use Rattle.formats.specs.Format.{inFormat}
 use Rattle.formats.specs.Codes.{isCode, sampleBytes, formatOf}
@@ -42,8 +42,8 @@ use Rattle.sample_theorems.proofs.Pairs.{taken-code, taken-good, readin
 
 -- ## Words and their bytes
 
--- the number of the word in the four bytes of a single word
-single-number : (code n : ℕ) → isCode code ≡ true → n < 256 ^ sampleBytes code → wordNumber code (singleWord code n) ≡ n
+-- The number of the word in the four bytes of a single word.
+pub single-number : (code n : ℕ) → isCode code ≡ true → n < 256 ^ sampleBytes code → wordNumber code (singleWord code n) ≡ n
 unfolding bytesAt
 single-number code n i = go code (code-is code i)
   where
@@ -54,6 +54,31 @@ single-number code n i = go code (code-is code i)
     go code gain h = number-bytes 4 n h
     go code ieee h = number-bytes 4 n h
     go code whole8 h = number-bytes 1 n h
+
+-- There are four, each of them a byte.
+pub single-bytes : (code n : ℕ) → isCode code ≡ true → (length (singleWord code n) ≡ 4) × Bytes (singleWord code n)
+single-bytes code n i = go code (code-is code i)
+  where
+    nil : 0 < 256
+    nil = omega arith
+
+    go : (code : ℕ) → Code code → (length (singleWord code n) ≡ 4) × Bytes (singleWord code n)
+    go code ibm = (refl, bytes-of 4 n)
+    go code whole32 = (refl, bytes-of 4 n)
+    go code whole16 = let b = bytes-of 2 n in (refl, (b .0, (b .1 .0, (nil, (nil, tt)))))
+    go code gain = (refl, bytes-of 4 n)
+    go code ieee = (refl, bytes-of 4 n)
+    go code whole8 = let b = bytes-of 1 n in (refl, (b .0, (nil, (nil, (nil, tt)))))
+
+-- The count of a word goes by its number.
+pub count-by : (code : ℕ) (w u : List ℕ) → wordNumber code w ≡ wordNumber code u → notNormal code w ≡ notNormal code u
+count-by code w u e = go (eqb code 1) refl
+  where
+    go : (t : Bool) → eqb code 1 ≡ t → _≡_ {A = ℕ} (pick (t && not (isNormal (wordNumber 1 w))) 1 0) (pick (t && not (isNormal (wordNumber 1 u))) 1 0)
+    go true q =
+        let one = eqb-true code 1 q in
+        ap (λ (n : ℕ). pick (not (isNormal n)) 1 0) (ap (λ (c : ℕ). wordNumber c w) (sym one) ∙ e ∙ ap (λ (c : ℕ). wordNumber c u) one)
+    go false q = refl
 
 -- a word of the code, of the bytes that a sample has, with a value
 word-parts : (code n : ℕ) → isWord code n ≡ true → (n < 256 ^ sampleBytes code) × (isBad code n ≡ false)
