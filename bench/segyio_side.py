@@ -18,7 +18,7 @@ import numpy
 import segyio
 from segyio import _segyio
 
-DTYPES = {1: numpy.float32, 2: numpy.int32, 3: numpy.int16}
+DTYPES = {1: numpy.float32, 2: numpy.int32, 3: numpy.int16, 5: numpy.float32, 8: numpy.int8}
 
 
 class Reel:

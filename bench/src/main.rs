@@ -18,7 +18,7 @@ use std::time::Instant;
 use std::{env, fs, process};
 use tables::{Call, Row};
 
-const USAGE: &str = "usage: bench [--mb SIZE] [--runs COUNT] [--codes 1,2,3,4] [--segyio PYTHON]
+const USAGE: &str = "usage: bench [--mb SIZE] [--runs COUNT] [--codes 1,2,3,...] [--segyio PYTHON]
        bench growth [--mb MOST] [--runs COUNT]
        bench one read|write CODE [--not-normal] [--mb SIZE] [--who library|same|tuned|independent]";
 
@@ -103,7 +103,7 @@ fn options() -> Option<Options> {
         words: Vec::new(),
         megabytes: None,
         runs: 7,
-        codes: vec![1, 2, 3, 4],
+        codes: reels::SAMPLES.map(|(code, _)| code).to_vec(),
         not_normal: false,
         who: Who::Library,
         python: None,
@@ -143,7 +143,7 @@ fn count_of(text: &str) -> Option<usize> {
 }
 
 fn code_of(text: &str) -> Option<u32> {
-    text.parse().ok().filter(|code| (1..=4).contains(code))
+    text.parse().ok().filter(|&code| passes::is_code(code))
 }
 
 /// One call of a Rust contender or of the library.
@@ -193,8 +193,7 @@ fn timed_copy(reel: &[u8], out: &mut [u8]) -> f64 {
 
 fn record_length(reel: &[u8], code: u32) -> usize {
     let samples = usize::from(u16::from_be_bytes([reel[3_220], reel[3_221]]));
-    let width = if code == 3 { 2 } else { 4 };
-    let traces = (reel.len() - 3_600) / (240 + samples * width);
+    let traces = (reel.len() - 3_600) / (240 + samples * passes::sample_bytes(code));
     3_273 + traces * (186 + 6 * samples)
 }
 
@@ -226,7 +225,7 @@ fn compare(options: &Options) {
         let mut record = vec![1; record_length(&reel, code)];
         let file = segyio
             .as_mut()
-            .filter(|_| code <= 3 && !not_normal)
+            .filter(|_| code != 4 && !not_normal)
             .map(|segyio| File::new(segyio, code, &reel));
         let mut asked = file.map(|file| (segyio.as_mut().expect("it was started"), file));
 

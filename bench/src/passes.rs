@@ -25,19 +25,21 @@ const TRACE_INTERVAL: usize = 116;
 
 const MOST_SAMPLES: u16 = 8_000;
 const MOST_INTERVAL: u16 = 32_767;
-const MOST_TRACES: usize = 100_000;
+pub const MOST_TRACES: usize = 100_000;
 
 const FIELD_HEAD: usize = 3;
 pub const PAIR_BYTES: usize = 6;
 const RECORD_HEAD: usize = 2 * FIELD_HEAD + CARD_BYTES + BINARY_FIELDS;
 const RECORD_END: usize = FIELD_HEAD + 4;
 
-/// The numbers of the causes that apply to a pair.
+/// The numbers of the causes that apply to a word, and of those that apply to a pair.
+pub const BAD_GAIN: u64 = 9;
+pub const NOT_FINITE: u64 = 19;
 pub const NOT_CANONICAL: u64 = 13;
 pub const UNFIT: u64 = 14;
 
 /// What is done for the elevations and the coordinates of a trace, by the fields of its header; and
-/// for each sample, by the words and the pairs of a trace and a code of 1 to 4.
+/// for each sample, by the words and the pairs of a trace and an allowed code.
 pub trait Steps {
     /// Whether a reel may have this scalar.
     fn is_allowed(scalar: i16) -> bool;
@@ -49,8 +51,9 @@ pub trait Steps {
     /// The offset of a record's first scalar that isn't that of the smallest power.
     fn refused_scalar(fields: &[u8]) -> Option<usize>;
 
-    /// The first gain word that is refused.
+    /// The first gain word that is refused, and the first infinity or not-a-number of IEEE words.
     fn refused_gain(words: &[u8]) -> Option<usize>;
+    fn refused_ieee(words: &[u8]) -> Option<usize>;
 
     /// How many words are not normal: 0 but for code 1.
     fn count_words(code: u32, words: &[u8]) -> u64;
@@ -78,11 +81,17 @@ fn be16(bytes: &[u8], at: usize) -> u16 {
     u16::from_be_bytes([bytes[at], bytes[at + 1]])
 }
 
-fn sample_bytes(code: u32) -> usize {
-    if code == 3 {
-        2
-    } else {
-        4
+/// Whether a code is one of those that are read and written.
+pub fn is_code(code: u32) -> bool {
+    matches!(code, 1..=5 | 8)
+}
+
+/// The bytes of a sample on a reel.
+pub fn sample_bytes(code: u32) -> usize {
+    match code {
+        3 => 2,
+        8 => 1,
+        _ => 4,
     }
 }
 
@@ -126,8 +135,8 @@ fn check_reel<S: Steps>(reel: &[u8]) -> Result<ReelNumbers, Refused> {
     }
     let (headers, behind) = reel.split_at(REEL_HEADERS);
     let binary = &headers[CARD_BYTES..];
-    let code = be16(binary, CODE);
-    if !(1..=4).contains(&code) {
+    let code = u32::from(be16(binary, CODE));
+    if !is_code(code) {
         return refused(2, CARD_BYTES + CODE);
     }
     let count = be16(binary, COUNT);
@@ -139,7 +148,6 @@ fn check_reel<S: Steps>(reel: &[u8]) -> Result<ReelNumbers, Refused> {
         return refused(4, CARD_BYTES + INTERVAL);
     }
 
-    let code = u32::from(code);
     let samples = usize::from(count);
     let stride = TRACE_HEADER + samples * sample_bytes(code);
     let traces = behind.len() / stride;
@@ -167,10 +175,13 @@ fn check_reel<S: Steps>(reel: &[u8]) -> Result<ReelNumbers, Refused> {
                 return refused(18, place + scalar);
             }
         }
-        if code == 4 {
-            if let Some(k) = S::refused_gain(words) {
-                return refused(9, place + TRACE_HEADER + 4 * k);
-            }
+        let (number, word) = match code {
+            4 => (BAD_GAIN, S::refused_gain(words)),
+            5 => (NOT_FINITE, S::refused_ieee(words)),
+            _ => continue,
+        };
+        if let Some(k) = word {
+            return refused(number, place + TRACE_HEADER + 4 * k);
         }
     }
     Ok(ReelNumbers {
@@ -257,7 +268,7 @@ struct RecordNumbers {
 }
 
 fn check_record<S: Steps>(record: &[u8], code: u32) -> Result<RecordNumbers, Refused> {
-    if !(1..=4).contains(&code) {
+    if !is_code(code) {
         return refused(11, 0);
     }
     let cards = check_field(record, 0, 1, CARD_BYTES)?;

@@ -1,15 +1,19 @@
 //! The reels that are read and written, made on the spot and the same at every run.
 
+use crate::passes::{sample_bytes, MOST_TRACES};
+
 const REEL_HEADERS: usize = 3_600;
 const TRACE_HEADER: usize = 240;
 const INTERVAL: u16 = 2_000;
 
 /// What the samples of each code are, for the reader of a table.
-pub const SAMPLES: [&str; 4] = [
-    "normal IBM words, characteristics 58 to 70 (most near 64), both signs, random fractions; 1 in 64 is zero",
-    "32-bit numbers of 8 to 32 bits, both signs; 1 in 64 is zero",
-    "16-bit numbers of 4 to 16 bits, both signs; 1 in 64 is zero",
-    "gain words, gains 0 to 15, 16-bit numbers of both signs; 1 in 64 is zero",
+pub const SAMPLES: [(u32, &str); 6] = [
+    (1, "normal IBM words, characteristics 58 to 70 (most near 64), both signs, random fractions; 1 in 64 is zero"),
+    (2, "32-bit numbers of 8 to 32 bits, both signs; 1 in 64 is zero"),
+    (3, "16-bit numbers of 4 to 16 bits, both signs; 1 in 64 is zero"),
+    (4, "gain words, gains 0 to 15, 16-bit numbers of both signs; 1 in 64 is zero"),
+    (5, "IEEE words, exponents 103 to 151 (most near 127), both signs, random fractions; 1 in 64 is zero"),
+    (8, "8-bit numbers of 4 to 8 bits, both signs; 1 in 64 is zero"),
 ];
 
 /// Of the reel that is compared for its words that aren't normal: one word in so many, and what those are.
@@ -118,9 +122,19 @@ impl Random {
                 let number = self.next() as i32 >> (16 + self.below(13));
                 ((number as u32) << 16).to_be_bytes()
             }
-            _ => {
+            4 => {
                 let number = self.next() & 0xFFFF;
                 (self.below(16) << 16 | number).to_be_bytes()
+            }
+            5 => {
+                let exponent = 103 + self.below(17) + self.below(17) + self.below(17);
+                let fraction = self.below(0x80_0000);
+                let sign = self.next() >> 31;
+                (sign << 31 | exponent << 23 | fraction).to_be_bytes()
+            }
+            _ => {
+                let number = self.next() as i32 >> (24 + self.below(5));
+                ((number as u32) << 24).to_be_bytes()
             }
         }
     }
@@ -141,11 +155,12 @@ pub fn make_not_normal(samples: u16, bytes: usize, one_in: u32) -> Vec<u8> {
     reel
 }
 
-/// A reel of a code, of about so many bytes. All words of code 1 are normal.
+/// A reel of a code, of about so many bytes, or of the most traces that there may be. All words of code 1
+/// are normal.
 pub fn make(code: u32, samples: u16, bytes: usize) -> Vec<u8> {
-    let width = if code == 3 { 2 } else { 4 };
+    let width = sample_bytes(code);
     let stride = TRACE_HEADER + usize::from(samples) * width;
-    let traces = (bytes.saturating_sub(REEL_HEADERS) / stride).max(1);
+    let traces = (bytes.saturating_sub(REEL_HEADERS) / stride).clamp(1, MOST_TRACES);
     let mut reel = vec![0; REEL_HEADERS + traces * stride];
     let mut random = Random(1975 + u64::from(code));
 

@@ -3,14 +3,20 @@
 //! Rust programmer had written it, and nothing in it was chosen by measuring but how far it follows the
 //! library in code 1: there it takes a word's first byte before the bytes are swapped, as the library does.
 
-use crate::passes::{self, Steps, NOT_CANONICAL, PAIR_BYTES, UNFIT};
+use crate::passes::{self, Steps, BAD_GAIN, NOT_CANONICAL, NOT_FINITE, PAIR_BYTES, UNFIT};
 use crate::passes::{COORDINATES, COORDINATE_SCALAR, ELEVATIONS, ELEVATION_SCALAR};
 use independent::{ReelRead, Refused, Taken};
 use std::array;
 
 const DENOMINATOR_POWER: u32 = 280;
 const HIGHEST_SHIFT: u32 = 531;
-const BAD_GAIN: u64 = 9;
+
+/// An IEEE single word as a format of sign and magnitude: the bits of a fraction with the hidden bit, how
+/// many characteristics there are, and the power of the last place at characteristic 0, over 2^280. The
+/// word's exponent is the characteristic and the hidden bit.
+const IEEE_FRACTION: u32 = 24;
+const IEEE_CHARACTERISTICS: u32 = 254;
+const IEEE_BASE: u32 = DENOMINATOR_POWER - 149;
 
 struct Same;
 
@@ -72,6 +78,13 @@ impl Steps for Same {
     }
 
     #[inline(always)]
+    fn refused_ieee(words: &[u8]) -> Option<usize> {
+        words
+            .chunks_exact(4)
+            .position(|word| ieee(u32::from_be_bytes(word.try_into().unwrap())).is_err())
+    }
+
+    #[inline(always)]
     fn count_words(code: u32, words: &[u8]) -> u64 {
         if code != 1 {
             return 0;
@@ -88,7 +101,9 @@ impl Steps for Same {
             1 => put_pairs(words, pairs, ibm),
             2 => put_pairs(words, pairs, |word| whole32(i32::from_be_bytes(word))),
             3 => put_pairs(words, pairs, |word| whole16(i16::from_be_bytes(word))),
-            _ => put_pairs(words, pairs, gain_or_zero),
+            4 => put_pairs(words, pairs, gain_or_zero),
+            5 => put_pairs(words, pairs, |word| ieee_or_zero(u32::from_be_bytes(word))),
+            _ => put_pairs(words, pairs, |word| whole8(i8::from_be_bytes(word))),
         }
     }
 
@@ -98,7 +113,9 @@ impl Steps for Same {
             1 => check_pairs(pairs, ibm_of),
             2 => check_pairs(pairs, whole32_of),
             3 => check_pairs(pairs, whole16_of),
-            _ => check_pairs(pairs, gain_of),
+            4 => check_pairs(pairs, gain_of),
+            5 => check_pairs(pairs, ieee_of),
+            _ => check_pairs(pairs, whole8_of),
         }
     }
 
@@ -114,7 +131,9 @@ impl Steps for Same {
             1 => put_words::<4>(pairs, words, ibm_of),
             2 => put_words::<4>(pairs, words, whole32_of),
             3 => put_words::<2>(pairs, words, whole16_of),
-            _ => put_words::<4>(pairs, words, gain_of),
+            4 => put_words::<4>(pairs, words, gain_of),
+            5 => put_words::<4>(pairs, words, ieee_of),
+            _ => put_words::<1>(pairs, words, whole8_of),
         }
     }
 }
@@ -309,6 +328,12 @@ fn whole16(number: i16) -> Pair {
 }
 
 #[inline(always)]
+fn whole8(number: i8) -> Pair {
+    let magnitude = u32::from(number.unsigned_abs());
+    canonical(number < 0, magnitude, DENOMINATOR_POWER)
+}
+
+#[inline(always)]
 fn gain_number(g: u8, number: i16) -> Pair {
     let magnitude = u32::from(number.unsigned_abs());
     canonical(number < 0, magnitude, DENOMINATOR_POWER - u32::from(g))
@@ -327,6 +352,35 @@ fn gain([first, g, high, low]: [u8; 4]) -> Result<Pair, u64> {
 fn gain_or_zero([first, g, high, low]: [u8; 4]) -> Pair {
     let number = i16::from_be_bytes([high, low]);
     gain_number(g, if first == 0 { number } else { 0 })
+}
+
+fn exponent_of(word: u32) -> u32 {
+    word >> 23 & 0xFF
+}
+
+/// A normal number has the hidden bit; a subnormal one has none, and the last place of the least normal.
+#[inline(always)]
+fn ieee_number(word: u32) -> Pair {
+    let negative = word >= 0x8000_0000;
+    let fraction = word & 0x7F_FFFF;
+    match exponent_of(word) {
+        0 => canonical(negative, fraction, IEEE_BASE),
+        exponent => canonical(negative, 0x80_0000 + fraction, IEEE_BASE + exponent - 1),
+    }
+}
+
+#[inline(always)]
+fn ieee(word: u32) -> Result<Pair, u64> {
+    if exponent_of(word) == 0xFF {
+        return Err(NOT_FINITE);
+    }
+    Ok(ieee_number(word))
+}
+
+/// The second pass's IEEE word: one that is refused, which the first pass has ruled out, is zero.
+#[inline(always)]
+fn ieee_or_zero(word: u32) -> Pair {
+    ieee_number(if exponent_of(word) == 0xFF { 0 } else { word })
 }
 
 // ## Writing
@@ -460,8 +514,15 @@ fn whole32_of(negative: bool, odd: u32, power: u32) -> Result<u32, u64> {
 /// In the word's first two bytes.
 #[inline(always)]
 fn whole16_of(negative: bool, odd: u32, power: u32) -> Result<u32, u64> {
-    let whole = whole_below(odd, power, limit16(negative)).ok_or(UNFIT)?;
-    Ok(complement16(negative, whole) << 16)
+    let whole = whole_below(odd, power, limit(16, negative)).ok_or(UNFIT)?;
+    Ok(complement(16, negative, whole) << 16)
+}
+
+/// In the word's first byte.
+#[inline(always)]
+fn whole8_of(negative: bool, odd: u32, power: u32) -> Result<u32, u64> {
+    let whole = whole_below(odd, power, limit(8, negative)).ok_or(UNFIT)?;
+    Ok(complement(8, negative, whole) << 24)
 }
 
 /// With the least gain that leaves the number whole.
@@ -471,23 +532,43 @@ fn gain_of(negative: bool, odd: u32, power: u32) -> Result<u32, u64> {
     if gain > 255 {
         return Err(UNFIT);
     }
-    let whole = whole_below(odd, power + gain, limit16(negative)).ok_or(UNFIT)?;
-    Ok((gain << 16) + complement16(negative, whole))
+    let whole = whole_below(odd, power + gain, limit(16, negative)).ok_or(UNFIT)?;
+    Ok((gain << 16) + complement(16, negative, whole))
 }
 
+/// The least characteristic whose fraction reaches up to the first 1 of odd × 2^power, if it reaches down
+/// to the last. At the least of all the first bit of the fraction may be 0: a subnormal number.
 #[inline(always)]
-fn limit16(negative: bool) -> u64 {
+fn ieee_of(negative: bool, odd: u32, power: u32) -> Result<u32, u64> {
+    let first = 32 - odd.leading_zeros() + power;
+    let characteristic = first.saturating_sub(IEEE_FRACTION + IEEE_BASE);
+    if characteristic >= IEEE_CHARACTERISTICS {
+        return Err(UNFIT);
+    }
+    let last_place = IEEE_BASE + characteristic;
+    if power < last_place {
+        return Err(UNFIT);
+    }
+    let fraction = odd << (power - last_place);
+    let sign = if negative { 0x8000_0000 } else { 0 };
+    Ok(sign + (characteristic << 23) + fraction)
+}
+
+/// One more than the largest magnitude of a number of so many bits, of either sign.
+#[inline(always)]
+fn limit(bits: u32, negative: bool) -> u64 {
+    let half = 1 << (bits - 1);
     if negative {
-        0x8001
+        half + 1
     } else {
-        0x8000
+        half
     }
 }
 
 #[inline(always)]
-fn complement16(negative: bool, whole: u32) -> u32 {
+fn complement(bits: u32, negative: bool, whole: u32) -> u32 {
     if negative {
-        0x1_0000 - whole
+        (1 << bits) - whole
     } else {
         whole
     }

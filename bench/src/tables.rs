@@ -43,7 +43,7 @@ pub fn preface(megabytes: usize, runs: usize, segyio: Option<String>) {
         None => println!("segyio was not there."),
     }
     println!();
-    for (code, samples) in (1..).zip(reels::SAMPLES) {
+    for (code, samples) in reels::SAMPLES {
         println!("- Code {code}: {samples}.");
     }
     println!("- Code 1 once more, in reading: {}.", reels::NOT_NORMAL);

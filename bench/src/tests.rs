@@ -12,9 +12,9 @@ const BYTES: usize = 5_000;
 const DAMAGES: usize = 20_000;
 
 /// One more than the highest number of a cause.
-const CAUSES: usize = 19;
+const CAUSES: usize = 20;
 
-/// Changes some bytes, and the length now and then.
+/// Changes some bytes, one or two at a place, and the length now and then.
 fn damaged(random: &mut Random, bytes: &[u8]) -> Vec<u8> {
     let mut bytes = bytes.to_vec();
     for _ in 0..=random.below(3) {
@@ -25,12 +25,16 @@ fn damaged(random: &mut Random, bytes: &[u8]) -> Vec<u8> {
             _ => (3_195, bytes.len()),
         };
         let place = first + random.below((end - first) as u32) as usize;
-        bytes[place] = match random.below(4) {
+        let byte = match random.below(5) {
             0 => 0,
             1 => bytes[place] ^ 1 << random.below(8),
-            2 => random.below(6) as u8,
+            2 => random.below(10) as u8,
+            3 => 0xFF,
             _ => random.below(256) as u8,
         };
+        // Two bytes FF begin a not-a-number.
+        let end = bytes.len().min(place + 1 + random.below(2) as usize);
+        bytes[place..end].fill(byte);
     }
     match random.below(16) {
         0 => bytes.truncate(random.below(bytes.len() as u32) as usize),
@@ -57,7 +61,7 @@ fn agreed(what: Call, code: u32, input: &[u8], room: usize) -> usize {
 fn reading_damaged_reels() {
     let mut random = Random(1);
     let mut causes = [0; CAUSES];
-    for code in 1..=4 {
+    for (code, _) in reels::SAMPLES {
         let mut whole = vec![reels::make(code, SAMPLES, BYTES)];
         if code == 1 {
             whole.push(reels::make_not_normal(SAMPLES, BYTES, 2));
@@ -70,7 +74,7 @@ fn reading_damaged_reels() {
             }
         }
     }
-    for number in [0, 1, 2, 3, 4, 5, 7, 8, 9, 10, 18] {
+    for number in [0, 1, 2, 3, 4, 5, 7, 8, 9, 10, 18, 19] {
         assert!(causes[number] > 50, "{causes:?}");
     }
 }
@@ -110,6 +114,29 @@ fn counting_every_kind_of_word() {
     assert_eq!(counted(&reel), 0);
 }
 
+/// Every sign and exponent of an IEEE word with some fractions, and every word of one byte.
+#[test]
+fn reading_every_kind_of_ieee_word_and_every_byte() {
+    let (mut reel, record) = one_trace(5);
+    let mut causes = [0; CAUSES];
+    for front in 0..=u16::MAX {
+        for end in [0, 1, 0x0100, 0x8000, 0xFFFF] {
+            let word = u32::from(front) << 16 | end;
+            reel[3_840..].copy_from_slice(&word.to_be_bytes());
+            causes[agreed(Call::Read, 5, &reel, record.len())] += 1;
+        }
+    }
+    // Two signs by 128 first halves of a fraction have the exponent 255.
+    assert_eq!(causes[19], 2 * 128 * 5);
+    assert_eq!(causes[0], 5 * 0x1_0000 - causes[19]);
+
+    let (mut reel, record) = one_trace(8);
+    for byte in 0..=u8::MAX {
+        reel[3_840] = byte;
+        assert_eq!(agreed(Call::Read, 8, &reel, record.len()), 0);
+    }
+}
+
 /// One word of a trace of any length, at any place, in the first trace or the second.
 #[test]
 fn counting_one_word_at_any_place() {
@@ -136,13 +163,13 @@ fn counting_one_word_at_any_place() {
 fn writing_damaged_records() {
     let mut random = Random(2);
     let mut causes = [0; CAUSES];
-    for code in 1..=4 {
+    for (code, _) in reels::SAMPLES {
         let reel = reels::make(code, SAMPLES, BYTES);
         let mut record = vec![0; crate::record_length(&reel, code)];
         independent::read_reel(&reel, &mut record).expect("a valid reel");
         for _ in 0..DAMAGES {
             let record = damaged(&mut random, &record);
-            let target = random.below(6);
+            let target = random.below(10);
             let room = 7_000 - random.below(4_000) as usize;
             causes[agreed(Call::Write, target, &record, room)] += 1;
         }
@@ -159,7 +186,7 @@ const LEAST: i16 = -10_000;
 /// magnitudes.
 #[test]
 fn reading_and_writing_every_scalar() {
-    let (mut reel, mut record) = one_trace();
+    let (mut reel, mut record) = one_trace(1);
     let mut random = Random(3);
     let mut causes = [0; CAUSES];
     for scalar in i16::MIN..=i16::MAX {
@@ -184,7 +211,7 @@ fn reading_and_writing_every_scalar() {
 /// Every allowed scalar, over one number about the limits of each power in each place of its group.
 #[test]
 fn reading_and_writing_groups_about_the_limits() {
-    let (mut reel, mut record) = one_trace();
+    let (mut reel, mut record) = one_trace(1);
     let mut numbers = vec![0, i32::MIN, i32::MIN + 1];
     for zeros in 0..=9 {
         let largest = i32::MAX / 10i32.pow(zeros);
@@ -216,9 +243,9 @@ fn reading_and_writing_groups_about_the_limits() {
 }
 
 /// A reel of one trace and one sample, and its record.
-fn one_trace() -> (Vec<u8>, Vec<u8>) {
-    let reel = reels::make(1, 1, 0);
-    let mut record = vec![0; crate::record_length(&reel, 1)];
+fn one_trace(code: u32) -> (Vec<u8>, Vec<u8>) {
+    let reel = reels::make(code, 1, 0);
+    let mut record = vec![0; crate::record_length(&reel, code)];
     independent::read_reel(&reel, &mut record).expect("a valid reel");
     (reel, record)
 }
@@ -234,10 +261,10 @@ fn put_bytes(reel: &mut [u8], record: &mut [u8], at: usize, bytes: &[u8]) {
 /// and of the whole numbers.
 #[test]
 fn writing_pairs_about_the_limits() {
-    let (reel, mut record) = one_trace();
+    let (reel, mut record) = one_trace(1);
     let pair = record.len() - 13;
     let mut mantissas = vec![0, 2, i32::MIN];
-    for bits in [1, 15, 16, 20, 21, 24, 25, 31] {
+    for bits in [1, 7, 8, 15, 16, 20, 21, 23, 24, 25, 31] {
         let least_beyond = 1i64 << bits;
         for odd in [least_beyond - 1, least_beyond + 1] {
             mantissas.extend(i32::try_from(odd));
@@ -249,7 +276,7 @@ fn writing_pairs_about_the_limits() {
         record[pair..pair + 2].copy_from_slice(&e.to_be_bytes());
         for m in &mantissas {
             record[pair + 2..pair + 6].copy_from_slice(&m.to_be_bytes());
-            for code in 1..=4 {
+            for (code, _) in reels::SAMPLES {
                 causes[agreed(Call::Write, code, &record, reel.len())] += 1;
             }
         }

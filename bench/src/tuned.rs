@@ -53,6 +53,13 @@ impl Steps for Tuned {
     }
 
     #[inline(always)]
+    fn refused_ieee(words: &[u8]) -> Option<usize> {
+        words.chunks_exact(4).position(|word| {
+            u32::from_be_bytes(word.try_into().unwrap()) & 0x7F80_0000 == 0x7F80_0000
+        })
+    }
+
+    #[inline(always)]
     fn count_words(code: u32, words: &[u8]) -> u64 {
         let words = words
             .as_chunks()
@@ -74,7 +81,9 @@ impl Steps for Tuned {
             1 => put_pairs(words, pairs, ibm),
             2 => put_pairs(words, pairs, |word| whole32(i32::from_be_bytes(word))),
             3 => put_pairs(words, pairs, |word| whole16(i16::from_be_bytes(word))),
-            _ => put_pairs(words, pairs, gain),
+            4 => put_pairs(words, pairs, gain),
+            5 => put_pairs(words, pairs, |word| ieee(u32::from_be_bytes(word))),
+            _ => put_pairs(words, pairs, |word| whole8(i8::from_be_bytes(word))),
         }
     }
 
@@ -84,7 +93,9 @@ impl Steps for Tuned {
             1 => check_pairs(pairs, Pair::ibm_word),
             2 => check_pairs(pairs, Pair::whole32_word),
             3 => check_pairs(pairs, Pair::whole16_word),
-            _ => check_pairs(pairs, Pair::gain_word),
+            4 => check_pairs(pairs, Pair::gain_word),
+            5 => check_pairs(pairs, Pair::ieee_word),
+            _ => check_pairs(pairs, Pair::whole8_word),
         }
     }
 
@@ -100,7 +111,9 @@ impl Steps for Tuned {
             1 => put_words(pairs, words, Pair::ibm_word),
             2 => put_words(pairs, words, Pair::whole32_word),
             3 => put_words(pairs, words, Pair::whole16_word),
-            _ => put_words(pairs, words, Pair::gain_word),
+            4 => put_words(pairs, words, Pair::gain_word),
+            5 => put_words(pairs, words, Pair::ieee_word),
+            _ => put_words(pairs, words, Pair::whole8_word),
         }
     }
 }
@@ -252,6 +265,25 @@ fn whole16(number: i16) -> Pair {
     canonical(i32::from(number), 0)
 }
 
+#[inline(always)]
+fn whole8(number: i8) -> Pair {
+    canonical(i32::from(number), 0)
+}
+
+/// The exponent has been found not to be 255. A normal number has the hidden bit.
+#[inline(always)]
+fn ieee(word: u32) -> Pair {
+    let exponent = (word >> 23 & 0xFF) as i32;
+    let hidden = i32::from(exponent != 0);
+    let magnitude = (word & 0x7F_FFFF) as i32 + (hidden << 23);
+    let number = if (word as i32) < 0 {
+        -magnitude
+    } else {
+        magnitude
+    };
+    canonical(number, exponent - hidden - 149)
+}
+
 /// The first byte has been found to be 00.
 #[inline(always)]
 fn gain([_, g, high, low]: [u8; 4]) -> Pair {
@@ -337,6 +369,24 @@ impl Pair {
     fn whole16_word(self) -> Option<[u8; 2]> {
         let whole = i16::try_from(self.whole()?).ok()?;
         Some(whole.to_be_bytes())
+    }
+
+    #[inline(always)]
+    fn whole8_word(self) -> Option<[u8; 1]> {
+        let whole = i8::try_from(self.whole()?).ok()?;
+        Some(whole.to_be_bytes())
+    }
+
+    /// The value as a double, which has every pair's, to the nearest single: the word, if it is the value.
+    #[inline(always)]
+    fn ieee_word(self) -> Option<[u8; 4]> {
+        let power = f64::from_bits(((i64::from(self.e) + 1_023) << 52) as u64);
+        let value = f64::from(self.m) * power;
+        let single = value as f32;
+        if f64::from(single) != value {
+            return None;
+        }
+        Some(single.to_be_bytes())
     }
 
     /// The least gain that leaves the number whole.
