@@ -9,6 +9,7 @@ mod tables;
 #[cfg(test)]
 mod tests;
 mod tuned;
+mod versions;
 
 use independent::{ReelRead, Refused, Taken};
 use segyio::Segyio;
@@ -20,15 +21,19 @@ use tables::{Call, Row};
 
 const USAGE: &str = "usage: bench [--mb SIZE] [--runs COUNT] [--codes 1,2,3,...] [--segyio PYTHON]
        bench growth [--mb MOST] [--runs COUNT]
+       bench versions OLD OLD NEW NEW [--mb SIZE] [--runs COUNT] [--codes 1,2,3,...] [--samples N]
        bench one read|write CODE [--not-normal] [--mb SIZE] [--who library|same|tuned|independent]";
 
-/// N of the reels that are compared.
+/// N of the reels that are compared, where no other is asked for.
 const SAMPLES: u16 = 2_000;
 
 /// N of the reels that grow: a reel of 1,000 MB then has fewer than 100,000 traces.
 const SAMPLES_IN_GROWTH: u16 = 2_500;
 
 const MEGABYTE: usize = 1_000_000;
+
+/// How many runs there are, where no other number is asked for.
+const RUNS: usize = 7;
 
 /// The sizes, in megabytes, of the reels that are compared and of those that grow.
 const SIZE: usize = 256;
@@ -62,8 +67,9 @@ const ALL: [Who; 7] = [
 struct Options {
     words: Vec<String>,
     megabytes: Option<usize>,
-    runs: usize,
+    runs: Option<usize>,
     codes: Vec<u32>,
+    samples: u16,
     not_normal: bool,
     who: Who,
     python: Option<String>,
@@ -77,6 +83,9 @@ fn main() {
     match words[..] {
         [] => compare(&options),
         ["growth"] => growth(&options),
+        ["versions", old, old_again, new, new_again] => {
+            versions::compare(&options, [old, old_again, new, new_again])
+        }
         ["one", call, code] => {
             let call = match call {
                 "read" => Call::Read,
@@ -102,8 +111,9 @@ fn options() -> Option<Options> {
     let mut options = Options {
         words: Vec::new(),
         megabytes: None,
-        runs: 7,
+        runs: None,
         codes: reels::SAMPLES.map(|(code, _)| code).to_vec(),
+        samples: SAMPLES,
         not_normal: false,
         who: Who::Library,
         python: None,
@@ -112,7 +122,8 @@ fn options() -> Option<Options> {
     while let Some(argument) = arguments.next() {
         match argument.as_str() {
             "--mb" => options.megabytes = Some(count_of(&arguments.next()?)?),
-            "--runs" => options.runs = count_of(&arguments.next()?)?,
+            "--runs" => options.runs = Some(count_of(&arguments.next()?)?),
+            "--samples" => options.samples = count_of(&arguments.next()?)?.try_into().ok()?,
             "--codes" => {
                 options.codes = arguments
                     .next()?
@@ -198,13 +209,21 @@ fn record_length(reel: &[u8], code: u32) -> usize {
 }
 
 /// A reel to compare by, or to count by.
-fn reel_of(code: u32, not_normal: bool, megabytes: usize) -> Vec<u8> {
+fn reel_of(code: u32, samples: u16, not_normal: bool, megabytes: usize) -> Vec<u8> {
     let bytes = megabytes * MEGABYTE;
     if not_normal {
-        reels::make_not_normal(SAMPLES, bytes, reels::ONE_IN)
+        reels::make_not_normal(samples, bytes, reels::ONE_IN)
     } else {
-        reels::make(code, SAMPLES, bytes)
+        reels::make(code, samples, bytes)
     }
+}
+
+/// The kinds of reels: a code, and for code 1 once more with words that aren't normal.
+fn kinds(codes: &[u32]) -> impl Iterator<Item = (u32, bool)> + '_ {
+    codes.iter().flat_map(|&code| match code {
+        1 => vec![(code, false), (code, true)],
+        _ => vec![(code, false)],
+    })
 }
 
 /// Every contender on every code, all in turn in each run; the best run counts.
@@ -212,16 +231,13 @@ fn compare(options: &Options) {
     let mut segyio = options.python.as_deref().map(Segyio::start);
     let version = segyio.as_mut().map(|segyio| segyio.ask("version"));
     let megabytes = options.megabytes.unwrap_or(SIZE);
-    tables::preface(megabytes, options.runs, version);
+    let runs = options.runs.unwrap_or(RUNS);
+    tables::preface(megabytes, options.samples, runs, version);
 
     let mut rows = Vec::new();
     let mut untouched = Vec::new();
-    let kinds = options.codes.iter().flat_map(|&code| match code {
-        1 => vec![(code, false), (code, true)],
-        _ => vec![(code, false)],
-    });
-    for (code, not_normal) in kinds {
-        let reel = reel_of(code, not_normal, megabytes);
+    for (code, not_normal) in kinds(&options.codes) {
+        let reel = reel_of(code, options.samples, not_normal, megabytes);
         let mut record = vec![1; record_length(&reel, code)];
         let file = segyio
             .as_mut()
@@ -236,7 +252,7 @@ fn compare(options: &Options) {
             code,
             not_normal,
             bytes: reel.len(),
-            seconds: best(options.runs, |who| match (who, &mut asked) {
+            seconds: best(runs, |who| match (who, &mut asked) {
                 (Who::Memcpy, _) => Some(timed_copy(&reel, &mut out)),
                 (Who::SegyioFile, Some((segyio, _))) => Some(segyio.seconds("read")),
                 (Who::SegyioConversion, Some((segyio, _))) => Some(segyio.seconds("convert")),
@@ -257,7 +273,7 @@ fn compare(options: &Options) {
             code,
             not_normal,
             bytes: reel.len(),
-            seconds: best(options.runs, |who| match (who, &mut asked) {
+            seconds: best(runs, |who| match (who, &mut asked) {
                 (Who::Memcpy, _) => Some(timed_copy(&reel, &mut out)),
                 (Who::SegyioFile, Some((segyio, _))) => Some(segyio.seconds("write")),
                 (Who::SegyioConversion, Some((segyio, _))) => Some(segyio.seconds("convert back")),
@@ -277,7 +293,7 @@ fn compare(options: &Options) {
                     code,
                     not_normal,
                     bytes: reel.len(),
-                    seconds: best(options.runs, |who| match who {
+                    seconds: best(runs, |who| match who {
                         // A buffer of that size comes with no page of it in memory yet.
                         Who::Library | Who::Same | Who::Tuned => {
                             let mut out = vec![0; length.max(64 * MEGABYTE)];
@@ -360,7 +376,7 @@ fn growth(options: &Options) {
         })
         .collect();
     let mut out = vec![1; grown.iter().map(|one| one.reel.len()).max().unwrap_or(0)];
-    for _ in 0..options.runs {
+    for _ in 0..options.runs.unwrap_or(RUNS) {
         for Grown {
             megabytes,
             reel,
@@ -390,7 +406,7 @@ struct Grown {
 /// implementation, so that the library is called for nothing else.
 fn one(options: &Options, what: Call, code: u32) {
     let megabytes = options.megabytes.unwrap_or(SIZE);
-    let reel = reel_of(code, options.not_normal, megabytes);
+    let reel = reel_of(code, options.samples, options.not_normal, megabytes);
     let mut record = vec![1; record_length(&reel, code)];
     let answer = match what {
         Call::Read => call(

@@ -1,5 +1,6 @@
 //! What is printed, in Markdown, as docs/BENCHMARKS.md has it.
 
+use crate::versions::Compared;
 use crate::{reels, Grown, Who, ALL};
 
 #[derive(Clone, Copy, PartialEq)]
@@ -30,10 +31,9 @@ pub fn name(who: Who, call: Call) -> &'static str {
     }
 }
 
-pub fn preface(megabytes: usize, runs: usize, segyio: Option<String>) {
+pub fn preface(megabytes: usize, samples: u16, runs: usize, segyio: Option<String>) {
     println!(
-        "A reel of {megabytes} MB for each code, N = {}; best of {runs} runs, all contenders in turn in each run, each run beginning with another.",
-        crate::SAMPLES
+        "A reel of {megabytes} MB for each code, N = {samples}; best of {runs} runs, all contenders in turn in each run, each run beginning with another."
     );
     println!(
         "Every page of every buffer was touched before, but for the table that says otherwise."
@@ -98,6 +98,55 @@ pub fn growth(grown: &[Grown]) {
     }
 }
 
+pub fn versions(rows: &[Compared], megabytes: usize, samples: u16, runs: usize) {
+    println!("A reel of {megabytes} MB for each code, N = {samples}; best of {runs} runs, both copies of both versions in turn in each run, each run beginning with another. The faster copy counts; the slower one is given over it.");
+    for (call, title) in [(Call::Read, "Reading"), (Call::Write, "Writing")] {
+        println!("\n{title}, MB of reel a second:\n");
+        println!("| code | old | new | new over old | old's slower copy | new's slower copy |");
+        println!("|---|---|---|---|---|---|");
+        for row in rows.iter().filter(|row| row.call == call) {
+            let [old, new] = [row.old, row.new].map(sorted);
+            let speed = |seconds| cell(seconds, |s| format!("{:.0}", row.bytes as f64 / 1e6 / s));
+            let over = |a: Option<f64>, b: Option<f64>| {
+                cell(a.zip(b).map(|(a, b)| b / a), |ratio| format!("{ratio:.3}"))
+            };
+            println!(
+                "| {}{} | {} | {} | {} | {} | {} |",
+                row.code,
+                kind(row.not_normal),
+                speed(old[0]),
+                speed(new[0]),
+                over(new[0], old[0]),
+                over(old[1], old[0]),
+                over(new[1], new[0])
+            );
+        }
+    }
+    if let Some(row) = rows.iter().find(|row| !row.same_bytes) {
+        println!("\nThe versions give other bytes under code {}.", row.code);
+    }
+}
+
+fn sorted([a, b]: [Option<f64>; 2]) -> [Option<f64>; 2] {
+    if a <= b {
+        [a, b]
+    } else {
+        [b, a]
+    }
+}
+
+fn cell(number: Option<f64>, text: impl Fn(f64) -> String) -> String {
+    number.map_or("-".into(), text)
+}
+
+fn kind(not_normal: bool) -> String {
+    if not_normal {
+        format!(", 1 in {} not normal", reels::ONE_IN)
+    } else {
+        String::new()
+    }
+}
+
 impl Row {
     fn speeds(&self) -> [Option<f64>; ALL.len()] {
         self.seconds
@@ -116,14 +165,11 @@ fn head(names: &[&str]) {
 }
 
 fn line(row: &Row, numbers: &[Option<f64>], text: impl Fn(f64) -> String) {
-    let cells: Vec<String> = numbers
-        .iter()
-        .map(|number| number.map_or("-".into(), &text))
-        .collect();
-    let kind = if row.not_normal {
-        format!(", 1 in {} not normal", reels::ONE_IN)
-    } else {
-        String::new()
-    };
-    println!("| {}{kind} | {} |", row.code, cells.join(" | "));
+    let cells: Vec<String> = numbers.iter().map(|&number| cell(number, &text)).collect();
+    println!(
+        "| {}{} | {} |",
+        row.code,
+        kind(row.not_normal),
+        cells.join(" | ")
+    );
 }
