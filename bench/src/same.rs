@@ -354,33 +354,25 @@ fn gain_or_zero([first, g, high, low]: [u8; 4]) -> Pair {
     gain_number(g, if first == 0 { number } else { 0 })
 }
 
-fn exponent_of(word: u32) -> u32 {
-    word >> 23 & 0xFF
-}
-
 /// A normal number has the hidden bit; a subnormal one has none, and the last place of the least normal.
 #[inline(always)]
-fn ieee_number(word: u32) -> Pair {
+fn ieee(word: u32) -> Result<Pair, u64> {
     let negative = word >= 0x8000_0000;
     let fraction = word & 0x7F_FFFF;
-    match exponent_of(word) {
-        0 => canonical(negative, fraction, IEEE_BASE),
-        exponent => canonical(negative, 0x80_0000 + fraction, IEEE_BASE + exponent - 1),
+    match word >> 23 & 0xFF {
+        0xFF => Err(NOT_FINITE),
+        0 => Ok(canonical(negative, fraction, IEEE_BASE)),
+        exponent => {
+            let power = IEEE_BASE + exponent - 1;
+            Ok(canonical(negative, 0x80_0000 + fraction, power))
+        }
     }
-}
-
-#[inline(always)]
-fn ieee(word: u32) -> Result<Pair, u64> {
-    if exponent_of(word) == 0xFF {
-        return Err(NOT_FINITE);
-    }
-    Ok(ieee_number(word))
 }
 
 /// The second pass's IEEE word: one that is refused, which the first pass has ruled out, is zero.
 #[inline(always)]
 fn ieee_or_zero(word: u32) -> Pair {
-    ieee_number(if exponent_of(word) == 0xFF { 0 } else { word })
+    ieee(word).unwrap_or(Pair { e: 0, m: 0 })
 }
 
 // ## Writing

@@ -1,7 +1,7 @@
 //! The library's passes in plain Rust, tuned by what measured faster: signed numbers in place of
 //! sign and magnitude, no branch on a sign, and no test for a canonical pair in the second pass, for
-//! which the first has looked. IBM words are looked at with their first byte lowest. A group of a trace
-//! header is raised by tables, without a loop.
+//! which the first has looked. IBM words, and IEEE words for their exponents, are looked at with their first
+//! byte lowest. A group of a trace header is raised by tables, without a loop.
 
 use crate::passes::{self, Steps, NOT_CANONICAL, PAIR_BYTES, UNFIT};
 use crate::passes::{COORDINATES, COORDINATE_SCALAR, ELEVATIONS, ELEVATION_SCALAR};
@@ -54,9 +54,12 @@ impl Steps for Tuned {
 
     #[inline(always)]
     fn refused_ieee(words: &[u8]) -> Option<usize> {
-        words.chunks_exact(4).position(|word| {
-            u32::from_be_bytes(word.try_into().unwrap()) & 0x7F80_0000 == 0x7F80_0000
-        })
+        let words = words.as_chunks().0.iter();
+        let mut words = words.map(|&word| u32::from_le_bytes(word));
+        let any = words
+            .clone()
+            .fold(false, |any, word| any | is_not_finite(word));
+        any.then(|| words.position(is_not_finite)).flatten()
     }
 
     #[inline(always)]
@@ -217,6 +220,12 @@ fn counts(word: u32) -> bool {
 
 // ## Reading
 
+/// Whether the exponent is 255, of a word that has its first byte lowest.
+#[inline(always)]
+fn is_not_finite(word: u32) -> bool {
+    word & 0x807F == 0x807F
+}
+
 fn put_pairs<const W: usize>(words: &[u8], pairs: &mut [u8], pair_of: impl Fn([u8; W]) -> Pair) {
     for (word, pair) in words
         .chunks_exact(W)
@@ -270,18 +279,22 @@ fn whole8(number: i8) -> Pair {
     canonical(i32::from(number), 0)
 }
 
-/// The exponent has been found not to be 255. A normal number has the hidden bit.
+/// The exponent has been found not to be 255. Few are 0, so that is branched on: a normal number has the
+/// hidden bit, and isn't zero.
 #[inline(always)]
 fn ieee(word: u32) -> Pair {
-    let exponent = (word >> 23 & 0xFF) as i32;
-    let hidden = i32::from(exponent != 0);
-    let magnitude = (word & 0x7F_FFFF) as i32 + (hidden << 23);
-    let number = if (word as i32) < 0 {
-        -magnitude
-    } else {
-        magnitude
+    let fraction = (word & 0x7F_FFFF) as i32;
+    let with_sign = |magnitude: i32| {
+        if (word as i32) < 0 {
+            -magnitude
+        } else {
+            magnitude
+        }
     };
-    canonical(number, exponent - hidden - 149)
+    match (word >> 23 & 0xFF) as i32 {
+        0 => canonical(with_sign(fraction), -149),
+        exponent => canonical(with_sign(fraction | 0x80_0000), exponent - 150),
+    }
 }
 
 /// The first byte has been found to be 00.
