@@ -13,7 +13,7 @@ pub const SAMPLES: [(u32, &str); 6] = [
     (3, "16-bit numbers of 4 to 16 bits, both signs; 1 in 64 is zero"),
     (4, "gain words, gains 0 to 15, 16-bit numbers of both signs; 1 in 64 is zero"),
     (5, "IEEE words, exponents 103 to 151 (most near 127), both signs, random fractions; 1 in 64 is zero"),
-    (8, "8-bit numbers of 4 to 8 bits, both signs; 1 in 64 is zero"),
+    (8, "8-bit numbers of 4 to 8 bits, both signs; 1 in 64 is zero; the reel ends at 100,000 traces"),
 ];
 
 /// Of the reel that is compared for its words that aren't normal: one word in so many, and what those are.
