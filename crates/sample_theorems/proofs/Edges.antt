@@ -13,7 +13,7 @@ use Rattle.formats.specs.Words.{isNormal}
 use Rattle.value.specs.Writing.{writePair}
 use Rattle.formats.specs.declared.Written.the-variants.{Word, Refused}
 use Rattle.sample.specs.Reading.{notNormal}
-use Rattle.sample_theorems.specs.Starred.{Starred, beyond}
+use Rattle.sample_theorems.specs.Starred.{Starred, NewCodes, beyond}
 
 -- THEOREM. The starred lines, as a group.
 pub starred : Starred
@@ -36,10 +36,25 @@ pub least-gain : (writePair 4 (record { e = negsuc 254; m = pos 1 }) ≡ Word 0x
 unfolding first
 least-gain = (refl, refl)
 
+-- THEOREM. The edges of codes 5 and 8.
+pub new-codes : NewCodes
+unfolding bytesAt twosIn twos oddPart first
+new-codes =
+    record {
+      least = (refl, refl);
+      subnormal = (refl, refl);
+      largest = (refl, refl);
+      others = (refl, refl);
+      zeros = (refl, refl);
+      beyond-ends = (refl, refl);
+      bytes = (refl, refl, refl);
+      first-byte = (refl, refl, refl);
+    }
+
 -- A canonical pair, though no word of any code has its value (no line of document 01).
-pub beyond-14 : (isCanonical beyond ≡ true) × (writePair 1 beyond ≡ Refused 14) × (writePair 2 beyond ≡ Refused 14) × (writePair 3 beyond ≡ Refused 14) × (writePair 4 beyond ≡ Refused 14)
+pub beyond-14 : (isCanonical beyond ≡ true) × (writePair 1 beyond ≡ Refused 14) × (writePair 2 beyond ≡ Refused 14) × (writePair 3 beyond ≡ Refused 14) × (writePair 4 beyond ≡ Refused 14) × (writePair 5 beyond ≡ Refused 14) × (writePair 8 beyond ≡ Refused 14)
 unfolding first isNormal
-beyond-14 = (refl, refl, refl, refl, refl)
+beyond-14 = (refl, refl, refl, refl, refl, refl, refl)
 
 -- THEOREM. Of the words of zero 00000000 is normal, 80000000, 7F000000 and FF000000 are not; 41100000 is, 42010000, of the same value, isn't;
 -- where C is 0, 00000001 and 80000001 are.
