@@ -79,15 +79,16 @@ ieeeValue x y n = signMagnitude (ieeeSign x y n) (significand x y n * 2 ^ ieeePo
 
 -- ## All codes
 
--- The value of a word under each code. Codes 2, 3 and 8 are two's complement of 32, 16 and 8 bits, and so is d of code 4, of 16 bits.
+-- The value of a word under each code. Codes 2, 3 and 8 are two's complement of 32, 16 and 8 bits, and so is d of code 4, of 16 bits. Code 5
+-- stands last: for a number that is no code the rule is one for words of four bytes.
 abbrev pub valueIn : ℕ → ℕ → ℤ
 valueIn code n =
     pick (eqb code 1) (ibmValue n)
     (pick (eqb code 2) (wholeValue (signedOf 32 n))
     (pick (eqb code 3) (wholeValue (signedOf 16 n))
     (pick (eqb code 4) (gainValue (gainOf n) (signedOf 16 (gainNumber n)))
-    (pick (eqb code 5) (ieeeValue 8 23 n)
-    (wholeValue (signedOf 8 n))))))
+    (pick (eqb code 8) (wholeValue (signedOf 8 n))
+    (ieeeValue 8 23 n)))))
 
 -- Words without a value: under code 4 the first byte isn't 00, under code 5 it is an infinity or a not-a-number.
 abbrev pub isBad : ℕ → ℕ → Bool
