@@ -10,7 +10,6 @@ ghost use Rattle.numbers.specs.Places.{placeNo, byteNo, bytePlace};
 ghost use Rattle.formats.specs.Codes.{isCode, sampleBytes};
 ghost use Rattle.reel.specs.Layout.{traceHeader, number16, stride};
 ghost use Rattle.reel.specs.Causes.{within, neither, limitCauses, sizeCauses, scalarCause, wordCause, traceCauses, behindCauses, causesOf, reelJudged};
-ghost use Rattle.sample.specs.Reading.{badNumber};
 ghost use Rattle.reel.specs.Parts.{traceHeaderCauses};
 use numbers::ByteNo;
 use numbers::Check;
@@ -128,13 +127,6 @@ fn check_size(size: usize, w: usize, t: usize, over: usize) -> Check
     Check::Fine
 }
 
-// The number of the refusal of a word without a value.
-fn bad_number(code: u32) -> u8
-    ensures { λ r. ⌜ r ≡ badNumber code ⌝ }
-{
-    if code == 4 { 9 } else { 19 }
-}
-
 // 9 and 19: the first of n words of four bytes from start on that has no value.
 fn check_words(reel: &[u8], code: u32, n: usize, start: usize) -> Check
     requires { ⌜ (sampleBytes code ≡ 4) × (start + n * 4 ≤ length (now reel)) ⌝ }
@@ -146,7 +138,7 @@ fn check_words(reel: &[u8], code: u32, n: usize, start: usize) -> Check
         let word = numbers::be32(reel[at], reel[at + 1], reel[at + 2], reel[at + 3]);
         if sample::is_bad(code, word) {
             return Check::Refused {
-                number: bad_number(code),
+                number: sample::bad_number(code),
                 place: Place(at),
             };
         }

@@ -1,6 +1,5 @@
 // Single samples: the canonical pair of a word under a code, and the two calls.
 ghost use mathlib.Core.Path.{_≡_};
-ghost use mathlib.Core.List.{[], _∷_};
 ghost use Prim.Native.Nat.{_+_, _*_, _/_, _%_, _^_, _<_, _≤_};
 ghost use lib.Dec.{eqb};
 ghost use lib.IntN.{pos, natAbs, subℕ};
@@ -9,15 +8,15 @@ ghost use Rattle.numbers.specs.Places.{placeNo};
 ghost use Rattle.numbers.specs.TwosComplement.{signedOf};
 ghost use Rattle.numbers.specs.SignMagnitude.{signMagnitude};
 ghost use Rattle.formats.specs.Codes.{denominatorPower};
-ghost use Rattle.formats.specs.Value.{fraction, ibmValue, wholeValue, gainValue, ieeeExponent, ieeeFraction, ieeeValue, isBad};
+ghost use Rattle.formats.specs.Value.{fraction, ibmValue, wholeValue, gainValue, ieeeExponent, ieeeFraction, ieeeValue, isBad, exactValue};
 ghost use Rattle.formats.specs.Words.{isNormal};
-ghost use Rattle.value.specs.Pair.{pairBytes};
-ghost use Rattle.sample.specs.Reading.{pairTaken, notNormal, readWord};
-ghost use Rattle.sample.specs.declared.Sample.the-variants.{Refused};
+ghost use Rattle.value.specs.Pair.{pairOf, pairBytes};
+ghost use Rattle.sample.specs.Reading.{badNumber, notNormal, readWord};
 ghost use Rattle.sample.specs.Calls.{singleWord, wordRead, pairWritten, wordOutcome, pairOutcome};
 use formats::DENOMINATOR_POWER;
 use formats::Written;
 use numbers::Place;
+use value::Pair;
 
 // What reading a word finds: the numbers e and m of its canonical pair, or the number of the refusal.
 pub enum Sample {
@@ -96,14 +95,14 @@ fn exponent_unless_zero(a: u32, e: i16) -> i16
 
 // The canonical pair of V = ± a × 2^k: the power of two in a is counted out of it. There is no branch on a: where it is 0, all its 32
 // bits are trailing zeros, and it is shifted by none of them.
-fn canonical(neg: bool, a: u32, k: u32) -> Sample
+fn canonical(neg: bool, a: u32, k: u32) -> Pair
     requires { ⌜ (a ≤ 2 ^ 31) × (k ≤ 2 ^ 14) ⌝ }
-    ensures { λ r. ⌜ r ≡ pairTaken (signMagnitude neg (a * 2 ^ k)) ⌝ }
+    ensures { λ r. ⌜ r ≡ pairOf (signMagnitude neg (a * 2 ^ k)) ⌝ }
 {
     let twos = u32::trailing_zeros(a);
     let e = exponent_unless_zero(a, exponent(k + twos));
     let m = with_sign(neg, shifted_down(a, twos % 32));
-    Sample::Taken { e, m }
+    Pair { e, m }
 }
 
 // The fraction of an IBM word, which is sign and magnitude.
@@ -116,8 +115,8 @@ fn fraction_of(n: u32) -> u32
 // Code 1: the pair of an IBM word, by its first byte, which has the sign and the characteristic, and a number whose last 24 bits are the
 // fraction. The sign bit is taken off behind the product by 4: in the loop over a trace the compiler then adds up the exponent in one
 // instruction, and in four where the product comes last.
-pub fn ibm_parts(first: u8, rest: u32) -> Sample
-    ensures { λ r. ⌜ r ≡ pairTaken (ibmValue (first * 2 ^ 24 + rest % 2 ^ 24)) ⌝ }
+pub fn ibm_parts(first: u8, rest: u32) -> Pair
+    ensures { λ r. ⌜ r ≡ pairOf (ibmValue (first * 2 ^ 24 + rest % 2 ^ 24)) ⌝ }
 {
     canonical(
         0x80 <= first,
@@ -127,8 +126,8 @@ pub fn ibm_parts(first: u8, rest: u32) -> Sample
 }
 
 // The same by the whole word.
-pub fn ibm(n: u32) -> Sample
-    ensures { λ r. ⌜ r ≡ pairTaken (ibmValue n) ⌝ }
+pub fn ibm(n: u32) -> Pair
+    ensures { λ r. ⌜ r ≡ pairOf (ibmValue n) ⌝ }
 {
     ibm_parts((n / 0x100_0000) as u8, n)
 }
@@ -145,15 +144,15 @@ fn magnitude16(n: u16) -> u16
 }
 
 // Code 2: the pair of a 32-bit number.
-pub fn whole32(n: u32) -> Sample
-    ensures { λ r. ⌜ r ≡ pairTaken (wholeValue (signedOf 32 n)) ⌝ }
+pub fn whole32(n: u32) -> Pair
+    ensures { λ r. ⌜ r ≡ pairOf (wholeValue (signedOf 32 n)) ⌝ }
 {
     canonical(0x8000_0000 <= n, numbers::magnitude32(n), DENOMINATOR_POWER)
 }
 
 // Code 3: the pair of a 16-bit number.
-pub fn whole16(n: u16) -> Sample
-    ensures { λ r. ⌜ r ≡ pairTaken (wholeValue (signedOf 16 n)) ⌝ }
+pub fn whole16(n: u16) -> Pair
+    ensures { λ r. ⌜ r ≡ pairOf (wholeValue (signedOf 16 n)) ⌝ }
 {
     canonical(0x8000 <= n, magnitude16(n) as u32, DENOMINATOR_POWER)
 }
@@ -170,31 +169,21 @@ pub fn extended(n: u8) -> u16
 }
 
 // Code 8: the pair of an 8-bit number.
-pub fn whole8(n: u8) -> Sample
-    ensures { λ r. ⌜ r ≡ pairTaken (wholeValue (signedOf 8 n)) ⌝ }
+pub fn whole8(n: u8) -> Pair
+    ensures { λ r. ⌜ r ≡ pairOf (wholeValue (signedOf 8 n)) ⌝ }
 {
     whole16(extended(n))
 }
 
 // Code 4: the pair of d / 2^g, by the gain g and the 16 bits of d.
-pub fn gain_number(g: u8, d: u16) -> Sample
-    ensures { λ r. ⌜ r ≡ pairTaken (gainValue g (signedOf 16 d)) ⌝ }
+pub fn gain_number(g: u8, d: u16) -> Pair
+    ensures { λ r. ⌜ r ≡ pairOf (gainValue g (signedOf 16 d)) ⌝ }
 {
     canonical(
         0x8000 <= d,
         magnitude16(d) as u32,
         DENOMINATOR_POWER - g as u32,
     )
-}
-
-// The same by the word's bytes: 00, the gain g, and the two of d.
-pub fn gain(first: u8, g: u8, high: u8, low: u8) -> Sample
-    ensures { λ r. ⌜ r ≡ readWord 4 (first ∷ g ∷ high ∷ low ∷ []) ⌝ }
-{
-    if first != 0 {
-        return Sample::Refused { number: BAD_GAIN };
-    }
-    gain_number(g, numbers::be16(high, low))
 }
 
 // Whether a word of four bytes has no value under a code: under code 4 its first byte isn't 00, under code 5 it is an infinity or a
@@ -237,8 +226,8 @@ fn counted_exponent(e: u32) -> u32
 }
 
 // Code 5: the pair of an IEEE single word that is finite. Of one that isn't, it is the pair of what the same rule gives.
-pub fn ieee_number(n: u32) -> Sample
-    ensures { λ r. ⌜ r ≡ pairTaken (ieeeValue 8 23 n) ⌝ }
+pub fn ieee_number(n: u32) -> Pair
+    ensures { λ r. ⌜ r ≡ pairOf (ieeeValue 8 23 n) ⌝ }
 {
     let e = ieee_exponent(n);
     canonical(
@@ -248,29 +237,45 @@ pub fn ieee_number(n: u32) -> Sample
     )
 }
 
-// The same of any word.
-fn ieee(n: u32) -> Sample
-    ensures { λ r. ⌜ r ≡ pick (isBad 5 n) (Refused 19) (pairTaken (ieeeValue 8 23 n)) ⌝ }
-{
-    if is_bad(5, n) {
-        return Sample::Refused { number: NOT_FINITE };
-    }
-    ieee_number(n)
-}
-
-// The canonical pair of a word under a code.
-pub fn read(code: u32, word: [u8; 4]) -> Sample
-    ensures { λ r. ⌜ r ≡ readWord code word ⌝ }
+// The canonical pair of a word under a code. For a word without a value, and for a number that is no code, it is the pair of what the same
+// rule gives: that of code 5 where none of the others is the code.
+pub fn number(code: u32, word: [u8; 4]) -> Pair
+    ensures { λ r. ⌜ r ≡ pairOf (exactValue code word) ⌝ }
 {
     let n = numbers::be32(word[0], word[1], word[2], word[3]);
     match code {
         1 => ibm(n),
         2 => whole32(n),
         3 => whole16(numbers::be16(word[0], word[1])),
-        4 => gain(word[0], word[1], word[2], word[3]),
-        5 => ieee(n),
+        4 => gain_number((n / 0x1_0000 % 256) as u8, (n % 0x1_0000) as u16),
         8 => whole8(word[0]),
-        _ => Sample::Refused { number: BAD_CODE },
+        _ => ieee_number(n),
+    }
+}
+
+// The number of the refusal of a word without a value.
+pub fn bad_number(code: u32) -> u8
+    ensures { λ r. ⌜ r ≡ badNumber code ⌝ }
+{
+    if code == 4 { BAD_GAIN } else { NOT_FINITE }
+}
+
+// The same of any word: the numbers of its pair, or the refusal.
+pub fn read(code: u32, word: [u8; 4]) -> Sample
+    ensures { λ r. ⌜ r ≡ readWord code word ⌝ }
+{
+    if !formats::is_code(code as usize) {
+        return Sample::Refused { number: BAD_CODE };
+    }
+    if is_bad(code, numbers::be32(word[0], word[1], word[2], word[3])) {
+        return Sample::Refused {
+            number: bad_number(code),
+        };
+    }
+    let pair = number(code, word);
+    Sample::Taken {
+        e: pair.e,
+        m: pair.m,
     }
 }
 

@@ -1,5 +1,5 @@
 -- `sample::canonical` meets its contract. Assumes nothing.
-use Rattle.sample.proofs.Taken.{taken-any, shifted-lt}
+use Rattle.sample.proofs.PairLaws.{pair-any, shifted-lt}
 use mir.Facts.{toZ-ofZ}
 use mir.Syntax.{w16, w32}
 use lib.Count.{trailing-le}
@@ -25,7 +25,7 @@ returns : tie.Need-returns
 returns c =
     let s = c .before .before .before .before in
     let x = c .before .before in
-    rw (toZ-ofZ {w = w16} (sfits-of (x .exponent-unless-zero .ok)), toZ-ofZ {w = w32} (sfits-of (c .with-sign .ok)), x .exponent-unless-zero .ensures, toZ-ofZ {w = w16} (sfits-of (x .before .exponent .ok)), x .before .exponent .ensures, c .with-sign .ensures, c .before .shifted-down .ensures, taken-any 32 (s .args .k) (s .args .neg) (s .args .a) (omega (arith, s .pre .0)))
+    rw (toZ-ofZ {w = w16} (sfits-of (x .exponent-unless-zero .ok)), toZ-ofZ {w = w32} (sfits-of (c .with-sign .ok)), x .exponent-unless-zero .ensures, toZ-ofZ {w = w16} (sfits-of (x .before .exponent .ok)), x .before .exponent .ensures, c .with-sign .ensures, c .before .shifted-down .ensures, pair-any 32 (s .args .k) (s .args .neg) (s .args .a) (omega (arith, s .pre .0)))
 
 pub canonical-spec : {M : Type 1} → statement M
 canonical-spec =

@@ -3,7 +3,7 @@ use Rattle.numbers.proofs.SignLaws.{below-or}
 use Rattle.numbers.specs.SignMagnitude.{signMagnitude}
 use Rattle.formats.specs.Value.{signBit, characteristic, fraction, ibmValue}
 use Rattle.formats.specs.Codes.{denominatorPower}
-use Rattle.sample.specs.Reading.{pairTaken}
+use Rattle.value.specs.Pair.{pairOf}
 use Prim.Native.Nat.{ℕ, _+_, _-_, _*_, _%_, _^_, _≤_, _<_}
 use lib.Dec.{leb}
 use mathlib.Core.Logic.{⊎-elim}
@@ -28,7 +28,7 @@ returns : tie.Need-returns
 returns c =
     let a = c .before .before .args in
     let f = c .before .fraction-of in
-    c .canonical .ensures ∙ ap pairTaken (sym (by-parts (a .first) (f .result) (f .ensures .1)) ∙ ap (λ (r : ℕ). ibmValue (a .first * 2 ^ 24 + r)) (f .ensures .0))
+    c .canonical .ensures ∙ ap pairOf (sym (by-parts (a .first) (f .result) (f .ensures .1)) ∙ ap (λ (r : ℕ). ibmValue (a .first * 2 ^ 24 + r)) (f .ensures .0))
 
 pub ibm-parts-spec : {M : Type 1} → statement M
 ibm-parts-spec = tie.close (tie.spec (λ c κs. search needs) (λ c. search needs) (λ c. search needs) (λ c κs. search needs) returns)

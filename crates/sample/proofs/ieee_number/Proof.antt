@@ -3,7 +3,7 @@ use Rattle.numbers.specs.SignMagnitude.{signMagnitude}
 use Rattle.numbers.specs.Walk.{pick}
 use Rattle.formats.specs.Codes.{denominatorPower}
 use Rattle.formats.specs.Value.{ieeeExponent, ieeeFraction, ieeeValue}
-use Rattle.sample.specs.Reading.{pairTaken}
+use Rattle.value.specs.Pair.{pairOf}
 use Prim.Native.Nat.{ℕ, _+_, _-_, _*_, _^_, _≤_}
 use mathlib.Core.Bool.{Bool}
 use mathlib.Core.Path.{_≡_, sym, ap, _∙_}
@@ -23,7 +23,7 @@ by-parts n e a k p q r =
 returns : tie.Need-returns
 returns c =
     let x = c .before .before .before in
-    c .canonical .ensures ∙ ap pairTaken (by-parts (x .before .args .n) _ _ _ (x .ieee-exponent .ensures .0) (c .before .before .significand-of .ensures .0) (c .before .counted-exponent .ensures .0))
+    c .canonical .ensures ∙ ap pairOf (by-parts (x .before .args .n) _ _ _ (x .ieee-exponent .ensures .0) (c .before .before .significand-of .ensures .0) (c .before .counted-exponent .ensures .0))
 
 pub ieee-number-spec : {M : Type 1} → statement M
 ieee-number-spec = tie.close (tie.spec (λ c κs. search needs) (λ c κs. search needs) (λ c κs. search needs) (λ c. search needs) (λ c κs. search needs) returns)

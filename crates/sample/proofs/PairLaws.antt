@@ -1,8 +1,8 @@
--- The pair that is taken: one fact for all codes. The canonical pair of ± a × 2 ^ k is ± a's odd part, with the exponent k and a's twos less the denominator's. Assumes nothing.
+-- The pair of a value: one fact for all codes. The canonical pair of ± a × 2 ^ k is ± a's odd part, with the exponent k and a's twos less the denominator's. Assumes nothing.
 use mathlib.Core.Path.{_≡_, refl, sym, ap, _∙_}
 use mathlib.Core.Bool.{Bool, true, false}
 use Prim.Native.Nat.{ℕ, zero, suc, _+_, _*_, _/_, _%_, _^_, _≤_, _<_}
-use native.Mathlib.Nat.{mul-assoc, add-comm, zero-lt-suc, zero-div, div-le-self, mod-eq-of-lt}
+use native.Mathlib.Nat.{mul-assoc, zero-mul, add-comm, zero-lt-suc, zero-div, div-le-self, mod-eq-of-lt}
 use native.Mathlib.Omega.{arith}
 use borrow.Author.Tests.{ne-eqb}
 use lib.Count.{trailingZeros}
@@ -14,23 +14,12 @@ use Rattle.formats.specs.Codes.{denominatorPower}
 use Rattle.numbers.specs.SignMagnitude.{signMagnitude}
 use Rattle.value.proofs.Twos.{split, trailing-lt}
 use Rattle.value.proofs.Pairs.{pair-at}
-use Rattle.sample.specs.Reading.{pairTaken}
-use Rattle.sample.specs.declared.Sample.the-variants.{Taken}
-
-pub taken-zero : (s : Bool) (k a : ℕ) → a ≡ 0 → pairTaken (signMagnitude s (a * 2 ^ k)) ≡ Taken (pos 0) (pos 0)
-taken-zero s k a e = rw (nil) (none s)
-  where
-    nil : a * 2 ^ k ≡ 0
-    nil = omega (arith, ap (λ (x : ℕ). x * 2 ^ k) e)
-
-    none : (s : Bool) → pairTaken (signMagnitude s 0) ≡ Taken (pos 0) (pos 0)
-    none false = refl
-    none true = refl
+use Rattle.value.specs.Pair.{pairOf}
 
 -- a is a number of w bits
-pub taken-at : (w k : ℕ) (s : Bool) (a : ℕ) → 0 < a → a < 2 ^ w
-    → pairTaken (signMagnitude s (a * 2 ^ k)) ≡ Taken (subℕ (k + trailingZeros w a) denominatorPower) (signMagnitude s (a / 2 ^ trailingZeros w a))
-taken-at w k s a p h =
+pub pair-shifted : (w k : ℕ) (s : Bool) (a : ℕ) → 0 < a → a < 2 ^ w
+    → pairOf (signMagnitude s (a * 2 ^ k)) ≡ record { e = subℕ (k + trailingZeros w a) denominatorPower; m = signMagnitude s (a / 2 ^ trailingZeros w a) }
+pair-shifted w k s a p h =
     let d = split w a p h in
     let t = trailingZeros w a in
     let whole : a * 2 ^ k ≡ d .o * 2 ^ (k + t) =
@@ -38,14 +27,14 @@ taken-at w k s a p h =
     rw (whole, pair-at s (d .o) (k + t) (d .odd), d .shifted)
 
 -- the same for every a, 0 among them: the exponent of zero is 0, and a shift by its trailing zeros modulo w leaves it 0
-pub taken-any : (w k : ℕ) (s : Bool) (a : ℕ) → a < 2 ^ w
-    → pairTaken (signMagnitude s (a * 2 ^ k)) ≡ Taken (pick (eqb a 0) (pos 0) (subℕ (k + trailingZeros w a) denominatorPower)) (signMagnitude s (a / 2 ^ (trailingZeros w a % w)))
-taken-any w k s zero h = taken-zero s k zero refl ∙ ap (Taken (pos 0)) (rw (zero-div (2 ^ (trailingZeros w 0 % w))) (none s))
+pub pair-any : (w k : ℕ) (s : Bool) (a : ℕ) → a < 2 ^ w
+    → pairOf (signMagnitude s (a * 2 ^ k)) ≡ record { e = pick (eqb a 0) (pos 0) (subℕ (k + trailingZeros w a) denominatorPower); m = signMagnitude s (a / 2 ^ (trailingZeros w a % w)) }
+pair-any w k s zero h = rw (zero-mul (2 ^ k), zero-div (2 ^ (trailingZeros w 0 % w))) (none s)
   where
-    none : (s : Bool) → pos 0 ≡ signMagnitude s 0
+    none : (s : Bool) → pairOf (signMagnitude s 0) ≡ record { e = pos 0; m = signMagnitude s 0 }
     none false = refl
     none true = refl
-taken-any w k s (suc n) h = rw (ne-eqb (suc n) 0 some, mod-eq-of-lt (trailing-lt w (suc n) (zero-lt-suc n) h)) (taken-at w k s (suc n) (zero-lt-suc n) h)
+pair-any w k s (suc n) h = rw (ne-eqb (suc n) 0 some, mod-eq-of-lt (trailing-lt w (suc n) (zero-lt-suc n) h)) (pair-shifted w k s (suc n) (zero-lt-suc n) h)
   where
     some : suc n ≡ 0 → ⊥
     some e = omega arith

@@ -1,8 +1,8 @@
--- `reel::bad_number` meets its contract. Assumes nothing.
+-- `sample::bad_number` meets its contract. Assumes nothing.
 use borrow.Author.Tests.{ne-eqb}
 use borrow.Author.Needs.{needs}
-use Rattle.reel.proofs.bad_number.Statement.{statement}
-use Rattle.reel.proofs.bad_number.Tie as tie
+use Rattle.sample.proofs.bad_number.Statement.{statement}
+use Rattle.sample.proofs.bad_number.Tie as tie
 
 returns : tie.Need-returns
 returns c = rw (c .if1 .taken)
