@@ -1,37 +1,27 @@
--- What the functions inside this crate hand to each other: a sample in two parts, a gain word by its parts, and what is held of a word.
+-- What the functions inside this crate hand to each other: a pair in two parts, and what is held of a word.
 use Prim.Native.Nat.{ℕ, _+_, _*_, _/_, _%_, _^_}
 use mathlib.Core.List.{List}
-use lib.ListN.{replicate}
-use lib.Dec.{ltb, eqb}
-use lib.IntN.{ℤ, pos}
+use lib.Dec.{ltb}
+use lib.IntN.{ℤ}
 use Rattle.numbers.specs.Walk.{pick, bytesAt}
 use Rattle.numbers.specs.BigEndian.{number, bytesOf}
 use Rattle.numbers.specs.TwosComplement.{signedOf, bitsOf}
 use Rattle.formats.specs.Codes.{sampleBytes}
-use Rattle.formats.specs.Value.{gainValue, valueIn, isBad}
-use Rattle.value.specs.Pair.{mantissaBits}
-use Rattle.sample.specs.Reading.{pairTaken, badNumber}
-use Rattle.sample.specs.declared.Sample.{Sample}
-use Rattle.sample.specs.declared.Sample.the-variants.{Taken, Refused}
-use Rattle.read_samples.specs.Samples.{sampleContent}
+use Rattle.formats.specs.Value.{valueIn}
+use Rattle.value.specs.Pair.{mantissaBits, pairOf}
+use Rattle.value.specs.declared.Pair.{Pair}
+use Rattle.read_samples.specs.Samples.{pairContent}
 
--- What reading a word gives, its exponent in two bytes and its mantissa in four.
-abbrev pub exponentContent : Sample → List ℕ
-exponentContent (Taken e m) = bytesOf 2 (bitsOf 16 e)
-exponentContent (Refused number) = replicate 2 0
+-- A pair's exponent in two bytes, and its mantissa in four.
+abbrev pub exponentContent : Pair → List ℕ
+exponentContent p = bytesOf 2 (bitsOf 16 (p .e))
 
-abbrev pub mantissaContent : Sample → List ℕ
-mantissaContent (Taken e m) = bytesOf (mantissaBits / 8) (bitsOf mantissaBits m)
-mantissaContent (Refused number) = replicate (mantissaBits / 8) 0
+abbrev pub mantissaContent : Pair → List ℕ
+mantissaContent p = bytesOf (mantissaBits / 8) (bitsOf mantissaBits (p .m))
 
--- What reading a gain word gives, by its first byte, its gain and the bits of its number; zero where it is refused, which has the same
--- six bytes.
-abbrev pub gainOrZero : ℕ → ℕ → ℕ → Sample
-gainOrZero first g d = pick (eqb first 0) (pairTaken (gainValue g (signedOf 16 d))) (Taken (pos 0) (pos 0))
-
--- What reading a word gives under a code, by the word's number, as six bytes.
+-- The sample of a word under a code, by the word's number.
 abbrev pub wordContent : ℕ → ℕ → List ℕ
-wordContent code n = sampleContent (pick (isBad code n) (Refused (badNumber code)) (pairTaken (valueIn code n)))
+wordContent code n = pairContent (pairOf (valueIn code n))
 
 -- The number of the same four bytes in reverse order.
 abbrev pub reversed : ℕ → ℕ

@@ -2,23 +2,22 @@
 use Prim.Native.Nat.{ℕ, _+_, _*_}
 use mathlib.Core.Bool.{Bool, _&&_}
 use mathlib.Core.List.{List, map}
-use lib.ListN.{length, replicate}
+use lib.ListN.{length}
 use lib.Dec.{leb, eqb}
 use Rattle.numbers.specs.Walk.{pick, walk, flat, bytesAt}
-use Rattle.formats.specs.Codes.{isCode, sampleBytes}
-use Rattle.value.specs.Pair.{pairLength, pairBytes}
-use Rattle.sample.specs.Reading.{readWord}
-use Rattle.sample.specs.declared.Sample.{Sample}
-use Rattle.sample.specs.declared.Sample.the-variants.{Taken, Refused}
+use Rattle.formats.specs.Codes.{isCode, sampleBytes, wordLength}
+use Rattle.formats.specs.Value.{exactValue}
+use Rattle.value.specs.Pair.{pairOf, pairLength, pairBytes}
+use Rattle.value.specs.declared.Pair.{Pair}
 
--- What reading a word gives, as six bytes; zero for a word that is refused, which a reel has only where 2, 9 or 19 applies.
-abbrev pub sampleContent : Sample → List ℕ
-sampleContent (Taken e m) = pairBytes e m
-sampleContent (Refused number) = replicate pairLength 0
+-- A pair in its six bytes.
+abbrev pub pairContent : Pair → List ℕ
+pairContent p = pairBytes (p .e) (p .m)
 
--- The sample at a place.
+-- The sample at a place: the pair of its word's exact value. For a word that 9 or 19 refuses, which a reel that is taken hasn't, it is what
+-- the same rule gives.
 abbrev pub sampleCopied : List ℕ → ℕ → ℕ → List ℕ
-sampleCopied s code p = sampleContent (readWord code (bytesAt s p 4))
+sampleCopied s code p = pairContent (pairOf (exactValue code (bytesAt s p wordLength)))
 
 -- k places from `at` on, w bytes apart.
 abbrev pub places : ℕ → ℕ → ℕ → List ℕ

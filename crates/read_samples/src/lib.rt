@@ -4,48 +4,39 @@ ghost use mathlib.Core.Bool.{true, _&&_};
 ghost use Prim.Native.Nat.{_+_, _*_, _%_, _^_, _≤_, _<_};
 ghost use lib.Dec.{leb, eqb};
 ghost use lib.ListN.{length};
-ghost use Rattle.numbers.specs.Walk.{pick, bytesAt};
+ghost use Rattle.numbers.specs.Walk.{bytesAt};
 ghost use Rattle.numbers.specs.Places.{placeNo};
 ghost use Rattle.numbers.specs.BigEndian.{number};
 ghost use Rattle.numbers.specs.TwosComplement.{signedOf};
-ghost use Rattle.formats.specs.Value.{wholeValue, isBad};
+ghost use Rattle.formats.specs.Value.{wholeValue, exactValue};
 ghost use Rattle.formats.specs.Codes.{isCode, sampleBytes};
-ghost use Rattle.sample.specs.Reading.{pairTaken, readWord};
-ghost use Rattle.read_samples.specs.Samples.{sampleContent, sampleCopied, samplePairs, samplesRead};
-ghost use Rattle.read_samples.specs.Parts.{exponentContent, mantissaContent, wordContent, gainOrZero, reversed, wordHeld, shortNumber};
+ghost use Rattle.value.specs.Pair.{pairOf};
+ghost use Rattle.read_samples.specs.Samples.{pairContent, sampleCopied, samplePairs, samplesRead};
+ghost use Rattle.read_samples.specs.Parts.{exponentContent, mantissaContent, wordContent, reversed, wordHeld, shortNumber};
 use numbers::Place;
-use sample::Sample;
+use value::Pair;
 
-// What reading a word gives: its exponent in two bytes, and its mantissa in four. The words of a reel that came through the causes are
-// all taken; a refused one, which only the types allow here, is given as zero, so that the loops need no condition on each word.
-fn put_exponent(word: Sample, out: &mut [u8])
+// A pair's exponent in two bytes, its mantissa in four, and both.
+fn put_exponent(pair: Pair, out: &mut [u8])
     requires { ⌜ length (now out) ≡ 2 ⌝ }
-    ensures { λ _. ⌜ now (out .exit) ≡ exponentContent word ⌝ }
+    ensures { λ _. ⌜ now (out .exit) ≡ exponentContent pair ⌝ }
 {
-    let Sample::Taken { e, m: _ } = word else {
-        slices::put16(0, out);
-        return;
-    };
-    slices::put16(numbers::bits16(e), out);
+    slices::put16(numbers::bits16(pair.e), out);
 }
 
-fn put_mantissa(word: Sample, out: &mut [u8])
+fn put_mantissa(pair: Pair, out: &mut [u8])
     requires { ⌜ length (now out) ≡ 4 ⌝ }
-    ensures { λ _. ⌜ now (out .exit) ≡ mantissaContent word ⌝ }
+    ensures { λ _. ⌜ now (out .exit) ≡ mantissaContent pair ⌝ }
 {
-    let Sample::Taken { e: _, m } = word else {
-        slices::put32(0, out);
-        return;
-    };
-    slices::put32(numbers::bits32(m), out);
+    slices::put32(numbers::bits32(pair.m), out);
 }
 
-fn put_sample(word: Sample, out: &mut [u8])
+fn put_sample(pair: Pair, out: &mut [u8])
     requires { ⌜ length (now out) ≡ 6 ⌝ }
-    ensures { λ _. ⌜ now (out .exit) ≡ sampleContent word ⌝ }
+    ensures { λ _. ⌜ now (out .exit) ≡ pairContent pair ⌝ }
 {
-    put_exponent(word, &mut out[0..2]);
-    put_mantissa(word, &mut out[2..6]);
+    put_exponent(pair, &mut out[0..2]);
+    put_mantissa(pair, &mut out[2..6]);
 }
 
 // The number in the four bytes at a place.
@@ -118,19 +109,12 @@ fn put_whole32_word(reel: &[u8], word: u32, next: usize, out: &mut [u8]) -> u32
     w
 }
 
-// An IEEE word, or 0 for one that 19 refuses, which only the types allow here.
-fn finite_or_zero(word: u32) -> u32
-    ensures { λ r. ⌜ r ≡ pick (isBad 5 word) 0 word ⌝ }
-{
-    if sample::is_bad(5, word) { 0 } else { word }
-}
-
 // The same for an IEEE word.
 fn put_ieee_word(reel: &[u8], word: u32, next: usize, out: &mut [u8]) -> u32
     requires { ⌜ (next + 4 ≤ length (now reel)) × (length (now out) ≡ 6) ⌝ }
     ensures { λ r. ⌜ (r ≡ number (bytesAt (now (reel .entry)) next 4)) × (now (out .exit) ≡ wordContent 5 word) ⌝ }
 {
-    let pair = sample::ieee_number(finite_or_zero(word));
+    let pair = sample::ieee_number(word);
     put_exponent(pair, &mut out[0..2]);
     let w = word32_at(reel, next);
     put_mantissa(pair, &mut out[2..6]);
@@ -140,27 +124,13 @@ fn put_ieee_word(reel: &[u8], word: u32, next: usize, out: &mut [u8]) -> u32
 // The same by the 16 bits of a number, for the codes of fewer bytes.
 fn put_whole16_word(reel: &[u8], code: u32, word: u16, next: usize, out: &mut [u8]) -> u16
     requires { ⌜ (isCode code ≡ true) × (sampleBytes code < 4) × (next + sampleBytes code ≤ length (now reel)) × (length (now out) ≡ 6) ⌝ }
-    ensures { λ r. ⌜ (signedOf 16 r ≡ shortNumber (now (reel .entry)) code next) × (now (out .exit) ≡ sampleContent (pairTaken (wholeValue (signedOf 16 word)))) ⌝ }
+    ensures { λ r. ⌜ (signedOf 16 r ≡ shortNumber (now (reel .entry)) code next) × (now (out .exit) ≡ pairContent (pairOf (wholeValue (signedOf 16 word)))) ⌝ }
 {
     let pair = sample::whole16(word);
     put_exponent(pair, &mut out[0..2]);
     let w = short_at(reel, code, next);
     put_mantissa(pair, &mut out[2..6]);
     w
-}
-
-// The number of a gain word, by its first byte and the bits of d. One that 9 refuses, which only the types allow here, is given as zero.
-fn number_or_zero(first: u8, d: u16) -> u16
-    ensures { λ r. ⌜ r ≡ pick (eqb first 0) d 0 ⌝ }
-{
-    if first == 0 { d } else { 0 }
-}
-
-// What reading a gain word gives, by its first byte, its gain and the bits of d.
-fn gain_or_zero(first: u8, g: u8, d: u16) -> Sample
-    ensures { λ r. ⌜ r ≡ gainOrZero first g d ⌝ }
-{
-    sample::gain_number(g, number_or_zero(first, d))
 }
 
 // The last two bytes of a word.
@@ -175,7 +145,7 @@ fn put_gain_word(reel: &[u8], at: usize, word: u32, out: &mut [u8]) -> u32
     requires { ⌜ (at + 8 ≤ length (now reel)) × (length (now out) ≡ 6) × (word ≡ number (bytesAt (now reel) at 4)) ⌝ }
     ensures { λ r. ⌜ (r ≡ number (bytesAt (now (reel .entry)) (at + 4) 4)) × (now (out .exit) ≡ wordContent 4 word) ⌝ }
 {
-    let pair = gain_or_zero(reel[at], reel[at + 1], low_half(word));
+    let pair = sample::gain_number(reel[at + 1], low_half(word));
     put_exponent(pair, &mut out[0..2]);
     let w = word32_at(reel, at + 4);
     put_mantissa(pair, &mut out[2..6]);
@@ -200,13 +170,13 @@ fn put_word(reel: &[u8], code: u32, at: usize, word: u32, out: &mut [u8]) -> u32
     put_ieee_word(reel, word, at + 4, out)
 }
 
-// What reading the four bytes at a place gives.
-fn sample_at(reel: &[u8], code: u32, at: usize) -> Sample
+// The pair of the word at a place.
+fn sample_at(reel: &[u8], code: u32, at: usize) -> Pair
     requires { ⌜ at + 4 ≤ length (now reel) ⌝ }
-    ensures { λ r. ⌜ r ≡ readWord code (bytesAt (now (reel .entry)) at 4) ⌝ }
+    ensures { λ r. ⌜ r ≡ pairOf (exactValue code (bytesAt (now (reel .entry)) at 4)) ⌝ }
 {
     let word = [reel[at], reel[at + 1], reel[at + 2], reel[at + 3]];
-    sample::read(code, word)
+    sample::number(code, word)
 }
 
 // The samples of a trace, words of four bytes. The last word's place, and its sample's in the output, are worked out before the loop: the

@@ -2,25 +2,29 @@
 use native.Mathlib.Omega.{arith}
 use borrow.Author.Needs.{needs}
 use Rattle.read_samples.proofs.SampleLaws.{parts-put, gain-held}
-use Rattle.read_samples.specs.Samples.{sampleContent}
-use mathlib.Core.Path.{ap, _∙_}
+use Rattle.read_samples.specs.Samples.{pairContent}
+use Rattle.formats.specs.Value.{gainValue}
+use Rattle.value.specs.Pair.{pairOf}
+use Rattle.numbers.specs.TwosComplement.{signedOf}
+use Prim.Native.Nat.{ℕ}
+use mathlib.Core.Path.{ap, ap₂, _∙_}
 use Rattle.read_samples.proofs.put_gain_word.Statement.{statement}
 use Rattle.read_samples.proofs.put_gain_word.Tie as tie
 
 returns : tie.Need-returns
 returns c =
     let p = (c .before .before .before .before .before .before .before .before .before) in
-    let s = (c .before .before .before .before .before .before .before .before .before .before .before .before .before .before .before) in (
+    let s = (c .before .before .before .before .before .before .before .before .before .before .before .before .before .before ) in (
       c .before .before .before .before .word32-at .ensures,
-      parts-put (s .args .out .now) (p .gain-or-zero .result) (s .pre .1) (c .before .before .before .before .before .before .before .put-exponent .ensures) (c .before .before .put-mantissa .ensures)
-          ∙ ap sampleContent (p .gain-or-zero .ensures) ∙ gain-held (s .args .reel .now) (s .args .at) (s .args .word) (p .before .low-half .result) (λ i. p .before .before .before .shared-slice-known2 .given i .fits) (s .pre .2) (p .before .low-half .ensures),
+      parts-put (s .args .out .now) (p .gain-number .result) (s .pre .1) (c .before .before .before .before .before .before .before .put-exponent .ensures) (c .before .before .put-mantissa .ensures)
+          ∙ ap pairContent (p .gain-number .ensures ∙ ap₂ (λ (g d : ℕ). pairOf (gainValue g (signedOf 16 d)))
+          (gain-held (s .args .reel .now) (s .args .at) (s .args .word) (λ i. p .before .before .shared-slice-known2 .given i .fits) (s .pre .2)) (p .before .low-half .ensures)),
     )
 
 pub put-gain-word-spec : {M : Type 1} → statement M
 put-gain-word-spec =
     tie.close
     (tie.spec
-    (λ c. search needs)
     (λ c. search needs)
     (λ c. search needs)
     (λ c κs. tt)

@@ -2,9 +2,9 @@
 use native.Mathlib.Omega.{arith}
 use borrow.Author.Needs.{needs}
 use Rattle.read_samples.proofs.SampleLaws.{parts-put, reversed-parts}
-use Rattle.read_samples.specs.Samples.{sampleContent}
+use Rattle.read_samples.specs.Samples.{pairContent}
 use Rattle.formats.specs.Value.{ibmValue}
-use Rattle.sample.specs.Reading.{pairTaken}
+use Rattle.value.specs.Pair.{pairOf}
 use Prim.Native.Nat.{ℕ}
 use mathlib.Core.Path.{ap, _∙_}
 use Rattle.read_samples.proofs.put_ibm_word.Statement.{statement}
@@ -19,7 +19,7 @@ returns c =
     let whole = reversed-parts (s .args .word) (x .result) (s .fits .word .fits) (x .ensures) in (
       c .before .before .before .before .low-first-at .ensures,
       parts-put (s .args .out .now) (p .ibm-parts .result) (s .pre .1) (m .put-exponent .ensures) (c .before .before .put-mantissa .ensures)
-          ∙ ap sampleContent (p .ibm-parts .ensures ∙ ap (λ (n : ℕ). pairTaken (ibmValue n)) whole),
+          ∙ ap pairContent (p .ibm-parts .ensures ∙ ap (λ (n : ℕ). pairOf (ibmValue n)) whole),
     )
 
 pub put-ibm-word-spec : {M : Type 1} → statement M

@@ -1,11 +1,8 @@
 -- `read_samples::put_ieee_word` meets its contract. Assumes nothing.
 use native.Mathlib.Omega.{arith}
 use borrow.Author.Needs.{needs}
-use Rattle.read_samples.proofs.SampleLaws.{parts-put, ieee-either}
-use Rattle.read_samples.specs.Samples.{sampleContent}
-use Rattle.formats.specs.Value.{ieeeValue}
-use Rattle.sample.specs.Reading.{pairTaken}
-use Prim.Native.Nat.{ℕ}
+use Rattle.read_samples.proofs.SampleLaws.{parts-put}
+use Rattle.read_samples.specs.Samples.{pairContent}
 use mathlib.Core.Path.{ap, _∙_}
 use Rattle.read_samples.proofs.put_ieee_word.Statement.{statement}
 use Rattle.read_samples.proofs.put_ieee_word.Tie as tie
@@ -13,17 +10,16 @@ use Rattle.read_samples.proofs.put_ieee_word.Tie as tie
 returns : tie.Need-returns
 returns c =
     let p = (c .before .before .before .before .before .before .before .before .before) in
-    let s = (c .before .before .before .before .before .before .before .before .before .before .before .before .before) in (
+    let s = (c .before .before .before .before .before .before .before .before .before .before .before .before ) in (
       c .before .before .before .before .word32-at .ensures,
       parts-put (s .args .out .now) (p .ieee-number .result) (s .pre .1) (c .before .before .before .before .before .before .before .put-exponent .ensures) (c .before .before .put-mantissa .ensures)
-          ∙ ap sampleContent (p .ieee-number .ensures ∙ ap (λ (n : ℕ). pairTaken (ieeeValue 8 23 n)) (p .before .finite-or-zero .ensures)) ∙ ieee-either (s .args .word),
+          ∙ ap pairContent (p .ieee-number .ensures),
     )
 
 pub put-ieee-word-spec : {M : Type 1} → statement M
 put-ieee-word-spec =
     tie.close
     (tie.spec
-    (λ c κs. tt)
     (λ c κs. tt)
     (λ c. omega arith)
     (λ c. omega arith)

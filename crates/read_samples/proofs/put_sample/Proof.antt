@@ -9,7 +9,7 @@ returns : tie.Need-returns
 returns c =
     let x = c .before .before .before .before .before .before in
     let s = x .before .before .before in
-    parts-put (s .args .out .now) (s .args .word) (s .pre) (x .put-exponent .ensures) (c .before .before .put-mantissa .ensures)
+    parts-put (s .args .out .now) (s .args .pair) (s .pre) (x .put-exponent .ensures) (c .before .before .put-mantissa .ensures)
 
 pub put-sample-spec : {M : Type 1} → statement M
 put-sample-spec =

@@ -1,5 +1,5 @@
 -- `read_samples::put_samples` meets its contract. Assumes nothing.
-use Rattle.read_samples.proofs.SampleLaws.{code-low}
+use Rattle.formats.proofs.CodeLaws.{code-limits}
 use Rattle.formats.specs.Codes.{sampleBytes}
 use mathlib.Core.Path.{_≡_, sym, _∙_}
 use native.Mathlib.Omega.{arith}
@@ -8,7 +8,7 @@ use Rattle.read_samples.proofs.put_samples.Statement.{statement}
 use Rattle.read_samples.proofs.put_samples.Tie as tie
 
 cast-put-shorts : tie.Need-cast-put-shorts
-cast-put-shorts c = let b = c .before .before .before .before in omega (arith, code-low (b .args .code) (b .pre .0))
+cast-put-shorts c = let b = c .before .before .before .before in omega (arith, code-limits (b .args .code) (b .pre .0) .1)
 
 put-shorts-requires : tie.Need-put-shorts-requires
 put-shorts-requires c κs =
@@ -17,7 +17,7 @@ put-shorts-requires c κs =
     (b .pre .0, sym (v .ensures .0), c .before .if1 .taken, rw (v .ensures .0) (b .pre .1), b .pre .2)
 
 cast-put-words : tie.Need-cast-put-words
-cast-put-words c = let b = c .before .before .before .before in omega (arith, code-low (b .args .code) (b .pre .0))
+cast-put-words c = let b = c .before .before .before .before in omega (arith, code-limits (b .args .code) (b .pre .0) .1)
 
 put-words-requires : tie.Need-put-words-requires
 put-words-requires c κs =

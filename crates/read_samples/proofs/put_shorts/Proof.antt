@@ -1,6 +1,6 @@
 -- `read_samples::put_shorts` meets its contract. Assumes nothing.
 use Rattle.read_samples.proofs.SampleLaws.{size-copied, size-samples, samples-none, short-copied}
-use Rattle.read_samples.specs.Samples.{sampleContent, sampleCopied, samplePairs}
+use Rattle.read_samples.specs.Samples.{pairContent, sampleCopied, samplePairs}
 use Rattle.read_samples.specs.Parts.{shortNumber}
 use Rattle.formats.specs.Codes.{sampleBytes}
 use Rattle.numbers.proofs.Filling.{Filling, start as begin, finish, again, from, next-put, last-put}
@@ -118,7 +118,7 @@ returns-2 c =
     let none = c .before .before .before .before .before .loop-test .left in
     let last = (a .n - 1) * 6 in
     last-put (sampleCopied s k) (λ p. p) (sampleBytes k) 6 (size-copied s k) (l .left) (l .at) last (last + 6) none refl (from (l .inv .4) (omega (arith, none, l .inv .2)))
-    (c .before .before .put-sample .ensures ∙ ap sampleContent (c .before .before .before .before .whole16 .ensures) ∙ short-copied k (p .0) (fewer k (a .v) (p .1) (p .2)) s (l .at) (l .w) (l .inv .3))
+    (c .before .before .put-sample .ensures ∙ ap pairContent (c .before .before .before .before .whole16 .ensures) ∙ short-copied k (p .0) (fewer k (a .v) (p .1) (p .2)) s (l .at) (l .w) (l .inv .3))
 
 same-length : tie.Need-same-length Inv-loop μ-loop
 same-length c =

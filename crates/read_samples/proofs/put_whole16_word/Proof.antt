@@ -2,7 +2,7 @@
 use native.Mathlib.Omega.{arith}
 use borrow.Author.Needs.{needs}
 use Rattle.read_samples.proofs.SampleLaws.{parts-put}
-use Rattle.read_samples.specs.Samples.{sampleContent}
+use Rattle.read_samples.specs.Samples.{pairContent}
 use mathlib.Core.Path.{ap, _∙_}
 use Rattle.read_samples.proofs.put_whole16_word.Statement.{statement}
 use Rattle.read_samples.proofs.put_whole16_word.Tie as tie
@@ -13,7 +13,7 @@ returns c =
     let s = (c .before .before .before .before .before .before .before .before .before .before .before .before) in (
       c .before .before .before .before .short-at .ensures,
       parts-put (s .args .out .now) (p .whole16 .result) (s .pre .3) (c .before .before .before .before .before .before .before .put-exponent .ensures) (c .before .before .put-mantissa .ensures)
-          ∙ ap sampleContent (p .whole16 .ensures),
+          ∙ ap pairContent (p .whole16 .ensures),
     )
 
 pub put-whole16-word-spec : {M : Type 1} → statement M

@@ -2,7 +2,7 @@
 use native.Mathlib.Omega.{arith}
 use borrow.Author.Needs.{needs}
 use Rattle.read_samples.proofs.SampleLaws.{parts-put}
-use Rattle.read_samples.specs.Samples.{sampleContent}
+use Rattle.read_samples.specs.Samples.{pairContent}
 use mathlib.Core.Path.{ap, _∙_}
 use Rattle.read_samples.proofs.put_whole32_word.Statement.{statement}
 use Rattle.read_samples.proofs.put_whole32_word.Tie as tie
@@ -13,7 +13,7 @@ returns c =
     let s = (c .before .before .before .before .before .before .before .before .before .before .before .before) in (
       c .before .before .before .before .word32-at .ensures,
       parts-put (s .args .out .now) (p .whole32 .result) (s .pre .1) (c .before .before .before .before .before .before .before .put-exponent .ensures) (c .before .before .put-mantissa .ensures)
-          ∙ ap sampleContent (p .whole32 .ensures),
+          ∙ ap pairContent (p .whole32 .ensures),
     )
 
 pub put-whole32-word-spec : {M : Type 1} → statement M

@@ -1,6 +1,6 @@
 -- `read_samples::put_words` meets its contract. Assumes nothing.
 use Rattle.read_samples.proofs.SampleLaws.{size-copied, size-samples, samples-none}
-use Rattle.read_samples.specs.Samples.{sampleContent, sampleCopied, samplePairs}
+use Rattle.read_samples.specs.Samples.{pairContent, sampleCopied, samplePairs}
 use Rattle.read_samples.specs.Parts.{wordHeld}
 use Rattle.numbers.proofs.Filling.{Filling, start as begin, finish, again, from, next-put, last-put}
 use Rattle.numbers.proofs.WalkLaws.{times-more}
@@ -116,7 +116,7 @@ returns-2 c =
     let there : a .start + (a .n - 1) * 4 ≡ l .at = omega (arith, none, l .inv .3) in
     let last = (a .n - 1) * 6 in
     last-put (sampleCopied s (a .code)) (λ p. p) (sampleBytes (a .code)) 6 (size-copied s (a .code)) (l .left) (l .at) last (last + 6) none refl (from (l .inv .5) (omega (arith, none, l .inv .2)))
-    (c .before .before .put-sample .ensures ∙ ap sampleContent (c .before .before .before .before .sample-at .ensures) ∙ ap (sampleCopied s (a .code)) there)
+    (c .before .before .put-sample .ensures ∙ ap pairContent (c .before .before .before .before .sample-at .ensures) ∙ ap (sampleCopied s (a .code)) there)
 
 same-length : tie.Need-same-length Inv-loop μ-loop
 same-length c =
