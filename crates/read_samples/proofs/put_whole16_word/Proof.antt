@@ -9,10 +9,11 @@ use Rattle.read_samples.proofs.put_whole16_word.Tie as tie
 
 returns : tie.Need-returns
 returns c =
-    let p = (c .before .before .before .before .before .before .before .before .before) in
-    let s = (c .before .before .before .before .before .before .before .before .before .before .before .before) in (
+    let x = c .before .before .before .before .before .before .before in
+    let p = x .before .before in
+    let s = p .before .before .before in (
       c .before .before .before .before .short-at .ensures,
-      parts-put (s .args .out .now) (p .whole16 .result) (s .pre .3) (c .before .before .before .before .before .before .before .put-exponent .ensures) (c .before .before .put-mantissa .ensures)
+      parts-put (s .args .out .now) (p .whole16 .result) (s .pre .3) (x .put-exponent .ensures) (c .before .before .put-mantissa .ensures)
           ∙ ap pairContent (p .whole16 .ensures),
     )
 

@@ -9,10 +9,11 @@ use Rattle.read_samples.proofs.put_whole32_word.Tie as tie
 
 returns : tie.Need-returns
 returns c =
-    let p = (c .before .before .before .before .before .before .before .before .before) in
-    let s = (c .before .before .before .before .before .before .before .before .before .before .before .before) in (
+    let x = c .before .before .before .before .before .before .before in
+    let p = x .before .before in
+    let s = p .before .before .before in (
       c .before .before .before .before .word32-at .ensures,
-      parts-put (s .args .out .now) (p .whole32 .result) (s .pre .1) (c .before .before .before .before .before .before .before .put-exponent .ensures) (c .before .before .put-mantissa .ensures)
+      parts-put (s .args .out .now) (p .whole32 .result) (s .pre .1) (x .put-exponent .ensures) (c .before .before .put-mantissa .ensures)
           ∙ ap pairContent (p .whole32 .ensures),
     )
 

@@ -1,6 +1,5 @@
 -- `sample::bad_number` meets its contract. Assumes nothing.
 use borrow.Author.Tests.{ne-eqb}
-use borrow.Author.Needs.{needs}
 use Rattle.sample.proofs.bad_number.Statement.{statement}
 use Rattle.sample.proofs.bad_number.Tie as tie
 

@@ -1,7 +1,6 @@
 -- `sample::counted_exponent` meets its contract. Assumes nothing.
 use borrow.Author.Tests.{eq-eqb, ne-eqb}
 use native.Mathlib.Omega.{arith}
-use borrow.Author.Needs.{needs}
 use Rattle.sample.proofs.counted_exponent.Statement.{statement}
 use Rattle.sample.proofs.counted_exponent.Tie as tie
 

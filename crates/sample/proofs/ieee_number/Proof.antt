@@ -4,9 +4,8 @@ use Rattle.numbers.specs.Walk.{pick}
 use Rattle.formats.specs.Codes.{denominatorPower}
 use Rattle.formats.specs.Value.{ieeeExponent, ieeeFraction, ieeeValue}
 use Rattle.value.specs.Pair.{pairOf}
-use Prim.Native.Nat.{ℕ, _+_, _-_, _*_, _^_, _≤_}
-use mathlib.Core.Bool.{Bool}
-use mathlib.Core.Path.{_≡_, sym, ap, _∙_}
+use Prim.Native.Nat.{ℕ, _+_, _-_, _*_, _^_}
+use mathlib.Core.Path.{_≡_, ap, _∙_}
 use lib.Dec.{leb, eqb}
 use native.Mathlib.Omega.{arith}
 use borrow.Author.Needs.{needs}

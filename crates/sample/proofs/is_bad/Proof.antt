@@ -2,13 +2,12 @@
 use Rattle.formats.specs.Value.{isFinite}
 use Rattle.numbers.proofs.SignLaws.{below-or}
 use Prim.Native.Nat.{ℕ, _/_, _%_, _^_, _≤_, _<_}
-use mathlib.Core.Bool.{Bool, not, true, false}
+use mathlib.Core.Bool.{not}
 use mathlib.Core.Logic.{⊎-elim}
-use mathlib.Core.Path.{_≡_, sym, ap, _∙_}
+use mathlib.Core.Path.{_≡_}
 use lib.Dec.{leb, ltb}
 use borrow.Author.Tests.{lt-ltb, le-ltb, lt-leb, le-leb, eq-eqb, ne-eqb}
 use native.Mathlib.Omega.{arith}
-use borrow.Author.Needs.{needs}
 use Rattle.sample.proofs.is_bad.Statement.{statement}
 use Rattle.sample.proofs.is_bad.Tie as tie
 

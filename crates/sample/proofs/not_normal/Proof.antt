@@ -1,6 +1,5 @@
 -- `sample::not_normal` meets its contract. Assumes nothing.
 use Rattle.numbers.specs.Walk.{bytesAt}
-use mathlib.Core.Path.{sym, _∙_}
 use borrow.Author.Tests.{eq-eqb, ne-eqb}
 use borrow.Author.Needs.{needs}
 use Rattle.sample.proofs.not_normal.Statement.{statement}
