@@ -203,6 +203,13 @@ pub fn is_bad(code: u32, n: u32) -> bool
     false
 }
 
+// The number of the refusal of a word without a value.
+pub fn bad_number(code: u32) -> u8
+    ensures { λ r. ⌜ r ≡ badNumber code ⌝ }
+{
+    if code == 4 { BAD_GAIN } else { NOT_FINITE }
+}
+
 // The exponent E of an IEEE single word.
 fn ieee_exponent(n: u32) -> u32
     ensures { λ r. ⌜ (r ≡ ieeeExponent 8 23 n) × (r < 256) ⌝ }
@@ -253,14 +260,7 @@ pub fn number(code: u32, word: [u8; 4]) -> Pair
     }
 }
 
-// The number of the refusal of a word without a value.
-pub fn bad_number(code: u32) -> u8
-    ensures { λ r. ⌜ r ≡ badNumber code ⌝ }
-{
-    if code == 4 { BAD_GAIN } else { NOT_FINITE }
-}
-
-// The same of any word: the numbers of its pair, or the refusal.
+// What reading a word finds under a code: only here is a word refused.
 pub fn read(code: u32, word: [u8; 4]) -> Sample
     ensures { λ r. ⌜ r ≡ readWord code word ⌝ }
 {
