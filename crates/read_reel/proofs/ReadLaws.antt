@@ -23,7 +23,7 @@ use Rattle.record.specs.Answer.{countedOutcome}
 use Rattle.read_reel.specs.Reading.{recordLengthOf, readCauses, readEnd, readOutcome}
 use Rattle.read_reel.specs.Copied.{recordCopied}
 use Rattle.record.specs.declared.Counted.the-variants.{Taken, Refused}
-use Rattle.read_reel.proofs.RecordLaws.{record-is, code-sound}
+use Rattle.read_reel.proofs.RecordLaws.{record-is}
 
 -- what the code asks of its numbers
 pub record Fit (s : List ℕ) (code n i v w t : ℕ) : Type 0 where
@@ -44,7 +44,7 @@ fit s code n i v w t o =
     let few : t ≤ mostTraces = subst (λ (x : ℕ). x ≤ mostTraces) (o .t-is) (h .few) in
     let most : heldStride n ≤ 48186 = omega (arith, k .n-high) in
     record {
-      a-code = code-sound code n i k;
+      a-code = k .is-code;
       width = sym (o .v-is) ∙ ap sampleBytes (o .code-is);
       n-high = k .n-high;
       i-high = k .i-high;
@@ -71,7 +71,7 @@ module _ (s out : List ℕ) where
         → countedOutcome (Taken t n (recordLength t n) k) (ys ++ drop (recordLength t n) out) ≡ readOutcome s out
     taken-end b ys k e count l =
         let size = recordLength t n in
-        let r : reelRecord s ≡ ys = record-is s b (o .fine) ∙ copied-is ∙ sym e in
+        let r : reelRecord s ≡ ys = record-is s b ∙ copied-is ∙ sym e in
         let fine : readCauses s (length out) ≡ check.Fine = rw (o .fine, length-is, le-ltb (length out) size l) in
         sym (ap (readEnd s out) fine ∙ ap (λ (x : ℕ). made x (samplesOf s) (recordLengthOf s) (notNormalOf s) (reelRecord s)) (o .t-is) ∙ ap (λ (x : ℕ). made t x (recordLengthOf s) (notNormalOf s) (reelRecord s)) (o .n-is)
         ∙ ap₂ (λ (x : ℕ) (y : List ℕ). made t n x (notNormalOf s) y) length-is r ∙ ap (λ (x : ℕ). made t n size x ys) (counted-is ∙ sym count))

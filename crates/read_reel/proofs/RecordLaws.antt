@@ -1,26 +1,18 @@
 -- The record that the code writes is the record of what the reel means. Assumes nothing.
 use mathlib.Core.Path.{_≡_, refl, sym, ap, ap₂, _∙_}
 use mathlib.Core.List.{List, [], _∷_, _++_, map, append-assoc, append-nil}
-use mathlib.Core.Bool.{true}
 use Prim.Native.Nat.{ℕ, zero, suc, _+_, _-_, _*_}
 use native.Mathlib.Nat.{mul-comm}
-use borrow.Author.Tests.{le-leb}
 use lib.ListN.{length, length-append}
 use Rattle.numbers.specs.Terms.{Bytes}
 use Rattle.numbers.specs.Walk.{walk, flat, bytesAt, overwritten}
 use Rattle.numbers.specs.Places.{bytePlace}
-use Rattle.numbers.specs.Cause.{firstOf}
 use Rattle.numbers.specs.BigEndian.{bytesOf}
-use Rattle.numbers.specs.declared.Check.the-variants.{Fine}
-use Rattle.numbers.proofs.WalkLaws.{size-walk}
-use Rattle.numbers.proofs.CauseLaws.{passed, then-fine}
-use Rattle.formats.specs.Codes.{isCode, sampleBytes, wordLength}
-use Rattle.formats.specs.Value.{exactValue, isBad, wordNumber}
-use Rattle.sample.specs.Reading.{badNumber}
+use Rattle.numbers.proofs.WalkLaws.{size-walk, map-walk}
+use Rattle.formats.specs.Codes.{sampleBytes, wordLength}
+use Rattle.formats.specs.Value.{exactValue}
 use Rattle.reel.specs.Layout.{cardBytes, firstTrace, traceHeader, samplesOf, intervalOf, codeOf, strideOf, tracesOf}
-use Rattle.reel.specs.Causes.{wordCause, traceCauses, causesOf}
 use Rattle.reel.specs.Meaning.{cardText, binaryNumbers, traceNumber, headerOf, traceMeaning, meaningOf}
-use Rattle.reel.proofs.CheckLaws.{words-fine, Numbers, reel-fine}
 use Rattle.record.specs.Record.{field, binaryBytes, valueBytes, samplesField, traceBytes, recordOf, reelRecord}
 use Rattle.record.specs.Form.{binarySize, codePlace}
 use Rattle.record.proofs.HeaderLaws.{size-cards}
@@ -55,60 +47,41 @@ head-is s h =
     ∙ append-assoc cards (tagBytes 2 binarySize) binary
     ∙ sym (ap₂ (λ (x y : List ℕ). x ++ y) (field-is 1 cardBytes (cardText s) (size-cards s)) (field-is 2 binarySize binary (size-binary s h 0 0)))
 
--- ## Samples
-
--- a word that is not refused
-sample-is : (s : List ℕ) (code p : ℕ) → isCode code ≡ true → wordCause s code p ≡ Fine → valueBytes (exactValue code (bytesAt s p wordLength)) ≡ sampleCopied s code p
-sample-is s code p h e = rw (h, passed (isBad code (wordNumber code (bytesAt s p wordLength))) (badNumber code) p e)
-
-samples-walk : (s : List ℕ) (code w : ℕ) → isCode code ≡ true → (k at : ℕ) → firstOf (walk (wordCause s code) w k at) ≡ Fine
-    → flat (map valueBytes (walk (λ p. exactValue code (bytesAt s p wordLength)) w k at)) ≡ flat (map (sampleCopied s code) (places w k at))
-samples-walk s code w h zero at e = refl
-samples-walk s code w h (suc k) at e =
-    let t = then-fine (wordCause s code at) (firstOf (walk (wordCause s code) w k (at + w))) e in
-    ap₂ (λ (x y : List ℕ). x ++ y) (sample-is s code at h (t .0)) (samples-walk s code w h k (at + w) (t .1))
-
 -- ## Traces
 
-module _ (s : List ℕ) (code n i : ℕ) (h : isCode code ≡ true) where
-  samples-are : (at : ℕ) → firstOf (walk (wordCause s code) (sampleBytes code) n at) ≡ Fine
-      → flat (map valueBytes (walk (λ p. exactValue code (bytesAt s p wordLength)) (sampleBytes code) n at)) ≡ samplePairs s code n at
-  unfolding samplePairs
-  samples-are at e = samples-walk s code (sampleBytes code) h n at e
+-- the samples of a trace are the pairs of their values
+samples-are : (s : List ℕ) (code n at : ℕ) → flat (map valueBytes (walk (λ p. exactValue code (bytesAt s p wordLength)) (sampleBytes code) n at)) ≡ samplePairs s code n at
+unfolding samplePairs
+samples-are s code n at =
+    ap flat (map-walk valueBytes (λ p. exactValue code (bytesAt s p wordLength)) (sampleBytes code) n at ∙ sym (map-walk (sampleCopied s code) (λ p. p) (sampleBytes code) n at))
 
-  trace-is : (at : ℕ) → traceCauses s code n i at ≡ Fine → traceBytes (traceMeaning s code n i at) ≡ recordTraceCopied s code n i at
+module _ (s : List ℕ) (code n i : ℕ) where
+  trace-is : (at : ℕ) → traceBytes (traceMeaning s code n i at) ≡ recordTraceCopied s code n i at
   unfolding traceBytes traceMeaning samplesField recordTraceCopied
-  trace-is at e =
+  trace-is at =
       let header = headerBytes (headerOf (traceNumber s n i at)) in
       let samples = flat (map valueBytes (walk (λ p. exactValue code (bytesAt s p wordLength)) (sampleBytes code) n (at + traceHeader))) in
-      let si : samples ≡ samplePairs s code n (at + traceHeader) = samples-are (at + traceHeader) (words-fine s code n i at e) in
+      let si : samples ≡ samplePairs s code n (at + traceHeader) = samples-are s code n (at + traceHeader) in
       let hf : field 3 header ≡ tagBytes 3 180 ++ header = field-is 3 180 header (size-header (traceNumber s n i at)) in
       let sf : field 4 samples ≡ tagBytes 4 (6 * n) ++ samplePairs s code n (at + traceHeader) =
       field-is 4 (6 * n) samples (ap length si ∙ size-samples s code n (at + traceHeader) ∙ mul-comm n 6) ∙ ap (λ (l : List ℕ). tagBytes 4 (6 * n) ++ l) si in
       ap₂ (λ (x y : List ℕ). x ++ y) hf sf ∙ append-assoc (tagBytes 3 180) header (tagBytes 4 (6 * n) ++ samplePairs s code n (at + traceHeader))
 
-  traces-walk : (w k at : ℕ) → firstOf (walk (traceCauses s code n i) w k at) ≡ Fine
-      → flat (map traceBytes (walk (traceMeaning s code n i) w k at)) ≡ flat (map (recordTraceCopied s code n i) (places w k at))
-  traces-walk w zero at e = refl
-  traces-walk w (suc k) at e =
-      let t = then-fine (traceCauses s code n i at) (firstOf (walk (traceCauses s code n i) w k (at + w))) e in
-      ap₂ (λ (x y : List ℕ). x ++ y) (trace-is at (t .0)) (traces-walk w k (at + w) (t .1))
+  traces-walk : (w k at : ℕ) → flat (map traceBytes (walk (traceMeaning s code n i) w k at)) ≡ flat (map (recordTraceCopied s code n i) (places w k at))
+  traces-walk w zero at = refl
+  traces-walk w (suc k) at = ap₂ (λ (x y : List ℕ). x ++ y) (trace-is at) (traces-walk w k (at + w))
 
 -- ## The record
 
-pub code-sound : (code n i : ℕ) → Numbers code n i → isCode code ≡ true
-code-sound code n i h = h .is-code
-
-pub record-is : (s : List ℕ) → Bytes s → causesOf s ≡ Fine → reelRecord s ≡ recordCopied s (codeOf s) (samplesOf s) (intervalOf s) (strideOf s) (tracesOf s)
+pub record-is : (s : List ℕ) → Bytes s → reelRecord s ≡ recordCopied s (codeOf s) (samplesOf s) (intervalOf s) (strideOf s) (tracesOf s)
 unfolding recordOf meaningOf recordCopied
-record-is s b e =
-    let h = reel-fine s e in
+record-is s b =
     let code = codeOf s in
     let n = samplesOf s in
     let i = intervalOf s in
     let w = strideOf s in
     let t = tracesOf s in
-    let z = traces-walk s code n i (code-sound code n i (h .numbers)) w t firstTrace (h .traces) in
+    let z = traces-walk s code n i w t firstTrace in
     let v : field 5 (bytesOf 4 (length (walk (traceMeaning s code n i) w t firstTrace))) ≡ tagBytes 5 4 ++ bytesOf 4 t =
     ap (λ (k : ℕ). field 5 (bytesOf 4 k)) (size-walk (traceMeaning s code n i) w t firstTrace) ∙ field-is 5 4 (bytesOf 4 t) refl in
     sym (append-assoc (field 1 (cardText s)) (field 2 (binaryBytes 0 (binaryNumbers s))) _)
