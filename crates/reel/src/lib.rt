@@ -127,7 +127,7 @@ fn check_size(size: usize, w: usize, t: usize, over: usize) -> Check
     Check::Fine
 }
 
-// 9 and 19: the first of n words of four bytes from start on that has no value.
+// 9 and 19: the first of n words of four bytes from start on that has no value, which the first two tell.
 fn check_words(reel: &[u8], code: u32, n: usize, start: usize) -> Check
     requires { ⌜ (sampleBytes code ≡ 4) × (start + n * 4 ≤ length (now reel)) ⌝ }
     ensures { λ r. ⌜ r ≡ firstOf (walk (wordCause (now (reel .entry)) code) 4 n start) ⌝ }
@@ -135,8 +135,8 @@ fn check_words(reel: &[u8], code: u32, n: usize, start: usize) -> Check
     let mut at = start;
     let mut left = n;
     while 0 < left {
-        let word = numbers::be32(reel[at], reel[at + 1], reel[at + 2], reel[at + 3]);
-        if sample::is_bad(code, word) {
+        let front = numbers::be16(reel[at], reel[at + 1]);
+        if sample::is_bad(code, front as u32 * 0x1_0000) {
             return Check::Refused {
                 number: sample::bad_number(code),
                 place: Place(at),
