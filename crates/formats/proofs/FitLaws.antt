@@ -84,6 +84,15 @@ module _ (x : Format) where
     pub no-whole : (c : ℕ) → k < place c → fitsAt x (signMagnitude s (o * 2 ^ k)) c ≡ false
     no-whole c h = rw (abs-signed s (o * 2 ^ k), ne-eqb (o * 2 ^ k % unit x c) 0 (inexact o k (place c) odd h))
 
+    nowhere : ((i : ℕ) → i < x .characteristics → fitsAt x (signMagnitude s (o * 2 ^ k)) i ≡ false) → placed x (signMagnitude s (o * 2 ^ k)) ≡ Nowhere
+    nowhere f =
+        ap (placedAt x (signMagnitude s (o * 2 ^ k))) (none-passes (fitsAt x (signMagnitude s (o * 2 ^ k))) (x .characteristics) 0 (λ i z h. f i (omega arith)))
+        ∙ rw (le-ltb (0 + x .characteristics) (x .characteristics) (omega arith))
+
+    -- with a last 1 below all last places it is nowhere
+    pub placed-low : k < x .base → placed x (signMagnitude s (o * 2 ^ k)) ≡ Nowhere
+    placed-low h = nowhere (λ i l. no-whole i (omega (arith, places-rise 0 i (omega arith))))
+
     -- and of n bits
     module _ (n : ℕ) (length : Length (pick (x .more && s) 1 0) o n) where
       -- LAW. A characteristic serves where its last place is not above the value's last 1, and its fraction reaches the value's first.
@@ -120,11 +129,6 @@ module _ (x : Format) where
         placed-at h l =
             ap (placedAt x (signMagnitude s (o * 2 ^ k))) (first-at (fitsAt x (signMagnitude s (o * 2 ^ k))) (x .characteristics) 0 c (omega arith) (omega arith) (serves c l (omega (arith, low .enough))) (λ i z. below i))
             ∙ rw (lt-ltb c (x .characteristics) h, abs-signed s (o * 2 ^ k), exact-div o k (place c) l)
-
-        nowhere : ((i : ℕ) → i < x .characteristics → fitsAt x (signMagnitude s (o * 2 ^ k)) i ≡ false) → placed x (signMagnitude s (o * 2 ^ k)) ≡ Nowhere
-        nowhere f =
-            ap (placedAt x (signMagnitude s (o * 2 ^ k))) (none-passes (fitsAt x (signMagnitude s (o * 2 ^ k))) (x .characteristics) 0 (λ i z h. f i (omega arith)))
-            ∙ rw (le-ltb (0 + x .characteristics) (x .characteristics) (omega arith))
 
         pub placed-high : x .characteristics ≤ c → placed x (signMagnitude s (o * 2 ^ k)) ≡ Nowhere
         placed-high h = nowhere (λ i l. below i (omega arith))
