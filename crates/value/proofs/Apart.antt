@@ -87,6 +87,7 @@ module _ (p : Pair) where
         record {
           odd = o;
           low = l;
+          few = omega (arith, o, b);
           value =
               rw (← power) (ap (λ (z : ℤ). z *ℤ pos (2 ^ k)) sign ∙ signed-mul (leb (2 ^ 31) n) (natAbs (p .m)) (2 ^ k));
         },

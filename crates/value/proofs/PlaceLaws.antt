@@ -3,10 +3,10 @@
 use mathlib.Core.Path.{_≡_, refl, sym, ap, _∙_, subst}
 use mathlib.Core.Logic.{⊎-elim}
 use mathlib.Core.Bool.{Bool, true, false, _&&_}
-use Prim.Native.Nat.{ℕ, zero, suc, _+_, _-_, _*_, _/_, _%_, _^_, _≤_, _<_}
-use native.Mathlib.Nat.{lt-mul-div-succ, mul-div-le, mul-le-mul-left, mul-le-mul-right, mul-suc, mul-add, mul-one, one-mul, zero-mul, pow-suc}
+use Prim.Native.Nat.{ℕ, zero, suc, _+_, _-_, _*_, _/_, _%_, _^_, _≤_, _<_, min}
+use native.Mathlib.Nat.{div-eq-of-lt, lt-mul-div-succ, mul-div-le, mul-le-mul-left, mul-le-mul-right, mul-suc, mul-add, mul-one, one-mul, zero-mul, pow-suc}
 use native.Mathlib.Omega.{arith}
-use lib.Count.{leadingZeros, leading-of-zero, leading-top}
+use lib.Count.{leadingZeros, leading-top}
 use lib.Pow.{pow-pos, pow-mono}
 use Rattle.numbers.specs.Walk.{pick}
 use Rattle.numbers.specs.TwosComplement.{bitsOf}
@@ -23,13 +23,13 @@ use Rattle.value.proofs.Twos.{odd-shl}
 -- ## Steps
 
 -- the least number of steps, by division
-pub lowest-zero : (n room d : ℕ) → n ≤ room → Lowest n room d 0
+lowest-zero : (n room d : ℕ) → n ≤ room → Lowest n room d 0
 lowest-zero n room d h = record { enough = omega arith; least = λ i l. absurd (none i l) }
   where
     none : (i : ℕ) → i < 0 → ⊥
     none i l = omega arith
 
-pub lowest-div : (n room d : ℕ) → 0 < d → room < n → Lowest n room d ((n - room + (d - 1)) / d)
+lowest-div : (n room d : ℕ) → 0 < d → room < n → Lowest n room d ((n - room + (d - 1)) / d)
 lowest-div n room d p h =
     let a = n - room + (d - 1) in
     let c = a / d in
@@ -38,24 +38,34 @@ lowest-div n room d p h =
       least = λ i l. let k : d * suc i ≤ d * c = mul-le-mul-left d l in omega (arith, k, mul-div-le a d, mul-suc d i);
     }
 
--- the length of a magnitude of 32 bits, and of one that counts as one bit shorter where it is a power of two
-pub length-full : (o : ℕ) → 0 < o → o < 2 ^ 32 → Length 0 o (32 - leadingZeros 32 o)
+pub lowest-steps : (n room d : ℕ) → 0 < d → Lowest n room d ((n - min n room + (d - 1)) / d)
+lowest-steps n room d p =
+    ⊎-elim
+    (λ (h : room < n). let e : min n room ≡ room = omega arith in rw e (lowest-div n room d p h))
+    (λ (h : n ≤ room).
+    let e : n - min n room + (d - 1) ≡ d - 1 = omega arith in
+    let l : d - 1 < d = omega arith in
+    rw (e, div-eq-of-lt l) (lowest-zero n room d h)) (below-or room n)
+
+-- the length of a magnitude of 31 bits, and of one that counts as one bit shorter where it is a power of two
+pub leading-few : (a : ℕ) → 0 < a → a < 2 ^ 32 → leadingZeros 32 a ≤ 31
+leading-few a some fits = omega (arith, leading-top 32 a some fits .1)
+
+length-even : (o t : ℕ) → 0 < o → 2 ^ t ≤ 2 * o + 1 → 2 ^ t ≤ 2 * o
+length-even o zero some h = omega arith
+length-even o (suc t) some h = omega (arith, pow-suc 2 t)
+
+pub length-full : (o : ℕ) → 0 < o → o < 2 ^ 31 → Length 0 o (31 - leadingZeros 32 (2 * o + 1))
 length-full o some fits =
-    let t = leading-top 32 o some fits in
-    let e : 32 - leadingZeros 32 o ≡ suc (t .0) = omega (arith, t .1) in
-    rw e (record { holds = omega (arith, t .3); least = omega (arith, t .2, pow-suc 2 (t .0)) })
+    let t = leading-top 32 (2 * o + 1) (omega arith) (omega arith) in
+    let e : 31 - leadingZeros 32 (2 * o + 1) ≡ t .0 = omega (arith, t .1) in
+    rw e (record { holds = omega (arith, t .3, pow-suc 2 (t .0)); least = omega (arith, length-even o (t .0) some (t .2)) })
 
-pub length-less : (o : ℕ) → 0 < o → o < 2 ^ 32 → Length 1 o (32 - leadingZeros 32 (o - 1))
-length-less o some fits = ⊎-elim (λ (h : 1 < o). more h) (λ (h : o ≤ 1). one (omega arith)) (below-or 1 o)
-  where
-    one : o ≡ 1 → Length 1 o (32 - leadingZeros 32 (o - 1))
-    one e = rw (e, leading-of-zero 32) (record { holds = omega arith; least = omega arith })
-
-    more : 1 < o → Length 1 o (32 - leadingZeros 32 (o - 1))
-    more h =
-        let t = leading-top 32 (o - 1) (omega arith) (omega arith) in
-        let e : 32 - leadingZeros 32 (o - 1) ≡ suc (t .0) = omega (arith, t .1) in
-        rw e (record { holds = omega (arith, t .3); least = omega (arith, t .2, pow-suc 2 (t .0)) })
+pub length-less : (o : ℕ) → 0 < o → o < 2 ^ 31 → Length 1 o (31 - leadingZeros 32 (2 * o - 1))
+length-less o some fits =
+    let t = leading-top 32 (2 * o - 1) (omega arith) (omega arith) in
+    let e : 31 - leadingZeros 32 (2 * o - 1) ≡ t .0 = omega (arith, t .1) in
+    rw e (record { holds = omega (arith, t .3, pow-suc 2 (t .0)); least = omega (arith, t .2) })
 
 -- a shift that loses nothing is one by fewer bits than there are
 pub shift-fits : (o s : ℕ) → 0 < o → o * 2 ^ s < 2 ^ 32 → s < 32

@@ -32,6 +32,9 @@ const HIGHEST_EXPONENT: i16 = 251;
 // Zero under every code.
 const ZERO_WORD: u32 = 0;
 
+// The bits that are given where there is no word.
+const NO_WORD: u32 = 0;
+
 // The numbers of the causes.
 const BAD_TARGET: u8 = 11;
 
@@ -57,14 +60,15 @@ fn shifted_up(a: u32, s: u32) -> u32
 // ## Places
 
 // The bits of a magnitude; where `less` is set, as for a format with one more number below zero, a power of two counts as one bit shorter.
+// They are one fewer than those of 2 × o + 1, and of 2 × o - 1, which is never 0: the compiler then makes one instruction of the count.
 fn length_of(o: u32, less: bool) -> u32
-    requires { ⌜ 0 < o ⌝ }
-    ensures { λ r. ⌜ Length (pick less 1 0) o r × (r ≤ 32) ⌝ }
+    requires { ⌜ (0 < o) × (o < 2 ^ 31) ⌝ }
+    ensures { λ r. ⌜ Length (pick less 1 0) o r × (r < 32) ⌝ }
 {
     if less {
-        return 32 - u32::leading_zeros(o - 1);
+        return 31 - u32::leading_zeros(2 * o - 1);
     }
-    32 - u32::leading_zeros(o)
+    31 - u32::leading_zeros(2 * o + 1)
 }
 
 // A format has one more number of that sign.
@@ -80,10 +84,7 @@ fn lowest(x: Format, first: u32) -> u32
     ensures { λ r. ⌜ Lowest first (x .fraction + x .base) (x .digit) r ⌝ }
 {
     let room = x.fraction + x.base;
-    if first <= room {
-        return 0;
-    }
-    (first - room + (x.digit - 1)) / x.digit
+    (first - lesser(first, room) + (x.digit - 1)) / x.digit
 }
 
 // The power of two that the last place of a fraction is worth beside a characteristic.
@@ -97,7 +98,7 @@ fn last_place(x: Format, c: u32) -> u32
 // The place of V = ± o × 2^k in a format, for an odd o: of the characteristics that serve, the least. It is told by bit lengths alone, and the
 // fraction is shifted once it is known to fit.
 fn place(x: Format, neg: bool, o: u32, k: u32) -> Placed
-    requires { ⌜ Sound x × (o % 2 ≡ 1) × (k ≤ denominatorPower + highestExponent) ⌝ }
+    requires { ⌜ Sound x × (o % 2 ≡ 1) × (k ≤ denominatorPower + highestExponent) × (o < 2 ^ 31) ⌝ }
     ensures { λ r. ⌜ r ≡ placed x (signMagnitude neg (o * 2 ^ k)) ⌝ }
 {
     let c = lowest(x, length_of(o, one_more(x, neg)) + k);
@@ -142,7 +143,7 @@ fn packed(y: u32, neg: bool, c: u32, f: u32) -> u32
 
 // The word of V = ± o × 2^k in a format of sign and magnitude, for an odd o, with the characteristic above the y lowest bits.
 fn float_of(x: Format, y: u32, neg: bool, o: u32, k: u32) -> Written
-    requires { ⌜ Float x 32 y × (o % 2 ≡ 1) × (k ≤ denominatorPower + highestExponent) ⌝ }
+    requires { ⌜ Float x 32 y × (o % 2 ≡ 1) × (k ≤ denominatorPower + highestExponent) × (o < 2 ^ 31) ⌝ }
     ensures { λ r. ⌜ r ≡ floatWord x 32 y (signMagnitude neg (o * 2 ^ k)) ⌝ }
 {
     match place(x, neg, o, k) {
@@ -165,11 +166,15 @@ fn complement(w: u32, neg: bool, q: u32) -> u32
     }
 }
 
-// The word of V = ± o × 2^k as a number of w bits, for an odd o, by the format of such numbers.
+// The word of V = ± o × 2^k as a number of w bits, for an odd o, by the format of such numbers. With k below 280 it is none: that test stands
+// before the place, where it costs less than in it.
 fn whole_of(x: Format, w: u32, neg: bool, o: u32, k: u32) -> Written
-    requires { ⌜ (x ≡ wholeFormat w) × (0 < w) × (w ≤ 32) × (o % 2 ≡ 1) × (k ≤ denominatorPower + highestExponent) ⌝ }
+    requires { ⌜ (x ≡ wholeFormat w) × (0 < w) × (w ≤ 32) × (o % 2 ≡ 1) × (k ≤ denominatorPower + highestExponent) × (o < 2 ^ 31) ⌝ }
     ensures { λ r. ⌜ r ≡ wholeWord w (signMagnitude neg (o * 2 ^ k)) ⌝ }
 {
+    if k < DENOMINATOR_POWER {
+        return Written::Refused { number: UNFIT };
+    }
     match place(x, neg, o, k) {
         Placed::At { c: _, f } => Written::Word {
             bits: complement(w, neg, f),
@@ -183,7 +188,7 @@ const GAIN_BASE: u32 = DENOMINATOR_POWER - 255;
 
 // The word of V = ± o × 2^k under code 4, for an odd o, with the smallest gain: the largest characteristic that leaves the number whole.
 fn gain_of(neg: bool, o: u32, k: u32) -> Written
-    requires { ⌜ (o % 2 ≡ 1) × (k ≤ denominatorPower + highestExponent) ⌝ }
+    requires { ⌜ (o % 2 ≡ 1) × (k ≤ denominatorPower + highestExponent) × (o < 2 ^ 31) ⌝ }
     ensures { λ r. ⌜ r ≡ gainWord (signMagnitude neg (o * 2 ^ k)) ⌝ }
 {
     if k < GAIN_BASE {
@@ -264,7 +269,7 @@ impl Pair {
 
 // The word of V = ± o × 2^k under a code, for an odd o.
 fn word_at(code: u32, neg: bool, o: u32, k: u32) -> Written
-    requires { ⌜ (isCode code ≡ true) × (o % 2 ≡ 1) × (k ≤ denominatorPower + highestExponent) ⌝ }
+    requires { ⌜ (isCode code ≡ true) × (o % 2 ≡ 1) × (k ≤ denominatorPower + highestExponent) × (o < 2 ^ 31) ⌝ }
     ensures { λ r. ⌜ r ≡ wordOf code (signMagnitude neg (o * 2 ^ k)) ⌝ }
 {
     match code {
@@ -307,7 +312,23 @@ fn bits_of(word: Written) -> u32
 {
     match word {
         Written::Word { bits } => bits,
-        Written::Refused { number: _ } => 0,
+        Written::Refused { number: _ } => NO_WORD,
+    }
+}
+
+// The bits of the word of V = ± o × 2^k under a code, for an odd o, 0 where there is none. Each arm gives a number, so that no answer is
+// packed and unpacked.
+fn bits_at(code: u32, neg: bool, o: u32, k: u32) -> u32
+    requires { ⌜ (isCode code ≡ true) × (o % 2 ≡ 1) × (k ≤ denominatorPower + highestExponent) × (o < 2 ^ 31) ⌝ }
+    ensures { λ r. ⌜ r ≡ wordBits (wordOf code (signMagnitude neg (o * 2 ^ k))) ⌝ }
+{
+    match code {
+        1 => bits_of(float_of(formats::format_of(1), 24, neg, o, k)),
+        2 => bits_of(whole_of(formats::format_of(2), 32, neg, o, k)),
+        3 => bits_of(whole_of(formats::format_of(3), 16, neg, o, k)),
+        4 => bits_of(gain_of(neg, o, k)),
+        5 => bits_of(float_of(formats::format_of(5), 23, neg, o, k)),
+        _ => bits_of(whole_of(formats::format_of(8), 8, neg, o, k)),
     }
 }
 
@@ -315,7 +336,14 @@ fn bits_of(word: Written) -> u32
 pub fn bits(code: u32, p: Pair) -> u32
     ensures { λ r. ⌜ r ≡ wordBits (writePair code p) ⌝ }
 {
-    bits_of(write(code, p))
+    if !formats::is_code(code as usize) {
+        return NO_WORD;
+    }
+    match p.parts() {
+        Parts::NotCanonical => NO_WORD,
+        Parts::Zero => ZERO_WORD,
+        Parts::Odd { neg, o, k } => bits_at(code, neg, o, k),
+    }
 }
 
 // The pair of the 16 bits of e and the 32 of m.

@@ -1,5 +1,5 @@
 -- `value::lowest` meets its contract. Assumes nothing.
-use Rattle.value.proofs.PlaceLaws.{lowest-zero, lowest-div}
+use Rattle.value.proofs.PlaceLaws.{lowest-steps}
 use native.Mathlib.Nat.{mul-le-mul-left, mul-one}
 use native.Mathlib.Omega.{arith}
 use Prim.Native.Nat.{_*_, _≤_, _<_, _^_}
@@ -14,14 +14,13 @@ short c =
     let l = mul-le-mul-left (x .digit) (c .pre .0 .some) in
     omega (arith, c .pre .0 .near, l, mul-one (x .digit))
 
-returns : tie.Need-returns
-returns c = lowest-zero _ _ _ (c .if1 .taken)
-
 add-result : tie.Need-add-result
-add-result c = record { fits = omega (arith, short (c .before .before .before), c .before .before .before .pre .1) }
+add-result c = let s = c .before .before .before in record { fits = omega (arith, short s, s .pre .1) }
 
-returns-2 : tie.Need-returns-2
-returns-2 c = lowest-div _ _ _ (c .before .before .before .before .pre .0 .steps) (c .before .before .if1 .left)
+returns : tie.Need-returns
+returns c =
+    let l = c .before .before in
+    rw (l .lesser .ensures) (lowest-steps _ _ _ (l .before .before .pre .0 .steps))
 
 pub lowest-spec : {M : Type 1} → statement M
-lowest-spec = tie.close (tie.spec (λ c. search needs) returns (λ c. search needs) (λ c. search needs) add-result (λ c. search needs) returns-2)
+lowest-spec = tie.close (tie.spec (λ c. search needs) (λ c κs. search needs) (λ c. search needs) (λ c. search needs) add-result (λ c. search needs) returns)

@@ -12,7 +12,7 @@ apart : (c : tie.After-neg) → PartsOf (c .before .before .before .args .p) (Od
 apart c = subst (PartsOf (c .before .before .before .args .p)) (c .neg .given .1) (c .before .before .parts .ensures)
 
 word-at-requires : tie.Need-word-at-requires
-word-at-requires c κs = let a = apart (c .before) .1 in (c .before .before .before .before .pre, a .odd, a .low)
+word-at-requires c κs = let a = apart (c .before) .1 in (c .before .before .before .before .pre, a .odd, a .low, a .few)
 
 returns : tie.Need-returns
 returns c =

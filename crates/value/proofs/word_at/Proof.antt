@@ -19,12 +19,12 @@ value s = signMagnitude (s .args .neg) (s .args .o * 2 ^ s .args .k)
 float-of-requires : tie.Need-float-of-requires
 float-of-requires c κs =
     let s = c .before .before in
-    (subst (λ (x : Format). Float x 32 24) (sym (c .format-of .ensures)) ibm-float, s .pre .1, s .pre .2)
+    (subst (λ (x : Format). Float x 32 24) (sym (c .format-of .ensures)) ibm-float, s .pre .1, s .pre .2, s .pre .3)
 
 float-of-requires-2 : tie.Need-float-of-requires-2
 float-of-requires-2 c κs =
     let s = c .before .before in
-    (subst (λ (x : Format). Float x 32 23) (sym (c .format-of4 .ensures)) single-float, s .pre .1, s .pre .2)
+    (subst (λ (x : Format). Float x 32 23) (sym (c .format-of4 .ensures)) single-float, s .pre .1, s .pre .2, s .pre .3)
 
 returns : tie.Need-returns
 returns c = rw (c .before .before .match .keys1) (c .float-of .ensures ∙ ap (λ (x : Format). floatWord x 32 24 (value (c .before .before .before))) (c .before .format-of .ensures))
