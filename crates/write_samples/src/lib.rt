@@ -48,18 +48,18 @@ fn refused(word: Written, at: usize) -> Check
 }
 
 // What writing a pair under one of the codes gives. The tests are not of equality, which the compiler would make a switch of: so it takes each
-// out of the loop that calls this, which becomes a loop for each code.
+// out of the loop that calls this, which becomes a loop for each code. It does so for two or three tests in a row, hence the first test.
 fn word_of(code: u32, p: Pair) -> Written
     requires { ⌜ isCode code ≡ true ⌝ }
     ensures { λ r. ⌜ r ≡ writePair code p ⌝ }
 {
-    if code < 2 {
-        return value::write(1, p);
-    }
-    if code < 3 {
-        return value::write(2, p);
-    }
     if code < 4 {
+        if code < 2 {
+            return value::write(1, p);
+        }
+        if code < 3 {
+            return value::write(2, p);
+        }
         return value::write(3, p);
     }
     if code < 5 {
