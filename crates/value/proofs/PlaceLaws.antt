@@ -47,19 +47,21 @@ lowest-steps n room d p =
     let l : d - 1 < d = omega arith in
     rw (e, div-eq-of-lt l) (lowest-zero n room d h)) (below-or room n)
 
--- the length of a magnitude of 31 bits, and of one that counts as one bit shorter where it is a power of two
+-- a number other than 0 has fewer than 32 zeros above its first 1
 pub leading-few : (a : ℕ) → 0 < a → a < 2 ^ 32 → leadingZeros 32 a ≤ 31
 leading-few a some fits = omega (arith, leading-top 32 a some fits .1)
 
-length-even : (o t : ℕ) → 0 < o → 2 ^ t ≤ 2 * o + 1 → 2 ^ t ≤ 2 * o
-length-even o zero some h = omega arith
-length-even o (suc t) some h = omega (arith, pow-suc 2 t)
+-- a power of two is not odd but for 1
+power-even : (o t : ℕ) → 0 < o → 2 ^ t ≤ 2 * o + 1 → 2 ^ t ≤ 2 * o
+power-even o zero some h = omega arith
+power-even o (suc t) some h = omega (arith, pow-suc 2 t)
 
+-- the length of a magnitude of 31 bits, and of one that counts as one bit shorter where it is a power of two
 pub length-full : (o : ℕ) → 0 < o → o < 2 ^ 31 → Length 0 o (31 - leadingZeros 32 (2 * o + 1))
 length-full o some fits =
     let t = leading-top 32 (2 * o + 1) (omega arith) (omega arith) in
     let e : 31 - leadingZeros 32 (2 * o + 1) ≡ t .0 = omega (arith, t .1) in
-    rw e (record { holds = omega (arith, t .3, pow-suc 2 (t .0)); least = omega (arith, length-even o (t .0) some (t .2)) })
+    rw e (record { holds = omega (arith, t .3, pow-suc 2 (t .0)); least = omega (arith, power-even o (t .0) some (t .2)) })
 
 pub length-less : (o : ℕ) → 0 < o → o < 2 ^ 31 → Length 1 o (31 - leadingZeros 32 (2 * o - 1))
 length-less o some fits =
