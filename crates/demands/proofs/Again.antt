@@ -15,12 +15,12 @@ use Rattle.numbers.specs.declared.Check.the-variants.{Fine}
 use Rattle.numbers.specs.Terms.{Bytes}
 use Rattle.numbers.proofs.WalkLaws.{cons-eq, size-walk, size-bytes, bytes-part, at-zero, at-suc}
 use Rattle.numbers.proofs.ByteLaws.{bytes-at, bytes-again, bytes-append}
-use Rattle.value.specs.Pair.{pairLength, pairBytes, pairIn}
+use Rattle.value.specs.Pair.{pairLength, pairBytes, pairIn, valueBytes}
 use Rattle.value.specs.declared.Pair.{Pair}
 use Rattle.sample_theorems.proofs.Pairs.{value-pair-back, pair-bytes}
 use Rattle.reel.specs.Layout.{fieldsFrom, cardBytes, binaryWidths, binaryFields, fieldNumber}
 use Rattle.reel.specs.Meaning.{otherThan}
-use Rattle.record.specs.Record.{field, binaryBytes, valueBytes, samplesField, traceBytes, recordOf}
+use Rattle.record.specs.Record.{field, binaryBytes, samplesField, traceBytes, recordOf}
 use Rattle.record.specs.Form.{heldSamples, heldCode, tracesPlace, heldStride, heldCount, formCauses}
 use Rattle.record.specs.Held.{heldValue, heldTrace, heldBy}
 use Rattle.headers.proofs.NumberLaws.{fields-again, numbers-append}

@@ -4,7 +4,7 @@
 -- number and place that document 01 sets, and is given in just the cases set there; a refused call changes no byte of its output buffer."
 --
 -- Rattle proves of every function that it ends, reads and writes nothing outside the buffers lent to it, divides by no zero, and that no
--- sum, difference, product or cast loses bits. Two operations wrap, and are meant to: `magnitude32`, in `value`, and `magnitude16`, in
+-- sum, difference, product or cast loses bits. Two operations wrap, and are meant to: `magnitude32`, in `numbers`, and `magnitude16`, in
 -- `sample`, take the magnitude of a two's complement word by wrapping subtraction from zero, the form that document 01 names for it; their
 -- contracts say that what comes out is the magnitude, so no bit of the number is lost there. A shift up says in its contract that it gives
 -- the whole product. No public call asks anything of its input, so all this holds on every input.

@@ -22,14 +22,14 @@ use Rattle.numbers.proofs.WalkLaws.{flat-size}
 use Rattle.numbers.proofs.ByteLaws.{length-bytes, bytes-of}
 use Rattle.numbers.proofs.AllLaws.{all-append, all-flat}
 use Rattle.numbers.proofs.RowLaws.{then-second}
-use Rattle.value.specs.Pair.{pairOf, valueOf, isCanonical, pairLength, pairIn}
+use Rattle.value.specs.Pair.{pairOf, valueOf, isCanonical, pairLength, pairIn, valueBytes}
 use Rattle.sample_theorems.proofs.Pairs.{pair-value, bytes-pair}
 use Rattle.reel.specs.Layout.{cardBytes, binaryFields, fieldNumber, number16}
 use Rattle.reel.specs.Causes.{mostSamples, mostTraces, mostInterval}
 use Rattle.reel.specs.Meaning.{otherThan, Trace, Meaning}
 use Rattle.headers.specs.Header.{headerBytes}
 use Rattle.headers.proofs.HeaderBytes.{header-again, smallest-again}
-use Rattle.record.specs.Record.{field, binaryBytes, valueBytes, samplesField, traceBytes, recordOf, recordLength}
+use Rattle.record.specs.Record.{field, binaryBytes, samplesField, traceBytes, recordOf, recordLength}
 use Rattle.record.specs.Form.{fieldCause, cardCause, cardsCauses, heldInterval, heldSamples, heldCode, numberCauses, binaryCauses, tracesPlace, heldStride, pairCause, samplesCauses, traceForm, tagsFrom, heldCount, endCauses, bodyCauses, formCauses}
 use Rattle.record.proofs.FormLaws.{trace-parts}
 use Rattle.record.specs.Held.{heldValue, heldTrace, heldBy}

@@ -16,14 +16,14 @@ use Rattle.numbers.specs.Iff.{Iff}
 use Rattle.numbers.specs.Walk.{pick}
 use Rattle.numbers.proofs.SignLaws.{below-or}
 use Rattle.numbers.specs.SignMagnitude.{signMagnitude, isNegative}
-use Rattle.formats.specs.Format.{unit, placed}
+use Rattle.formats.specs.Format.{Value, unit, placed}
 use Rattle.formats.specs.Codes.{denominatorPower, bias, ieeeFormat}
 use Rattle.formats.specs.Value.{ieeeSign, ieeeExponent, ieeeFraction, isFinite, significand, ieeePower, ieeeValue}
 use Rattle.formats.specs.Words.{floatBits, floatOf, floatWord}
 use Rattle.formats.specs.declared.Placed.the-variants.{At}
 use Rattle.formats.specs.declared.Written.the-variants.{Word}
 use Rattle.numbers.proofs.Magnitudes.{neg-signed, abs-signed, signed-back}
-use Rattle.formats.proofs.PlacedLaws.{Value, Place, placed-normal, placed-only}
+use Rattle.formats.proofs.PlacedLaws.{Place, placed-normal, placed-only}
 use Rattle.formats.proofs.FitLaws.{placed-zero}
 use Rattle.formats.proofs.WordLaws.{float-is}
 
@@ -312,7 +312,7 @@ pub single-sound : (v : ℤ) (n : ℕ) → floatWord (ieeeFormat 8 23) 32 23 v �
 single-sound = ieee-sound 8 23 two near
 
 -- THEOREM. Code 5: each finite word but 80000000 is the word that is written of its value.
-pub ieee-only : (n : ℕ) → n < 2 ^ 32 → isFinite 8 23 n ≡ true → (n ≡ 2 ^ 31 → ⊥) → floatWord (ieeeFormat 8 23) 32 23 (ieeeValue 8 23 n) ≡ Word n
+pub ieee-only : (n : ℕ) → n < 2 ^ 32 → isFinite 8 23 n ≡ true → (n ≡ 0x8000_0000 → ⊥) → floatWord (ieeeFormat 8 23) 32 23 (ieeeValue 8 23 n) ≡ Word n
 ieee-only n h f m = only-word 8 23 two near n h f m
 
 -- THEOREM. Minus zero, 80000000, is zero, which is written 00000000.
@@ -320,7 +320,7 @@ pub ieee-minus-zero : floatWord (ieeeFormat 8 23) 32 23 (ieeeValue 8 23 (2 ^ 31)
 ieee-minus-zero = ap (floatOf 32 23 false) (placed-zero (ieeeFormat 8 23) (omega arith))
 
 -- THEOREM. No two finite words other than 80000000 have the same value.
-pub ieee-same : (n k : ℕ) → n < 2 ^ 32 → k < 2 ^ 32 → isFinite 8 23 n ≡ true → isFinite 8 23 k ≡ true → (n ≡ 2 ^ 31 → ⊥) → (k ≡ 2 ^ 31 → ⊥) → ieeeValue 8 23 n ≡ ieeeValue 8 23 k → n ≡ k
+pub ieee-same : (n k : ℕ) → n < 2 ^ 32 → k < 2 ^ 32 → isFinite 8 23 n ≡ true → isFinite 8 23 k ≡ true → (n ≡ 0x8000_0000 → ⊥) → (k ≡ 0x8000_0000 → ⊥) → ieeeValue 8 23 n ≡ ieeeValue 8 23 k → n ≡ k
 ieee-same n k h l f g m o e =
     let p = sym (ieee-only n h f m) ∙ ap (floatWord (ieeeFormat 8 23) 32 23) e ∙ ieee-only k l g o in
     cc

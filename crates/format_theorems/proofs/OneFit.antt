@@ -14,17 +14,20 @@ use Rattle.numbers.specs.Iff.{Iff}
 use Rattle.numbers.specs.Walk.{pick}
 use Rattle.numbers.specs.TwosComplement.{signedOf, bitsOf}
 use Rattle.numbers.specs.SignMagnitude.{signMagnitude, isNegative}
-use Rattle.numbers.proofs.BoolLaws.{and-true}
+use Rattle.numbers.specs.Terms.{Among}
+use Rattle.numbers.proofs.BoolLaws.{and-true, among-is, is-among}
 use Rattle.numbers.proofs.SignLaws.{signed-bits, bits-lt, mag-signed}
 use Rattle.numbers.proofs.Magnitudes.{signed-back, signed-mul}
-use Rattle.formats.specs.Format.{unit, limit, inFormat}
-use Rattle.formats.specs.Codes.{denominatorPower, sampleBytes, isCode, ibmFormat, wholeFormat, gainFormat, ieeeFormat, formatOf}
+use Rattle.formats.specs.Format.{Value, unit, limit, inFormat}
+use Rattle.formats.specs.Codes.{denominatorPower, codes, sampleBytes, isCode, ibmFormat, wholeFormat, gainFormat, ieeeFormat, formatOf}
+use Rattle.formats.specs.declared.Format.{Format}
+use mathlib.Core.List.{[], _∷_}
 use Rattle.formats.specs.Value.{signBit, characteristic, fraction, ibmValue, wholeValue, gainValue, gainOf, gainNumber, isFinite, valueIn, isBad, isWord}
 use Rattle.formats.specs.Words.{floatBits, gainFits}
-use Rattle.formats.proofs.PlacedLaws.{Value, serves-value, in-format-value, value-in-format}
+use Rattle.formats.proofs.PlacedLaws.{serves-value, in-format-value, value-in-format}
 use Rattle.formats.proofs.CodeLaws.{Code, ibm, whole32, whole16, gain, ieee, whole8, code-is}
 use Rattle.formats.proofs.WordLaws.{float-some}
-use Rattle.format_theorems.specs.Statements.{HasWord}
+use Rattle.format_theorems.specs.Statements.{HasNumber}
 use Rattle.format_theorems.proofs.IeeeWords.{single-value, single-sound}
 
 -- a word of a code: of its width, and not bad
@@ -52,7 +55,7 @@ pub ibm-value : (s : Bool) (c f : ℕ) → c < 128 → f < 2 ^ 24 → ibmValue (
 ibm-value s c f h l = let p = ibm-fields s c f h l in rw (p .sign, p .middle, p .low)
 
 -- a value of the format has a word, and a word has one of its values
-ibm-has : (v : ℤ) → Value ibmFormat v → HasWord 1 v
+ibm-has : (v : ℤ) → Value ibmFormat v → HasNumber 1 v
 ibm-has v t =
     let small : t .f < 2 ^ 24 = omega (arith, t .fits) in
     let n = floatBits 32 24 (t .sign) (t .c) (t .f) in
@@ -155,7 +158,7 @@ pub gain-good : (n : ℕ) → n < 2 ^ 24 → isWord 4 n ≡ true
 gain-good n h = good-word 4 n (omega arith) (rw (lt-ltb n (2 ^ 24) h))
 
 -- and a value of the format has one
-gain-has : (v : ℤ) → Value gainFormat v → HasWord 4 v
+gain-has : (v : ℤ) → Value gainFormat v → HasNumber 4 v
 gain-has v t =
     let g = 255 - t .c in
     let b = bits-of 16 (t .sign) (t .f) (omega arith) (t .fits) in
@@ -174,7 +177,7 @@ gain-has v t =
 pub ieee-good : (n : ℕ) → n < 2 ^ 32 → isFinite 8 23 n ≡ true → isWord 5 n ≡ true
 ieee-good n h f = good-word 5 n h (rw f)
 
-ieee-has : (v : ℤ) → inFormat (ieeeFormat 8 23) v ≡ true → HasWord 5 v
+ieee-has : (v : ℤ) → inFormat (ieeeFormat 8 23) v ≡ true → HasNumber 5 v
 ieee-has v e =
     let t = float-some (ieeeFormat 8 23) 32 23 v e in
     let s = single-sound v (t .0) (t .1) in
@@ -183,13 +186,13 @@ ieee-has v e =
 -- ## All codes
 
 -- a value of a code's format has a word
-has-word : (code : ℕ) (v : ℤ) → isCode code ≡ true → inFormat (formatOf code) v ≡ true → HasWord code v
+has-word : (code : ℕ) (v : ℤ) → isCode code ≡ true → inFormat (formatOf code) v ≡ true → HasNumber code v
 has-word code v k = go code (code-is code k)
   where
-    whole : (w code : ℕ) → 0 < w → inFormat (wholeFormat w) v ≡ true → ((n : ℕ) → n < 2 ^ w → isWord code n ≡ true) → ((n : ℕ) → valueIn code n ≡ wholeValue (signedOf w n)) → HasWord code v
+    whole : (w code : ℕ) → 0 < w → inFormat (wholeFormat w) v ≡ true → ((n : ℕ) → n < 2 ^ w → isWord code n ≡ true) → ((n : ℕ) → valueIn code n ≡ wholeValue (signedOf w n)) → HasNumber code v
     whole w code p e good is = let t = whole-has w v p (in-format-value (wholeFormat w) v e) in record { word = t .0; good = good (t .0) (t .1); value = is (t .0) ∙ t .2 }
 
-    go : (code : ℕ) → Code code → inFormat (formatOf code) v ≡ true → HasWord code v
+    go : (code : ℕ) → Code code → inFormat (formatOf code) v ≡ true → HasNumber code v
     go code ibm e = ibm-has v (in-format-value ibmFormat v e)
     go code whole32 e = whole 32 2 (omega arith) e (λ n h. good-word 2 n h refl) (λ n. refl)
     go code whole16 e = whole 16 3 (omega arith) e (λ n h. good-word 3 n h refl) (λ n. refl)
@@ -197,7 +200,7 @@ has-word code v k = go code (code-is code k)
     go code ieee e = ieee-has v e
     go code whole8 e = whole 8 8 (omega arith) e (λ n h. good-word 8 n h refl) (λ n. refl)
 
--- a word of a code has a value of the code's format
+-- THEOREM. The value of a word of a code is one of the code's format.
 pub word-in : (code n : ℕ) → isCode code ≡ true → isWord code n ≡ true → Value (formatOf code) (valueIn code n)
 word-in code n k = go code (code-is code k)
   where
@@ -209,6 +212,14 @@ word-in code n k = go code (code-is code k)
     go code ieee e = single-value n (not-false (isFinite 8 23 n) (word-is 5 n e .1))
     go code whole8 e = whole-in 8 n (omega arith) (word-is 8 n e .0)
 
+-- THEOREM. A value is one of a format exactly when it is ± f × 2 ^ (b + r × c) for a characteristic and a fraction of the format.
+pub in-format : (x : Format) (v : ℤ) → Iff (inFormat x v ≡ true) (Value x v)
+in-format x v = (in-format-value x v, value-in-format x v)
+
+-- THEOREM. The codes are these six, and no others.
+pub codes-are : (code : ℕ) → Iff (isCode code ≡ true) (Among code (1 ∷ 2 ∷ 3 ∷ 4 ∷ 5 ∷ 8 ∷ []))
+codes-are code = (among-is code codes, is-among code codes)
+
 -- THEOREM. A value is in the format of a code exactly when some word of the code has it.
-pub one-fit : (code : ℕ) (v : ℤ) → isCode code ≡ true → Iff (inFormat (formatOf code) v ≡ true) (HasWord code v)
+pub one-fit : (code : ℕ) (v : ℤ) → isCode code ≡ true → Iff (inFormat (formatOf code) v ≡ true) (HasNumber code v)
 one-fit code v k = (has-word code v k, λ t. value-in-format (formatOf code) v (subst (Value (formatOf code)) (t .value) (word-in code (t .word) k (t .good))))

@@ -6,8 +6,8 @@ use lib.IntN.{ℤ}
 use Rattle.formats.specs.Value.{ibmValue, valueIn, isWord}
 use Rattle.formats.specs.Words.{isNormal}
 
--- Some word of the code has the value v.
-pub record HasWord (code : ℕ) (v : ℤ) : Type 0 where
+-- Some word of the code, as a number, has the value v.
+pub record HasNumber (code : ℕ) (v : ℤ) : Type 0 where
   pub word : ℕ
   pub good : isWord code word ≡ true
   pub value : valueIn code word ≡ v

@@ -13,7 +13,7 @@ use Rattle.numbers.specs.Walk.{pick}
 use Rattle.numbers.proofs.SignLaws.{below-or}
 use Rattle.numbers.specs.SignMagnitude.{signMagnitude, isNegative, isMultiple}
 use Rattle.numbers.proofs.BoolLaws.{and-true}
-use Rattle.formats.specs.Format.{unit, limit, fitsAt, leastServing, inFormat, placedAt, placed}
+use Rattle.formats.specs.Format.{Value, unit, limit, fitsAt, leastServing, inFormat, placedAt, placed}
 use Rattle.formats.specs.declared.Format.{Format}
 use Rattle.formats.specs.declared.Placed.the-variants.{At, Nowhere}
 use Rattle.numbers.proofs.FirstLaws.{Found, found, first-at}
@@ -41,16 +41,8 @@ module _ (x : Format) where
 
   -- ## The values of a format
 
-  pub record Value (v : ℤ) : Type 0 where
-    pub sign : Bool
-    pub c : ℕ
-    pub f : ℕ
-    pub below : c < x .characteristics
-    pub fits : f < limit x sign
-    pub is : v ≡ signMagnitude sign (f * unit x c)
-
   -- LAW. A value is in the format just when it is ± f × 2 ^ (b + r × c) for a characteristic and a fraction of the format.
-  pub in-format-value : (v : ℤ) → inFormat x v ≡ true → Value v
+  pub in-format-value : (v : ℤ) → inFormat x v ≡ true → Value x v
   in-format-value v e =
       let c = leastServing x v in
       let h : c < x .characteristics = ltb-true c (x .characteristics) e in
@@ -63,7 +55,7 @@ module _ (x : Format) where
       let l : r ≤ c = ⊎-elim (λ (p : c < r). absurd (subst T (sym e ∙ found (fitsAt x v) (x .characteristics) 0 .before c (omega arith) p) tt)) (λ (p : r ≤ c). p) (below-or c r) in
       lt-ltb r (x .characteristics) (omega arith)
 
-  pub value-in-format : (v : ℤ) → Value v → inFormat x v ≡ true
+  pub value-in-format : (v : ℤ) → Value x v → inFormat x v ≡ true
   value-in-format v t = fits-in-format v (t .c) (t .below) (rw (t .is) (serves-value (t .sign) (t .f) (t .c) (t .fits)))
 
   -- ## A value's place

@@ -1,22 +1,18 @@
 -- The format codes: which there are, the bytes of a sample under each, and the format of each.
 use Prim.Native.Nat.{ℕ, _+_, _-_, _*_, _^_}
-use mathlib.Core.Bool.{Bool, true, false, _||_}
+use mathlib.Core.Bool.{Bool, true, false}
 use mathlib.Core.List.{List, [], _∷_}
 use lib.Dec.{eqb}
-use Rattle.numbers.specs.Walk.{pick}
+use Rattle.numbers.specs.Walk.{pick, isAmong}
 use Rattle.formats.specs.declared.Format.{Format}
 
 -- The codes: 1 to 4 of document 01, and 5 and 8 of document 02 (CR 4).
 abbrev pub codes : List ℕ
 codes = 1 ∷ 2 ∷ 3 ∷ 4 ∷ 5 ∷ 8 ∷ []
 
--- A number is one of a list.
-abbrev pub among : ℕ → List ℕ → Bool
-among n [] = false
-among n (k ∷ l) = eqb n k || among n l
-
+-- A number is a code.
 abbrev pub isCode : ℕ → Bool
-isCode code = among code codes
+isCode code = isAmong code codes
 
 -- The bytes of a sample: code 3 has two, code 8 has one, the others have four.
 abbrev pub sampleBytes : ℕ → ℕ

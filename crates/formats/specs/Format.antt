@@ -1,13 +1,14 @@
 -- A sample format is five numbers, the struct `Format`: r bits to a digit, p bits to a fraction, m characteristics, the base power b, and
 -- whether it has one more number below zero. A value of it is V = ± f × 2 ^ (b + r × c), with a fraction f and a characteristic c of the
 -- format, over the denominator that all samples share.
-use Prim.Native.Nat.{ℕ, _+_, _*_, _/_, _^_}
+use Prim.Native.Nat.{ℕ, _+_, _*_, _/_, _^_, _<_}
+use mathlib.Core.Path.{_≡_}
 use mathlib.Core.Bool.{Bool, _&&_}
 use lib.Dec.{ltb}
 use lib.IntN.{ℤ, natAbs}
 use Rattle.numbers.specs.Walk.{pick}
 use Rattle.numbers.specs.First.{first}
-use Rattle.numbers.specs.SignMagnitude.{isNegative, isMultiple}
+use Rattle.numbers.specs.SignMagnitude.{signMagnitude, isNegative, isMultiple}
 use Rattle.formats.specs.declared.Format.{Format}
 use Rattle.formats.specs.declared.Placed.{Placed}
 use Rattle.formats.specs.declared.Placed.the-variants.{At, Nowhere}
@@ -39,3 +40,12 @@ placedAt x v c = pick (ltb c (x .characteristics)) (At c (natAbs v / unit x c)) 
 -- The least characteristic is taken: beside it stands the largest fraction.
 abbrev pub placed : Format → ℤ → Placed
 placed x v = placedAt x v (leastServing x v)
+
+-- The one statement of value: v is ± f × 2 ^ (b + r × c), with a characteristic c and a fraction f of the format.
+pub record Value (x : Format) (v : ℤ) : Type 0 where
+  pub sign : Bool
+  pub c : ℕ
+  pub f : ℕ
+  pub below : c < x .characteristics
+  pub fits : f < limit x sign
+  pub is : v ≡ signMagnitude sign (f * unit x c)

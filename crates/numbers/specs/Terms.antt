@@ -19,6 +19,11 @@ Bytes = All (λ b. b < 256)
 abbrev pub Between : ℕ → ℕ → ℕ → Type 0
 Between a b n = (a ≤ n) × (n ≤ b)
 
+-- n is one of these numbers.
+abbrev pub Among : ℕ → List ℕ → Type 0
+Among n [] = ⊥
+Among n (m ∷ ms) = (n ≡ m) ⊎ Among n ms
+
 -- n is 0 or m.
 abbrev pub ZeroOr : ℕ → ℕ → Type 0
 ZeroOr m n = (n ≡ 0) ⊎ (n ≡ m)

@@ -1,6 +1,6 @@
 -- What stands at regular offsets of a list, and a choice by a test.
 use Prim.Native.Nat.{ℕ, zero, suc, _+_}
-use mathlib.Core.Bool.{Bool, true, false}
+use mathlib.Core.Bool.{Bool, true, false, _||_}
 use mathlib.Core.List.{List, [], _∷_, _++_}
 use lib.ListN.{length, getD, take, drop}
 use lib.Dec.{eqb}
@@ -19,6 +19,11 @@ flat (l ∷ ls) = l ++ flat ls
 abbrev pub sum : List ℕ → ℕ
 sum [] = 0
 sum (n ∷ l) = n + sum l
+
+-- a number is one of a list
+abbrev pub isAmong : ℕ → List ℕ → Bool
+isAmong n [] = false
+isAmong n (k ∷ l) = eqb n k || isAmong n l
 
 -- the first of two where the test is true, the second where it is false
 abbrev pub pick : {A : Type 0} → Bool → A → A → A

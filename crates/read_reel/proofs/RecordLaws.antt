@@ -13,7 +13,8 @@ use Rattle.formats.specs.Codes.{sampleBytes, wordLength}
 use Rattle.formats.specs.Value.{exactValue}
 use Rattle.reel.specs.Layout.{cardBytes, firstTrace, traceHeader, samplesOf, intervalOf, codeOf, strideOf, tracesOf}
 use Rattle.reel.specs.Meaning.{cardText, binaryNumbers, traceNumber, headerOf, traceMeaning, meaningOf}
-use Rattle.record.specs.Record.{field, binaryBytes, valueBytes, samplesField, traceBytes, recordOf, reelRecord}
+use Rattle.record.specs.Record.{field, binaryBytes, samplesField, traceBytes, recordOf, reelRecord}
+use Rattle.value.specs.Pair.{valueBytes}
 use Rattle.record.specs.Form.{binarySize, codePlace}
 use Rattle.record.proofs.HeaderLaws.{size-cards}
 use Rattle.record.proofs.StoredLaws.{size-binary, code-stored}

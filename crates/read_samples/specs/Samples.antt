@@ -7,7 +7,7 @@ use lib.Dec.{leb, eqb}
 use Rattle.numbers.specs.Walk.{pick, walk, flat, bytesAt}
 use Rattle.formats.specs.Codes.{isCode, sampleBytes, wordLength}
 use Rattle.formats.specs.Value.{exactValue}
-use Rattle.value.specs.Pair.{pairOf, pairLength, pairBytes}
+use Rattle.value.specs.Pair.{pairLength, pairBytes, valueBytes}
 use Rattle.value.specs.declared.Pair.{Pair}
 
 -- A pair in its six bytes.
@@ -17,7 +17,7 @@ pairContent p = pairBytes (p .e) (p .m)
 -- The sample at a place: the pair of its word's exact value. For a word that 9 or 19 refuses, which a reel that is taken hasn't, it is what
 -- the same rule gives.
 abbrev pub sampleCopied : List ℕ → ℕ → ℕ → List ℕ
-sampleCopied s code p = pairContent (pairOf (exactValue code (bytesAt s p wordLength)))
+sampleCopied s code p = valueBytes (exactValue code (bytesAt s p wordLength))
 
 -- k places from `at` on, w bytes apart.
 abbrev pub places : ℕ → ℕ → ℕ → List ℕ

@@ -6,7 +6,7 @@ use lib.ListN.{length, take, drop}
 use lib.IntN.{ℤ, pos}
 use Rattle.numbers.specs.Walk.{flat}
 use Rattle.numbers.specs.BigEndian.{bytesOf}
-use Rattle.value.specs.Pair.{pairOf, pairLength, pairBytes}
+use Rattle.value.specs.Pair.{pairLength, valueBytes}
 use Rattle.reel.specs.Layout.{binaryWidths}
 use Rattle.reel.specs.Meaning.{Trace, Meaning, meaningOf}
 use Rattle.headers.specs.Header.{numberBytes, headerBytes}
@@ -22,10 +22,6 @@ withCode code zs = take 9 zs ++ (pos code ∷ drop 9 zs)
 -- The binary fields, with a format code. In a record it is replaced by 0.
 unfoldable pub binaryBytes : ℕ → List ℤ → List ℕ
 binaryBytes code zs = numberBytes binaryWidths (withCode code zs)
-
--- A sample: the six bytes of the canonical pair of its value.
-abbrev pub valueBytes : ℤ → List ℕ
-valueBytes v = pairBytes (pairOf v .e) (pairOf v .m)
 
 -- The samples of a trace as they stand in the record: one field with tag 04.
 unfoldable pub samplesField : List ℤ → List ℕ

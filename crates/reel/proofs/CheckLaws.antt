@@ -2,7 +2,7 @@
 use mathlib.Core.Path.{_≡_, refl, sym, ap, _∙_, subst}
 use mathlib.Core.List.{List}
 use mathlib.Core.Bool.{Bool, true, false, not, _&&_}
-use Prim.Native.Nat.{ℕ, zero, suc, _+_, _-_, _*_, _≤_}
+use Prim.Native.Nat.{ℕ, zero, suc, _+_, _-_, _*_, _≤_, _<_}
 use native.Mathlib.Nat.{mul-le-mul, div-mul-le-self}
 use native.Mathlib.Omega.{arith}
 use borrow.Author.Tests.{leb-true, ne-eqb, ltb-false, not-false}
@@ -14,12 +14,32 @@ use Rattle.numbers.specs.Places.{bytePlace}
 use Rattle.numbers.specs.declared.Check.the-variants.{Fine, Refused}
 use Rattle.numbers.proofs.CauseLaws.{then-assoc, passed, then-fine}
 use Rattle.formats.specs.Codes.{isCode, sampleBytes}
+use Rattle.formats.specs.Value.{isBad, wordNumber, exactValue}
+use Rattle.sample.specs.Reading.{badNumber, pairTaken, readWord}
+use Rattle.sample.specs.declared.Sample.the-variants as sample
+use Rattle.numbers.proofs.SignLaws.{below-or}
+use mathlib.Core.Logic.{⊎-elim}
 use Rattle.formats.proofs.CodeLaws.{width-high}
 use Rattle.reel.specs.Layout.{firstTrace, traceHeader, elevationScalar, coordinateScalar, number16, samplesOf, codeOf, intervalOf, stride, strideOf, overIn, tracesOf}
-use Rattle.reel.specs.Parts.{traceHeaderCauses}
+use Rattle.reel.specs.Parts.{wordRefused, traceHeaderCauses}
 use Rattle.reel.specs.Causes.{mostSamples, mostTraces, within, neither, limitCauses, sizeCauses, scalarCause, wordCause, traceCauses, behindCauses, causesOf}
 
 -- ## Rows
+
+-- codes 4 and 5 have words of four bytes
+pub four-bytes-long : (code : ℕ) → 4 ≤ code → code < 6 → (isCode code ≡ true) × (sampleBytes code ≡ 4)
+four-bytes-long code h l = ⊎-elim (λ (p : code < 5). at (let e : code ≡ 4 = omega arith in e) refl refl) (λ (p : 5 ≤ code). at (let e : code ≡ 5 = omega arith in e) refl refl) (below-or code 5)
+  where
+    at : {k : ℕ} → code ≡ k → isCode k ≡ true → sampleBytes k ≡ 4 → (isCode code ≡ true) × (sampleBytes code ≡ 4)
+    at e i b = (ap isCode e ∙ i, ap sampleBytes e ∙ b)
+
+-- a word's refusal under a code
+pub word-refused : (code : ℕ) (w : List ℕ) (at : ℕ) → isCode code ≡ true → wordRefused (readWord code w) at ≡ refuseIf (isBad code (wordNumber code w)) (badNumber code) at
+word-refused code w at h = rw h (go (isBad code (wordNumber code w)) (exactValue code w))
+  where
+    go : (b : Bool) (v : _) → wordRefused (pick b (sample.Refused (badNumber code)) (pairTaken v)) at ≡ refuseIf b (badNumber code) at
+    go true v = refl
+    go false v = refl
 
 -- under codes other than 4 and 5 no word is refused
 pub none-bad : (s : List ℕ) (code : ℕ) → (code ≡ 4 → ⊥) → (code ≡ 5 → ⊥) → (w k at : ℕ) → firstOf (walk (wordCause s code) w k at) ≡ Fine

@@ -10,10 +10,11 @@ ghost use Rattle.numbers.specs.Places.{placeNo, byteNo, bytePlace};
 ghost use Rattle.formats.specs.Codes.{isCode, sampleBytes};
 ghost use Rattle.reel.specs.Layout.{traceHeader, number16, stride};
 ghost use Rattle.reel.specs.Causes.{within, neither, limitCauses, sizeCauses, scalarCause, wordCause, traceCauses, behindCauses, causesOf, reelJudged};
-ghost use Rattle.reel.specs.Parts.{traceHeaderCauses};
+ghost use Rattle.reel.specs.Parts.{wordRefused, traceHeaderCauses};
 use numbers::ByteNo;
 use numbers::Check;
 use numbers::Place;
+use sample::Sample;
 
 // What checking a reel finds: its own numbers, where no cause applies, or the first cause. The numbers are the format code, N, the
 // interval, the bytes of a sample, the bytes from trace to trace, and T.
@@ -127,21 +128,31 @@ fn check_size(size: usize, w: usize, t: usize, over: usize) -> Check
     Check::Fine
 }
 
-// 9 and 19: the first of n words of four bytes from start on that has no value, which the first two tell.
+// The refusal of a word at a place.
+fn refused(word: Sample, at: usize) -> Check
+    ensures { λ r. ⌜ r ≡ wordRefused word at ⌝ }
+{
+    match word {
+        Sample::Taken { e: _, m: _ } => Check::Fine,
+        Sample::Refused { number } => Check::Refused {
+            number,
+            place: Place(at),
+        },
+    }
+}
+
+// 9 and 19: the first of n words from start on that is refused under code 4 or 5, which have words without a value.
 fn check_words(reel: &[u8], code: u32, n: usize, start: usize) -> Check
-    requires { ⌜ (sampleBytes code ≡ 4) × (start + n * 4 ≤ length (now reel)) ⌝ }
+    requires { ⌜ (4 ≤ code) × (code < 6) × (start + n * 4 ≤ length (now reel)) ⌝ }
     ensures { λ r. ⌜ r ≡ firstOf (walk (wordCause (now (reel .entry)) code) 4 n start) ⌝ }
 {
     let mut at = start;
     let mut left = n;
     while 0 < left {
-        let front = numbers::be16(reel[at], reel[at + 1]);
-        if sample::is_bad(code, front as u32 * 0x1_0000) {
-            return Check::Refused {
-                number: sample::bad_number(code),
-                place: Place(at),
-            };
-        }
+        let word = sample::read(code, [reel[at], reel[at + 1], reel[at + 2], reel[at + 3]]);
+        let Sample::Taken { e: _, m: _ } = word else {
+            return refused(word, at);
+        };
         at += 4;
         left -= 1;
     }

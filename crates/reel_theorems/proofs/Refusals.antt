@@ -19,18 +19,20 @@ use Rattle.numbers.specs.Places.{bytePlace}
 use Rattle.numbers.specs.declared.Check.{Check}
 use Rattle.numbers.specs.declared.Check.the-variants.{Fine, Refused}
 use Rattle.numbers.specs.Iff.{Iff}
-use Rattle.numbers.specs.Terms.{atPlace, Between, ZeroOr}
+use Rattle.numbers.specs.Terms.{Bytes, atPlace, Between, ZeroOr}
 use Rattle.numbers.proofs.RowLaws.{Tests, test-by, then-row, then-first, then-second, fine-then, refused-then, holds-then, row-then, no-row, test-between, test-either, test-room, not-enough, too-short, first-is, first-of, walk-fine, walk-holds, walk-refused, walk-row, fine-none}
 use Rattle.numbers.specs.BigEndian.{number}
 use Rattle.formats.specs.Codes.{isCode, sampleBytes, wordLength}
 use Rattle.formats.specs.Value.{isFinite, isBad, wordNumber}
 use Rattle.formats.proofs.CodeLaws.{word-there}
 use Rattle.sample.specs.Reading.{badNumber}
-use Rattle.numbers.proofs.BoolLaws.{or-true}
-use Rattle.scalars.specs.Scalar.{isAmong, isAllowed}
+use Rattle.numbers.proofs.BoolLaws.{among-is, is-among}
+use Rattle.numbers.proofs.ByteLaws.{byte-at}
+use Rattle.numbers.proofs.WalkLaws.{four-bytes}
+use Rattle.scalars.specs.Scalar.{isAllowed}
 use Rattle.reel.specs.Layout.{Field, elevationScalar, coordinateScalar, fieldNumber, firstTrace, traceHeader, number16, samplesOf, intervalOf, codeOf, strideOf, overIn, tracesOf}
 use Rattle.reel.specs.Causes.{mostSamples, mostTraces, mostInterval, within, neither, limitCauses, sizeCauses, scalarCause, wordCause, traceCauses, behindCauses, causesOf}
-use Rattle.reel_theorems.specs.ReelTable.{traceAt, sampleAt, wordAt, ZeroFirst, FiniteAt, HasValue, Headed, Whole, OwnNumbers, Among, Allowed, Passed, Until, ReelRow, short-reel, bad-code, bad-samples, bad-interval, left-over, many, bad-115, bad-117, bad-69, bad-71, bad-gain, not-finite}
+use Rattle.reel_theorems.specs.ReelTable.{traceAt, sampleAt, wordAt, ZeroFirst, FiniteAt, HasValue, Headed, Whole, OwnNumbers, Allowed, Passed, Until, ReelRow, short-reel, bad-code, bad-samples, bad-interval, left-over, many, bad-115, bad-117, bad-69, bad-71, bad-gain, not-finite}
 
 -- ## Headers and size
 
@@ -156,19 +158,16 @@ gain-valued s code at e h = record { zero = λ c. h; finite = λ c. absurd (let 
 ieee-valued : (s : List ℕ) (code at : ℕ) → code ≡ 5 → FiniteAt s at → Valued s code at
 ieee-valued s code at e h = record { zero = λ c. absurd (let z : _≡_ {A = ℕ} 5 4 = sym e ∙ c in omega arith); finite = λ c. h }
 
--- A number that is found in a list is one of its numbers, and the other way round.
-among-is : (n : ℕ) (ms : List ℕ) → isAmong n ms ≡ true → Among n ms
-among-is n [] e = absurd (subst T (sym e) tt)
-among-is n (m ∷ ms) e = go (λ x. among-is n ms x) (eqb n m) refl e
-  where
-    go : (isAmong n ms ≡ true → Among n ms) → (b : Bool) → eqb n m ≡ b → (b || isAmong n ms) ≡ true → (n ≡ m) ⊎ Among n ms
-    go rest true q e = inl (eqb-true n m q)
-    go rest false q e = inr (rest e)
+-- A gain word's first byte is 00 exactly where its number is below 2 ^ 24.
+front : (f g h l : ℕ) → g < 256 → h < 256 → l < 256 → Iff (number (f ∷ g ∷ h ∷ l ∷ []) < 2 ^ 24) (f ≡ 0)
+front f g h l a b c = (λ p. omega (arith, a, b, c, p), λ e. omega (arith, a, b, c, e))
 
-is-among : (n : ℕ) (ms : List ℕ) → Among n ms → isAmong n ms ≡ true
-is-among n [] h = absurd h
-is-among n (m ∷ ms) (inl e) = rw (eq-eqb n m e)
-is-among n (m ∷ ms) (inr h) = rw (is-among n ms h) (or-true (eqb n m))
+-- THEOREM. "first byte of a gain word not 00" (document 01): of a slice's bytes, the number of the word at a place is below 2 ^ 24 exactly when
+-- the first of its four bytes is 00.
+pub zero-first : (s : List ℕ) (at : ℕ) → Bytes s → Iff (ZeroFirst s at) (getD s at 0 ≡ 0)
+zero-first s at b =
+    let f = front (getD s at 0) (getD s (at + 1) 0) (getD s (at + 2) 0) (getD s (at + 3) 0) (byte-at s b (at + 1)) (byte-at s b (at + 2)) (byte-at s b (at + 3)) in
+    (λ p. f .0 (subst (λ (n : ℕ). n < 2 ^ 24) (ap number (four-bytes s at)) p), λ e. subst (λ (n : ℕ). n < 2 ^ 24) (sym (ap number (four-bytes s at))) (f .1 e))
 
 module _ (s : List ℕ) (k : ℕ) where
   -- The tests of 7, 8, 18, 9 and 19.

@@ -22,7 +22,7 @@ use Rattle.numbers.proofs.WalkLaws.{all-at, split, cons-eq, flat-size, flat-inj
 use Rattle.numbers.proofs.ByteLaws.{bytes-at, number-at}
 use Rattle.numbers.proofs.SignLaws.{bits-signed}
 use Rattle.formats.specs.Value.{exactValue}
-use Rattle.value.specs.Pair.{pairOf, valueOf, isCanonical, pairIn}
+use Rattle.value.specs.Pair.{pairOf, valueOf, isCanonical, pairIn, valueBytes}
 use Rattle.sample_theorems.proofs.Pairs.{pair-value, bytes-pair, value-canonical}
 use Rattle.reel.specs.Layout.{fieldsFrom, binaryWidths, binaryFields, traceWidths, traceFields, fieldNumber, firstTrace, traceHeader, samplesOf, intervalOf, codeOf, strideOf, tracesOf}
 use Rattle.formats.specs.Codes.{isCode, sampleBytes, wordLength}
@@ -34,7 +34,7 @@ use Rattle.headers.proofs.TraceLaws.{trace-front, trace-back, trace-widths, tra
 use Rattle.headers.proofs.Ranges.{Fit, Some, allSome, some-of, fit-append, size-numbers, numbers-inj, number-fits, fields-fit}
 use Rattle.headers.proofs.Listed.{header-listed}
 use Rattle.headers.proofs.HeaderBytes.{HeaderFits, listed-fits, header-size, bytes-only}
-use Rattle.record.specs.Record.{field, withCode, binaryBytes, valueBytes, samplesField, traceBytes, recordOf, reelRecord, recordLength}
+use Rattle.record.specs.Record.{field, withCode, binaryBytes, samplesField, traceBytes, recordOf, reelRecord, recordLength}
 use Rattle.record.proofs.HeaderLaws.{binary-front, binary-back, binary-widths, binary-numbers, with-code, counts, size-cards}
 
 -- ## Fields

@@ -3,11 +3,10 @@
 -- the order sets, it applies only where no row before it does.
 use mathlib.Core.Path.{_≡_}
 use mathlib.Core.List.{List, [], _∷_}
-use mathlib.Core.Logic.{_⊎_}
 use Prim.Native.Nat.{ℕ, _+_, _*_, _^_, _≤_, _<_}
 use lib.ListN.{length}
 use Rattle.numbers.specs.Places.{bytePlace}
-use Rattle.numbers.specs.Terms.{Between, ZeroOr}
+use Rattle.numbers.specs.Terms.{Among, Between, ZeroOr}
 use lib.IntN.{natAbs}
 use Rattle.reel.specs.Layout.{Field, elevationScalar, coordinateScalar, fieldNumber, number16, samplesOf, intervalOf, codeOf, strideOf, tracesOf}
 use Rattle.formats.specs.Codes.{isCode, sampleBytes}
@@ -55,11 +54,6 @@ pub record Whole (s : List ℕ) : Type 0 where
 pub record OwnNumbers (s : List ℕ) (k : ℕ) : Type 0 where
   pub count : ZeroOr (samplesOf s) (number16 s (bytePlace (traceAt s k) 115))
   pub interval : ZeroOr (intervalOf s) (number16 s (bytePlace (traceAt s k) 117))
-
--- n is one of these numbers.
-abbrev pub Among : ℕ → List ℕ → Type 0
-Among n [] = ⊥
-Among n (m ∷ ms) = (n ≡ m) ⊎ Among n ms
 
 -- The scalar in a field of trace k, 69 or 71, is allowed: 0, 1, -1, or plus or minus 10, 100, 1,000 or 10,000.
 abbrev pub Allowed : List ℕ → ℕ → Field → Type 0

@@ -188,7 +188,7 @@ pub fn gain_number(g: u8, d: u16) -> Pair
 
 // Whether a word of four bytes has no value under a code: under code 4 its first byte isn't 00, under code 5 it is an infinity or a
 // not-a-number, whose exponent is all ones. The tests are not of equality, which the compiler would make a switch of.
-pub fn is_bad(code: u32, n: u32) -> bool
+fn is_bad(code: u32, n: u32) -> bool
     ensures { λ r. ⌜ r ≡ isBad code n ⌝ }
 {
     if code < 4 {
@@ -204,7 +204,7 @@ pub fn is_bad(code: u32, n: u32) -> bool
 }
 
 // The number of the refusal of a word without a value.
-pub fn bad_number(code: u32) -> u8
+fn bad_number(code: u32) -> u8
     ensures { λ r. ⌜ r ≡ badNumber code ⌝ }
 {
     if code == 4 { BAD_GAIN } else { NOT_FINITE }

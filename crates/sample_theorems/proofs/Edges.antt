@@ -13,7 +13,7 @@ use Rattle.formats.specs.Words.{isNormal}
 use Rattle.value.specs.Writing.{writePair}
 use Rattle.formats.specs.declared.Written.the-variants.{Word, Refused}
 use Rattle.sample.specs.Reading.{notNormal}
-use Rattle.sample_theorems.specs.Starred.{Starred, NewCodes, beyond}
+use Rattle.sample_theorems.specs.Starred.{Starred, IeeeAndByte, beyond}
 
 -- THEOREM. The starred lines, as a group.
 pub starred : Starred
@@ -37,9 +37,9 @@ unfolding first
 least-gain = (refl, refl)
 
 -- THEOREM. The edges of codes 5 and 8.
-pub new-codes : NewCodes
+pub ieee-and-byte : IeeeAndByte
 unfolding bytesAt twosIn twos oddPart first
-new-codes =
+ieee-and-byte =
     record {
       least = (refl, refl);
       subnormal = (refl, refl);
@@ -48,6 +48,7 @@ new-codes =
       zeros = (refl, refl);
       beyond-ends = (refl, refl);
       bytes = (refl, refl, refl);
+      no-codes = (refl, refl, refl);
       first-byte = (refl, refl, refl);
     }
 

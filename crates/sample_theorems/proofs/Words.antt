@@ -25,7 +25,7 @@ use Rattle.formats.specs.Value.{characteristic, ibmValue, wholeValue, gainValue
 use Rattle.formats.specs.Words.{ibmWord, wordOf, firstDigit, isNormal, Writes}
 use Rattle.formats.specs.declared.Written.the-variants.{Word}
 use Rattle.formats.proofs.CodeLaws.{Code, ibm, whole32, whole16, gain, ieee, whole8, code-is}
-use Rattle.format_theorems.specs.Statements.{HasWord}
+use Rattle.format_theorems.specs.Statements.{HasNumber}
 use Rattle.format_theorems.proofs.OneFit.{one-fit}
 use Rattle.format_theorems.proofs.NormalWords.{normal-means, normal-again, normal-written, normal-same}
 use Rattle.format_theorems.proofs.IeeeWords.{ieee-only, ieee-minus-zero}
@@ -116,7 +116,7 @@ writing-fits code p h c =
     (λ w. f .1 (w .0, written-is code p (w .0) (w .1) .2), λ e. rw (h, c) (f .0 e))
 
 -- THEOREM. exactly when some word of the code has it;
-pub writing-worded : (code : ℕ) (p : Pair) → isCode code ≡ true → isCanonical p ≡ true → Iff (Writes (writePair code p)) (HasWord code (valueOf p))
+pub writing-worded : (code : ℕ) (p : Pair) → isCode code ≡ true → isCanonical p ≡ true → Iff (Writes (writePair code p)) (HasNumber code (valueOf p))
 writing-worded code p h c =
     let f = writing-fits code p h c in
     let o = one-fit code (valueOf p) h in

@@ -65,7 +65,7 @@ abbrev pub byte : ℕ → Sample
 byte a = readWord 8 (a ∷ 0 ∷ 0 ∷ 0 ∷ [])
 
 -- The ends of both formats, and what has no value.
-pub record NewCodes : Type 0 where
+pub record IeeeAndByte : Type 0 where
   -- 00000001, the least subnormal number: e -149, m 1, and written again
   pub least : (ieee 0 0 0 1 ≡ Taken (negsuc 148) (pos 1)) × (writePair 5 (record { e = negsuc 148; m = pos 1 }) ≡ Word 0x0000_0001)
   -- 807FFFFF, the largest subnormal number, negated: e -149, m -8,388,607, and written again
@@ -83,3 +83,5 @@ pub record NewCodes : Type 0 where
       × (pairOutcome 8 (0 ∷ 0 ∷ 0xFF ∷ 0xFF ∷ 0xFF ∷ 0xFF ∷ []) ≡ record { said = taken []; bytes = 0xFF ∷ 0 ∷ 0 ∷ 0 ∷ [] })
   -- its other bytes are ignored; 128 to code 8: number 14, -128: 80
   pub first-byte : (readWord 8 (0x7F ∷ 1 ∷ 2 ∷ 3 ∷ []) ≡ Taken (pos 0) (pos 127)) × (wholeTo 8 (pos 128) ≡ Refused 14) × (wholeTo 8 (negℤ (pos 128)) ≡ Word 0x80)
+  -- codes 6 and 7, which are none: number 2, and 11
+  pub no-codes : (readWord 6 (0 ∷ 0 ∷ 0 ∷ 0 ∷ []) ≡ sample.Refused 2) × (readWord 7 (0 ∷ 0 ∷ 0 ∷ 0 ∷ []) ≡ sample.Refused 2) × (writePair 6 (record { e = pos 0; m = pos 0 }) ≡ Refused 11)

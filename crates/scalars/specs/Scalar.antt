@@ -5,17 +5,12 @@ use mathlib.Core.Bool.{Bool, true, false, _&&_, _||_}
 use mathlib.Core.List.{List, [], _∷_, map}
 use lib.Dec.{ltb, eqb}
 use lib.IntN.{ℤ, pos, negsuc, negℤ, natAbs, _*ℤ_}
-use Rattle.numbers.specs.Walk.{pick}
+use Rattle.numbers.specs.Walk.{pick, isAmong}
 use Rattle.numbers.specs.First.{first}
 use Rattle.numbers.specs.SignMagnitude.{numberOf, holds}
 use Rattle.scalars.specs.declared.Scale.{Scale}
 
 -- ## Scalars and powers
-
--- n is one of these numbers.
-abbrev pub isAmong : ℕ → List ℕ → Bool
-isAmong n [] = false
-isAmong n (m ∷ ms) = eqb n m || isAmong n ms
 
 -- "Allowed are 0, 1, -1, and plus or minus 10, 100, 1,000 and 10,000."
 abbrev pub isAllowed : ℤ → Bool

@@ -40,10 +40,6 @@ pair-at s o t e = rw (pair-of s (o * 2 ^ t) (lt-of-le-of-lt (zero≤ t) (below-s
     zero≤ : (t : ℕ) → 0 ≤ t
     zero≤ t = omega arith
 
-pub sixteens : (c : ℕ) → 2 ^ (c * 4) ≡ 16 ^ c
-sixteens zero = refl
-sixteens (suc c) = rw (suc-mul c 4, pow-add 2 (c * 4) 4, sixteens c, pow-suc 16 c)
-
 -- the value of the pair of a value is the value again, so no two values have one pair
 
 pub sub-add : (t d : ℕ) → subℕ t d +ℤ pos d ≡ pos t

@@ -64,6 +64,10 @@ pairLength = 2 + mantissaBits / 8
 abbrev pub pairBytes : ℤ → ℤ → List ℕ
 pairBytes e m = bytesOf 2 (bitsOf 16 e) ++ bytesOf (mantissaBits / 8) (bitsOf mantissaBits m)
 
+-- A value in the six bytes of its canonical pair.
+abbrev pub valueBytes : ℤ → List ℕ
+valueBytes v = pairBytes (pairOf v .e) (pairOf v .m)
+
 -- The pair of the bits of e and m, both in two's complement.
 abbrev pub pairOfBits : ℕ → ℕ → Pair
 pairOfBits e m = record { e = signedOf 16 e; m = signedOf mantissaBits m }

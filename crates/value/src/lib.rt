@@ -265,6 +265,44 @@ impl Pair {
             Parts::Odd { neg: _, o: _, k: _ } => true,
         }
     }
+
+    // To each code's word: the normal word, the number itself of 32 and of 16 bits, the word of the smallest gain, the IEEE word, and the
+    // number itself of 8 bits.
+    pub fn ibm_word(self) -> Written
+        ensures { λ r. ⌜ r ≡ writePair 1 self ⌝ }
+    {
+        word(1, self)
+    }
+
+    pub fn whole32_word(self) -> Written
+        ensures { λ r. ⌜ r ≡ writePair 2 self ⌝ }
+    {
+        word(2, self)
+    }
+
+    pub fn whole16_word(self) -> Written
+        ensures { λ r. ⌜ r ≡ writePair 3 self ⌝ }
+    {
+        word(3, self)
+    }
+
+    pub fn gain_word(self) -> Written
+        ensures { λ r. ⌜ r ≡ writePair 4 self ⌝ }
+    {
+        word(4, self)
+    }
+
+    pub fn ieee_word(self) -> Written
+        ensures { λ r. ⌜ r ≡ writePair 5 self ⌝ }
+    {
+        word(5, self)
+    }
+
+    pub fn whole8_word(self) -> Written
+        ensures { λ r. ⌜ r ≡ writePair 8 self ⌝ }
+    {
+        word(8, self)
+    }
 }
 
 // The word of V = ± o × 2^k under a code, for an odd o.

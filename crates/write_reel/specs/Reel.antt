@@ -13,7 +13,7 @@ use Rattle.headers.specs.Header.{headerBytes, headerSize}
 use Rattle.record.specs.Record.{binaryBytes}
 use Rattle.record.specs.Form.{binarySize}
 
--- A sample under a code: the bytes of its value's word, of which code 3 has the first two.
+-- A sample under a code: the bytes of its value's word.
 abbrev pub sampleWritten : ℕ → ℤ → List ℕ
 sampleWritten code v = wordBytes code (wordOf code v)
 

@@ -55,20 +55,20 @@ fn word_of(code: u32, p: Pair) -> Written
 {
     if code < 4 {
         if code < 2 {
-            return value::write(1, p);
+            return p.ibm_word();
         }
         if code < 3 {
-            return value::write(2, p);
+            return p.whole32_word();
         }
-        return value::write(3, p);
+        return p.whole16_word();
     }
     if code < 5 {
-        return value::write(4, p);
+        return p.gain_word();
     }
     if code < 6 {
-        return value::write(5, p);
+        return p.ieee_word();
     }
-    value::write(8, p)
+    p.whole8_word()
 }
 
 // The first of n pairs from start on that is refused by 13 or 14 under a code. The bits of a pair are fetched a turn early: the compiler then

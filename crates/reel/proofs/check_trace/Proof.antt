@@ -1,5 +1,5 @@
 -- `reel::check_trace` meets its contract. Assumes nothing.
-use Rattle.reel.proofs.CheckLaws.{trace-parts, none-bad}
+use Rattle.reel.proofs.CheckLaws.{four-bytes-long, trace-parts, none-bad}
 use Rattle.reel.specs.Causes.{wordCause, traceCauses}
 use Rattle.reel.specs.Layout.{traceHeader}
 use Rattle.formats.specs.Codes.{sampleBytes}
@@ -9,7 +9,6 @@ use Rattle.numbers.specs.declared.Check.the-variants.{Fine}
 use Rattle.numbers.specs.Cause.{firstOf}
 use Rattle.numbers.specs.Walk.{walk}
 use Prim.Native.Nat.{ℕ, _+_, _≤_, _<_}
-use borrow.Author.Tests.{ne-eqb}
 use mathlib.Core.Path.{_≡_, sym, ap, subst, _∙_}
 use native.Mathlib.Omega.{arith}
 use borrow.Author.Needs.{needs}
@@ -34,22 +33,18 @@ none c h l =
 returns-2 : tie.Need-returns-2
 returns-2 c = none (c .before) (λ e. omega (arith, c .if1 .taken, e)) (λ e. omega (arith, c .if1 .taken, e))
 
--- codes 4 and 5 have words of four bytes
-four : (code : ℕ) → 4 ≤ code → code < 6 → sampleBytes code ≡ 4
-four code h l = rw (ne-eqb code 3 (λ e. omega (arith, h, e)), ne-eqb code 8 (λ e. omega (arith, l, e)))
-
 check-words-requires : tie.Need-check-words-requires
 check-words-requires c κs =
     let s = c .before .before .before .before .before .before in
-    let w = four (s .args .code) (c .before .if1 .left) (c .if2 .taken) in
+    let w = four-bytes-long (s .args .code) (c .before .if1 .left) (c .if2 .taken) .1 in
     let room = rw (s .pre .0 ∙ w) at (s .pre .1) in
-    (w, omega arith)
+    (c .before .if1 .left, c .if2 .taken, omega arith)
 
 returns-3 : tie.Need-returns-3
 returns-3 c =
     let b = c .before .before .before in
     let t = b .before .before .before .before .args in
-    let w = four (t .code) (c .before .before .if1 .left) (c .before .if2 .taken) in
+    let w = four-bytes-long (t .code) (c .before .before .if1 .left) (c .before .if2 .taken) .1 in
     c .check-words .ensures ∙ ap (λ (k : ℕ). firstOf (walk (wordCause (t .reel .now) (t .code)) k (t .n) (t .at + traceHeader))) (sym w)
     ∙ then-next _ _ (fine b) ∙ sym (trace-parts (t .reel .now) (t .code) (t .n) (t .i) (t .at))
 

@@ -5,7 +5,7 @@ use mathlib.Core.Bool.{true, false}
 use mathlib.Core.List.{[], _∷_}
 use Prim.Native.Nat.{ℕ, zero, suc, _<_, _≤_}
 use types.Run.{OneOf}
-use Rattle.scalars.specs.Scalar.{isAmong}
+use Rattle.numbers.specs.Walk.{isAmong}
 use native.Mathlib.Omega.{arith}
 use borrow.Author.Needs.{needs}
 use borrow.Author.Tests.{ne-eqb}

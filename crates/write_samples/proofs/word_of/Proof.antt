@@ -14,24 +14,24 @@ by k s h q = h ∙ ap (λ (j : ℕ). writePair j (s .args .p)) q
 returns : tie.Need-returns
 returns c =
     let b = c .before .before .before in
-    by 1 b (c .write .ensures) (omega (arith, code-limits (b .args .code) (b .pre) .0, c .before .if2 .taken))
+    by 1 b (c .ibm-word .ensures) (omega (arith, code-limits (b .args .code) (b .pre) .0, c .before .if2 .taken))
 
 returns-2 : tie.Need-returns-2
-returns-2 c = by 2 (c .before .before .before .before) (c .write2 .ensures) (omega (arith, c .before .if3 .taken, c .before .before .if2 .left))
+returns-2 c = by 2 (c .before .before .before .before) (c .whole32-word .ensures) (omega (arith, c .before .if3 .taken, c .before .before .if2 .left))
 
 returns-3 : tie.Need-returns-3
-returns-3 c = by 3 (c .before .before .before .before) (c .write3 .ensures) (omega (arith, c .before .if3 .left, c .before .before .before .if1 .taken))
+returns-3 c = by 3 (c .before .before .before .before) (c .whole16-word .ensures) (omega (arith, c .before .if3 .left, c .before .before .before .if1 .taken))
 
 returns-4 : tie.Need-returns-4
-returns-4 c = by 4 (c .before .before .before) (c .write4 .ensures) (omega (arith, c .before .if4 .taken, c .before .before .if1 .left))
+returns-4 c = by 4 (c .before .before .before) (c .gain-word .ensures) (omega (arith, c .before .if4 .taken, c .before .before .if1 .left))
 
 returns-5 : tie.Need-returns-5
-returns-5 c = by 5 (c .before .before .before .before) (c .write5 .ensures) (omega (arith, c .before .if5 .taken, c .before .before .if4 .left))
+returns-5 c = by 5 (c .before .before .before .before) (c .ieee-word .ensures) (omega (arith, c .before .if5 .taken, c .before .before .if4 .left))
 
 returns-6 : tie.Need-returns-6
 returns-6 c =
     let b = c .before .before .before .before in
-    by 8 b (c .write6 .ensures) (code-limits (b .args .code) (b .pre) .1 (omega (arith, c .before .if5 .left)))
+    by 8 b (c .whole8-word .ensures) (code-limits (b .args .code) (b .pre) .1 (omega (arith, c .before .if5 .left)))
 
 pub word-of-spec : {M : Type 1} → statement M
 word-of-spec =
