@@ -21,7 +21,7 @@
 --   this line is tested, not proved.
 --
 -- The rows of each call are in `specs/Tables`, those of 1 to 9, 18 and 19 in `ReelTable` of `reel_theorems`; 18, and 13 at a scalar, are set by
--- document 02 (CR 2). Over each theorem stands the clause that it answers, in the user's words; where it is a sentence of document 01, that is said. Beside each, here and in the files on the other
+-- document 02 (CR 2), and so is 19 (CR 4). Over each theorem stands the clause that it answers, in the user's words; where it is a sentence of document 01, that is said. Beside each, here and in the files on the other
 -- demands, stands what it rules out of document 01's list: the six wrong programs of "Agreement between the parties", and the six "Mistakes
 -- to rule out".
 use mathlib.Core.Path.{_≡_, refl, sym, ap, _∙_, subst}
@@ -117,7 +117,7 @@ module _ (s out : List ℕ) where
   -- THEOREM. "each refusal has the number and place that document 01 sets, and is given in just the cases set there": reading is refused
   -- exactly when a row applies, by its number and place.
   -- Rules out a reader that declines every reel, and one that says output too short before working out the length: 10 needs that no row of 1
-  -- to 9 and 18 applies and that the output is shorter than the record, and has the record's length beside it.
+  -- to 9, 18 and 19 applies and that the output is shorter than the record, and has the record's length beside it.
   pub read-refused : (number place : ℕ) → Iff (readOutcome s out .said ≡ refused number place) (ReadRow s (length out) number place)
   read-refused = refused-by readSays (readNumbers s) refl (λ n p. refl) (ReadRow s (length out)) readChecks (read-exact s (length out))
 

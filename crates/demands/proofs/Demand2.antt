@@ -78,7 +78,7 @@ reading s out t n l c b e =
 -- ## A record becomes a reel
 
 -- THEOREM. "A valid record is written as a reel in any of the four sample formats whenever that format holds every sample exactly and the
--- output is long enough"; and in no other case.
+-- output is long enough" (they are six since CR 4); and in no other case.
 -- Rules out a writer that declines every record, one that says output too short before working out the length (the rest of that is
 -- `write-refused`), and one whose T or length is invented.
 pub writing : (r : List ℕ) (code : ℕ) (out : List ℕ) → Bytes r → formCauses r ≡ Fine
@@ -95,7 +95,7 @@ writing r code out b v = (
 )
 
 -- THEOREM. "A valid record is written as a reel": what is written is the reel of what the record holds, under code 1 each sample by its
--- normal word (`writing-normal`), under code 4 with the smallest gain (`writing-least`), unassigned bytes 0.
+-- normal word (`writing-normal`), under code 4 with the smallest gain (`writing-least`), under code 5 zero as 00000000 (`writing-ieee`), unassigned bytes 0.
 -- Rules out a writer that writes nothing and says taken, one that converts the first trace and copies it for the rest, and one whose T or
 -- length is invented; normalising by single bits, pushing C below 0, and shifting up for a negative e.
 pub written : (r : List ℕ) (code : ℕ) (out : List ℕ) (t n l : ℕ) → writeOutcome r code out .said ≡ taken (t ∷ n ∷ l ∷ [])

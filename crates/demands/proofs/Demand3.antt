@@ -25,7 +25,7 @@
 --   as the first reel and has the same record; and reading it into an output long enough is taken with the same T, N and length and the count 0, and gives
 --   that record.
 -- - `written-in-each-code`: so that `reel-again` is no empty promise, the record of a reel whose reading is taken is written under every
---   code of 1 to 4 that has a word for each of the reel's sample values, into every output that is long enough.
+--   code that has a word for each of the reel's sample values, into every output that is long enough.
 -- - `own-code`: the reel's own code is one of those, and under it a reel of the same length is written.
 --
 -- Each byte of a reel is below 256; nothing else is assumed.

@@ -10,7 +10,7 @@
 -- - `words-back`: it is 0 exactly when writing the reel's record under code 1 gives its words back, each as it was; `counts-changed`: it is
 --   the number of those that don't come back so.
 --
--- What normal is, `isNormal` in `Writing` of `value`, is spelled out by `normal-is`; that reading one word gives 1 exactly for a word other than
+-- What normal is, `isNormal` in `Words` of `formats`, is spelled out by `normal-is`; that reading one word gives 1 exactly for a word other than
 -- the normal word of its value, by `normal-0` and `other-1` (both in `sample_theorems`). Each byte of a reel is below 256; nothing else is
 -- assumed, but where a statement says so.
 use mathlib.Core.Path.{_≡_, refl, sym, ap, ap₂, _∙_, subst}

@@ -11,7 +11,7 @@ use Rattle.numbers.specs.Outcome.{taken}
 use Rattle.numbers.specs.Terms.{All, Bytes}
 use Rattle.numbers.specs.declared.ByteNo.{ByteNo}
 use Rattle.numbers.specs.declared.Check.the-variants.{Fine}
-use Rattle.formats.specs.Codes.{isCode, sampleBytes}
+use Rattle.formats.specs.Codes.{isCode, sampleBytes, wordLength}
 use Rattle.formats.specs.Value.{exactValue}
 use Rattle.scalars.specs.Scalar.{powerOf}
 use Rattle.reel.specs.Layout.{Field, cardBytes, binaryFields, elevationScalar, coordinateScalar, fieldNumber, samplesOf, codeOf, tracesOf}
@@ -55,9 +55,9 @@ pub record RecordHolds (s : List ℕ) (t n : ℕ) (r : List ℕ) : Type 0 where
   pub traces : heldCount r (heldSamples r) ≡ t
   pub samples : heldSamples r ≡ n
 
--- The exact value V, over 16^70, of sample j of trace k, both counted from 0, by the four bytes where it stands.
+-- The exact value V, over 16^70, of sample j of trace k, both counted from 0, by the bytes from its place on.
 abbrev pub sampleValue : List ℕ → ℕ → ℕ → ℤ
-sampleValue s k j = exactValue (codeOf s) (bytesAt s (sampleAt s k j) 4)
+sampleValue s k j = exactValue (codeOf s) (bytesAt s (sampleAt s k j) wordLength)
 
 -- The scaled value, over 10,000, of a field of trace k, counted from 0, under the scalar in another field: by the bare numbers that looking
 -- up gives (header k + 1 is that of trace k).
@@ -133,7 +133,7 @@ pub record ReelAgain (s : List ℕ) (t n l : ℕ) (r : List ℕ) (code t₂ n₂
 
 -- What the reel s, whose reading returned t, n, l and a count and gave the record r, has under its own code.
 pub record OwnCode (s : List ℕ) (t n : ℕ) (r : List ℕ) : Type 0 where
-  -- The code is one of the four, and each sample value has a word under it.
+  -- The code is one of the codes, and each sample value has a word under it.
   pub code-is : isCode (codeOf s) ≡ true
   pub words : Worded (codeOf s) (meaningOf s .traces)
   -- The record is written under it into any output with room for the reel, as a reel of the same length.

@@ -120,7 +120,7 @@ module _ (s : List ℕ) (n : ℕ) where
 
 -- ## The whole record
 
--- the causes 11 to 14, where the target code is one of the four and the first two fields are right
+-- the causes 11 to 14, where the target code is one of the codes and the first two fields are right
 pub target-is : (s : List ℕ) (code : ℕ) → isCode code ≡ true → then (cardsCauses s) (binaryCauses s) ≡ Fine
     → targetCauses s code ≡ then (formFrom s (heldSamples s) (heldInterval s) mostTraces 0 tracesPlace) (fitFrom s code (heldSamples s) mostTraces tracesPlace)
 unfolding targetCauses fitCauses fitFrom

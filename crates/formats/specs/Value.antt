@@ -25,7 +25,7 @@ characteristic n = n / 2 ^ 24 % 128
 abbrev pub fraction : ℕ → ℕ
 fraction n = n % 2 ^ 24
 
--- F / 2 ^ 24 × 16 ^ (C - 64), negated when S is 1.
+-- Document 01's V = F × 16 ^ C, that is F / 2 ^ 24 × 16 ^ (C - 64), negated when S is 1.
 abbrev pub ibmValue : ℕ → ℤ
 ibmValue n = signMagnitude (signBit n) (fraction n * 2 ^ (denominatorPower - (4 * 64 + 24) + 4 * characteristic n))
 
@@ -35,7 +35,7 @@ ibmValue n = signMagnitude (signBit n) (fraction n * 2 ^ (denominatorPower - (4 
 abbrev pub wholeValue : ℤ → ℤ
 wholeValue n = n *ℤ pos (2 ^ denominatorPower)
 
--- d / 2 ^ g.
+-- Document 01's V = d × 2 ^ (280 - g), that is d / 2 ^ g.
 abbrev pub gainValue : ℕ → ℤ → ℤ
 gainValue g d = d *ℤ pos (2 ^ (denominatorPower - g))
 

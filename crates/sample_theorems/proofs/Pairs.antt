@@ -128,7 +128,7 @@ pair-bytes b n h =
 
 -- ## Reading
 
--- a number of at most 2 ^ 31 times a power of two that stays below 2 ^ 532 has a canonical pair
+-- a number within the mantissa's limit times a power of two that stays within the highest exponent has a canonical pair
 exponent-in : (t : ℕ) → t ≤ highest → isExponent (subℕ t denominatorPower) ≡ true
 exponent-in t h =
     ⊎-elim (λ (l : t < denominatorPower). rw (sub-below t denominatorPower l, le-leb (denominatorPower - suc t) (denominatorPower - 1) (omega arith)))

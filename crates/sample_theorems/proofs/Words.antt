@@ -210,17 +210,20 @@ pub writing-least : (p : Pair) (n g d : ℕ) → writePair 4 p ≡ Word n → d 
 writing-least p n g d h b e =
     ⊎-elim (λ (l : g < 256). gain-least (valueOf p) n (written-is 4 p n h .2) g d l b e) (λ (l : 256 ≤ g). let k : gainOf n < 256 = omega arith in omega (arith, k)) (below-or g 256)
 
--- THEOREM. Codes 2, 3 and 8: no other number of 32, 16 or 8 bits has the value of the word that is written: it is the number itself,
+-- THEOREM. Codes 2, 3 and 8: no other number of 32, 16 or 8 bits has the value of the word that is written: it is the number itself, so under
+-- code 2,
 pub writing-32 : (p : Pair) (n k : ℕ) → writePair 2 p ≡ Word n → k < 2 ^ 32 → wholeValue (signedOf 32 k) ≡ valueOf p → k ≡ n
 writing-32 p n k h b e = whole-only 32 (valueOf p) n k (omega arith) (written-is 2 p n h .2) b e
 
+-- THEOREM. so under code 3,
 pub writing-16 : (p : Pair) (n k : ℕ) → writePair 3 p ≡ Word n → k < 2 ^ 16 → wholeValue (signedOf 16 k) ≡ valueOf p → k ≡ n
 writing-16 p n k h b e = whole-only 16 (valueOf p) n k (omega arith) (written-is 3 p n h .2) b e
 
+-- THEOREM. and under code 8;
 pub writing-8 : (p : Pair) (n k : ℕ) → writePair 8 p ≡ Word n → k < 2 ^ 8 → wholeValue (signedOf 8 k) ≡ valueOf p → k ≡ n
 writing-8 p n k h b e = whole-only 8 (valueOf p) n k (omega arith) (written-is 8 p n h .2) b e
 
--- THEOREM. and of code 3's word it is the first two bytes, of code 8's the first, the rest 00.
+-- THEOREM. of code 3's word it is the first two bytes, of code 8's the first, the rest 00.
 pub first-bytes : (n : ℕ) → (singleWord 3 n ≡ bytesOf 2 n ++ (0 ∷ 0 ∷ [])) × (singleWord 8 n ≡ bytesOf 1 n ++ (0 ∷ 0 ∷ 0 ∷ []))
 first-bytes n = (refl, refl)
 

@@ -42,8 +42,8 @@ shifted (negsuc n) h =
     (denominatorPower - suc n, record { is = sub-above denominatorPower (suc n) (omega arith); low = omega arith })
 
 -- the mantissa of its bits, and an exponent that is 0
-pub is-mantissa : (n : ℕ) (m : ℤ) → mag m < 2 ^ 31 → n ≡ bitsOf 32 m → signedOf 32 n ≡ m
-is-mantissa n m f e = rw e (signed-bits 32 m (omega arith) f)
+pub is-mantissa : (n : ℕ) (m : ℤ) → mag m < 2 ^ (mantissaBits - 1) → n ≡ bitsOf mantissaBits m → signedOf mantissaBits n ≡ m
+is-mantissa n m f e = rw e (signed-bits mantissaBits m (omega arith) f)
 
 pub zero-bits : (e : ℤ) → mag e < 2 ^ 15 → bitsOf 16 e ≡ 0 → natAbs e ≡ 0
 zero-bits (pos n) f h = h
@@ -77,18 +77,18 @@ module _ (p : Pair) where
   zero-value h = ap (λ (z : ℤ). z *ℤ pos (2 ^ natAbs (p .e +ℤ pos denominatorPower))) (abs-zero (p .m) h) ∙ ap pos (omega arith)
 
   -- a canonical pair other than zero, by the bits of its mantissa and e + 280
-  pub apart : (n k : ℕ) → mag (p .m) < 2 ^ 31 → n ≡ bitsOf 32 (p .m) → isExponent (p .e) ≡ true → k ≡ natAbs (p .e +ℤ pos denominatorPower) → k ≤ highest
-      → natAbs (p .m) % 2 ≡ 1 → natAbs (p .m) ≤ 2 ^ 31 → (isCanonical p ≡ true) × Apart p (leb (2 ^ 31) n) (natAbs (p .m)) k
+  pub apart : (n k : ℕ) → mag (p .m) < 2 ^ (mantissaBits - 1) → n ≡ bitsOf mantissaBits (p .m) → isExponent (p .e) ≡ true → k ≡ natAbs (p .e +ℤ pos denominatorPower) → k ≤ highest
+      → natAbs (p .m) % 2 ≡ 1 → natAbs (p .m) ≤ 2 ^ (mantissaBits - 1) → (isCanonical p ≡ true) × Apart p (leb (2 ^ (mantissaBits - 1)) n) (natAbs (p .m)) k
   apart n k fm bn range power l o b =
-      let fits : n < 2 ^ 32 = rw bn (bits-lt 32 (p .m) (omega arith) fm) in
-      let sign : p .m ≡ signMagnitude (leb (2 ^ 31) n) (natAbs (p .m)) =
-      sym (is-mantissa n (p .m) fm bn) ∙ signed-word 32 n fits ∙ ap (λ (z : ℤ). signMagnitude (leb (2 ^ 31) n) (natAbs z)) (is-mantissa n (p .m) fm bn) in (
+      let fits : n < 2 ^ mantissaBits = rw bn (bits-lt mantissaBits (p .m) (omega arith) fm) in
+      let sign : p .m ≡ signMagnitude (leb (2 ^ (mantissaBits - 1)) n) (natAbs (p .m)) =
+      sym (is-mantissa n (p .m) fm bn) ∙ signed-word mantissaBits n fits ∙ ap (λ (z : ℤ). signMagnitude (leb (2 ^ (mantissaBits - 1)) n) (natAbs z)) (is-mantissa n (p .m) fm bn) in (
         odd-yes o (omega arith) range,
         record {
           odd = o;
           low = l;
           few = omega (arith, o, b);
           value =
-              rw (← power) (ap (λ (z : ℤ). z *ℤ pos (2 ^ k)) sign ∙ signed-mul (leb (2 ^ 31) n) (natAbs (p .m)) (2 ^ k));
+              rw (← power) (ap (λ (z : ℤ). z *ℤ pos (2 ^ k)) sign ∙ signed-mul (leb (2 ^ (mantissaBits - 1)) n) (natAbs (p .m)) (2 ^ k));
         },
       )
