@@ -98,23 +98,11 @@ fn put_ibm_word(reel: &[u8], word: u32, next: usize, out: &mut [u8]) -> u32
     w
 }
 
-fn put_whole32_word(reel: &[u8], word: u32, next: usize, out: &mut [u8]) -> u32
+// The same by the pair, for the codes of four bytes whose words are held as they stand.
+fn put_pair(reel: &[u8], pair: Pair, next: usize, out: &mut [u8]) -> u32
     requires { ⌜ (next + 4 ≤ length (now reel)) × (length (now out) ≡ 6) ⌝ }
-    ensures { λ r. ⌜ (r ≡ number (bytesAt (now (reel .entry)) next 4)) × (now (out .exit) ≡ wordContent 2 word) ⌝ }
+    ensures { λ r. ⌜ (r ≡ number (bytesAt (now (reel .entry)) next 4)) × (now (out .exit) ≡ pairContent pair) ⌝ }
 {
-    let pair = sample::whole32(word);
-    put_exponent(pair, &mut out[0..2]);
-    let w = word32_at(reel, next);
-    put_mantissa(pair, &mut out[2..6]);
-    w
-}
-
-// The same for an IEEE word.
-fn put_ieee_word(reel: &[u8], word: u32, next: usize, out: &mut [u8]) -> u32
-    requires { ⌜ (next + 4 ≤ length (now reel)) × (length (now out) ≡ 6) ⌝ }
-    ensures { λ r. ⌜ (r ≡ number (bytesAt (now (reel .entry)) next 4)) × (now (out .exit) ≡ wordContent 5 word) ⌝ }
-{
-    let pair = sample::ieee_number(word);
     put_exponent(pair, &mut out[0..2]);
     let w = word32_at(reel, next);
     put_mantissa(pair, &mut out[2..6]);
@@ -145,11 +133,12 @@ fn put_gain_word(reel: &[u8], at: usize, word: u32, out: &mut [u8]) -> u32
     requires { ⌜ (at + 8 ≤ length (now reel)) × (length (now out) ≡ 6) × (word ≡ number (bytesAt (now reel) at 4)) ⌝ }
     ensures { λ r. ⌜ (r ≡ number (bytesAt (now (reel .entry)) (at + 4) 4)) × (now (out .exit) ≡ wordContent 4 word) ⌝ }
 {
-    let pair = sample::gain_number(reel[at + 1], low_half(word));
-    put_exponent(pair, &mut out[0..2]);
-    let w = word32_at(reel, at + 4);
-    put_mantissa(pair, &mut out[2..6]);
-    w
+    put_pair(
+        reel,
+        sample::gain_number(reel[at + 1], low_half(word)),
+        at + 4,
+        out,
+    )
 }
 
 // A word of four bytes under a code that has them, and the fetch of the next. The tests are not of equality, which the compiler would make
@@ -162,12 +151,12 @@ fn put_word(reel: &[u8], code: u32, at: usize, word: u32, out: &mut [u8]) -> u32
         return put_ibm_word(reel, word, at + 4, out);
     }
     if code < 3 {
-        return put_whole32_word(reel, word, at + 4, out);
+        return put_pair(reel, sample::whole32(word), at + 4, out);
     }
     if code < 5 {
         return put_gain_word(reel, at, word, out);
     }
-    put_ieee_word(reel, word, at + 4, out)
+    put_pair(reel, sample::ieee_number(word), at + 4, out)
 }
 
 // The pair of the word at a place.

@@ -1,13 +1,13 @@
 -- `read_samples::put_word` meets its contract. Assumes nothing.
 use Rattle.read_samples.proofs.SampleLaws.{four-copied, code-of-four, held-reversed, held-whole}
 use Rattle.read_samples.specs.Parts.{reversed, wordContent, wordHeld}
-use Rattle.read_samples.specs.Samples.{sampleCopied}
+use Rattle.read_samples.specs.Samples.{pairContent, sampleCopied}
 use Rattle.formats.specs.Codes.{sampleBytes}
 use Rattle.numbers.specs.Walk.{bytesAt}
 use Rattle.numbers.specs.BigEndian.{number}
 use Prim.Native.Nat.{ℕ, _+_, _≤_}
 use mathlib.Core.List.{List}
-use mathlib.Core.Path.{_≡_, _∙_}
+use mathlib.Core.Path.{_≡_, ap, _∙_}
 use native.Mathlib.Omega.{arith}
 use borrow.Author.Needs.{needs}
 use Rattle.read_samples.proofs.put_word.Statement.{statement}
@@ -34,12 +34,12 @@ whole s code at k w r v l is h g =
 
 returns-2 : tie.Need-returns-2
 returns-2 c =
-    let t = c .before .before .before .before in
+    let t = c .before .before .before .before .before in
     let b = t .before .before .before .before in
     let a = b .args in
-    let g = c .before .before .put-whole32-word in
+    let g = c .before .before .put-pair in
     let p = b .pre in
-    whole (a .reel .now) (a .code) (a .at) 2 (a .word) (g .result) (p .1) (omega (arith, t .before .if1 .left)) (omega (arith, t .if2 .taken, t .before .if1 .left)) (p .4) (g .ensures)
+    whole (a .reel .now) (a .code) (a .at) 2 (a .word) (g .result) (p .1) (omega (arith, t .before .if1 .left)) (omega (arith, t .if2 .taken, t .before .if1 .left)) (p .4) (g .ensures .0, g .ensures .1 ∙ ap pairContent (c .before .before .before .before .whole32 .ensures))
 
 put-gain-word-requires : tie.Need-put-gain-word-requires
 put-gain-word-requires c κs =
@@ -60,30 +60,13 @@ returns-3 c =
 
 returns-4 : tie.Need-returns-4
 returns-4 c =
-    let t = c .before .before .before .before in
+    let t = c .before .before .before .before .before in
     let b = t .before .before .before .before .before in
     let a = b .args in
-    let g = c .before .before .put-ieee-word in
+    let g = c .before .before .put-pair2 in
     let p = b .pre in
     let five : 5 ≡ a .code = omega (arith, code-of-four (a .code) (p .0) (p .1), t .if3 .left) in
-    whole (a .reel .now) (a .code) (a .at) 5 (a .word) (g .result) (p .1) (omega (arith, five)) five (p .4) (g .ensures)
+    whole (a .reel .now) (a .code) (a .at) 5 (a .word) (g .result) (p .1) (omega (arith, five)) five (p .4) (g .ensures .0, g .ensures .1 ∙ ap pairContent (c .before .before .before .before .ieee-number .ensures))
 
 pub put-word-spec : {M : Type 1} → statement M
-put-word-spec =
-    tie.close
-    (tie.spec
-    (λ c. search needs)
-    (λ c κs. search needs)
-    (λ c. search needs)
-    returns
-    (λ c. search needs)
-    (λ c κs. search needs)
-    (λ c. search needs)
-    returns-2
-    put-gain-word-requires
-    (λ c. search needs)
-    returns-3
-    (λ c. search needs)
-    (λ c κs. search needs)
-    (λ c. search needs)
-    returns-4)
+put-word-spec = tie.close (tie.spec (λ c. search needs) (λ c κs. search needs) (λ c. search needs) returns (λ c κs. search needs) (λ c. search needs) (λ c κs. search needs) (λ c. search needs) returns-2 put-gain-word-requires (λ c. search needs) returns-3 (λ c κs. search needs) (λ c. search needs) (λ c κs. search needs) (λ c. search needs) returns-4)
