@@ -33,7 +33,7 @@ code-is code h =
         go true e q = subst Code (sym (eqb-true code k e)) c
         go false e q = f q
 
--- their formats are held by 32 bits
+-- a word holds their fractions
 pub code-sound : (code : ℕ) → isCode code ≡ true → Sound (formatOf code)
 code-sound code h = go code (code-is code h)
   where

@@ -18,6 +18,7 @@ use Rattle.formats.specs.Format.{unit}
 use Rattle.formats.specs.declared.Format.{Format}
 use Rattle.formats.proofs.Powers.{exponents}
 use Rattle.formats.proofs.PlacedLaws.{Place}
+use Rattle.value.specs.Pair.{mantissaBits}
 use Rattle.value.proofs.Twos.{odd-shl}
 
 -- ## Steps
@@ -47,31 +48,31 @@ lowest-steps n room d p =
     let l : d - 1 < d = omega arith in
     rw (e, div-eq-of-lt l) (lowest-zero n room d h)) (below-or room n)
 
--- a number other than 0 has fewer than 32 zeros above its first 1
-pub leading-few : (a : ℕ) → 0 < a → a < 2 ^ 32 → leadingZeros 32 a ≤ 31
-leading-few a some fits = omega (arith, leading-top 32 a some fits .1)
+-- a number other than 0 has fewer zeros than there are bits above its first 1
+pub leading-few : (a : ℕ) → 0 < a → a < 2 ^ mantissaBits → leadingZeros mantissaBits a ≤ mantissaBits - 1
+leading-few a some fits = omega (arith, leading-top mantissaBits a some fits .1)
 
 -- a power of two is not odd but for 1
 power-even : (o t : ℕ) → 0 < o → 2 ^ t ≤ 2 * o + 1 → 2 ^ t ≤ 2 * o
 power-even o zero some h = omega arith
 power-even o (suc t) some h = omega (arith, pow-suc 2 t)
 
--- the length of a magnitude of 31 bits, and of one that counts as one bit shorter where it is a power of two
-pub length-full : (o : ℕ) → 0 < o → o < 2 ^ 31 → Length 0 o (31 - leadingZeros 32 (2 * o + 1))
+-- the length of a magnitude within its limit, and of one that counts as one bit shorter where it is a power of two
+pub length-full : (o : ℕ) → 0 < o → o < 2 ^ (mantissaBits - 1) → Length 0 o (mantissaBits - 1 - leadingZeros mantissaBits (2 * o + 1))
 length-full o some fits =
-    let t = leading-top 32 (2 * o + 1) (omega arith) (omega arith) in
-    let e : 31 - leadingZeros 32 (2 * o + 1) ≡ t .0 = omega (arith, t .1) in
+    let t = leading-top mantissaBits (2 * o + 1) (omega arith) (omega arith) in
+    let e : mantissaBits - 1 - leadingZeros mantissaBits (2 * o + 1) ≡ t .0 = omega (arith, t .1) in
     rw e (record { holds = omega (arith, t .3, pow-suc 2 (t .0)); least = omega (arith, power-even o (t .0) some (t .2)) })
 
-pub length-less : (o : ℕ) → 0 < o → o < 2 ^ 31 → Length 1 o (31 - leadingZeros 32 (2 * o - 1))
+pub length-less : (o : ℕ) → 0 < o → o < 2 ^ (mantissaBits - 1) → Length 1 o (mantissaBits - 1 - leadingZeros mantissaBits (2 * o - 1))
 length-less o some fits =
-    let t = leading-top 32 (2 * o - 1) (omega arith) (omega arith) in
-    let e : 31 - leadingZeros 32 (2 * o - 1) ≡ t .0 = omega (arith, t .1) in
+    let t = leading-top mantissaBits (2 * o - 1) (omega arith) (omega arith) in
+    let e : mantissaBits - 1 - leadingZeros mantissaBits (2 * o - 1) ≡ t .0 = omega (arith, t .1) in
     rw e (record { holds = omega (arith, t .3, pow-suc 2 (t .0)); least = omega (arith, t .2) })
 
 -- a shift that loses nothing is one by fewer bits than there are
-pub shift-fits : (o s : ℕ) → 0 < o → o * 2 ^ s < 2 ^ 32 → s < 32
-shift-fits o s p h = exponents s 32 (omega (arith, h, mul-le-mul-right (2 ^ s) p, one-mul (2 ^ s)))
+pub shift-fits : (o s : ℕ) → 0 < o → o * 2 ^ s < 2 ^ mantissaBits → s < mantissaBits
+shift-fits o s p h = exponents s mantissaBits (omega (arith, h, mul-le-mul-right (2 ^ s) p, one-mul (2 ^ s)))
 
 -- a fraction of fewer than 32 bits, one more below zero among them
 pub fraction-fits : (f p : ℕ) (b : Bool) → p < 32 → f < 2 ^ p + pick b 1 0 → f < 2 ^ 32

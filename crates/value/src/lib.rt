@@ -10,7 +10,7 @@ ghost use Rattle.formats.specs.Format.{placed};
 ghost use Rattle.formats.specs.Codes.{denominatorPower, isCode, wholeFormat};
 ghost use Rattle.formats.specs.Words.{floatBits, floatWord, wholeWord, gainWord, wordOf, wordBits};
 ghost use Rattle.formats.specs.Steps.{Sound, Float, Length, Lowest};
-ghost use Rattle.value.specs.Pair.{highestExponent, isExponent, isCanonical, pairOfBits, pairIn};
+ghost use Rattle.value.specs.Pair.{highestExponent, mantissaBits, isExponent, isCanonical, pairOfBits, pairIn};
 ghost use Rattle.value.specs.Writing.{writePair};
 ghost use Rattle.value.specs.Parts.{PartsOf};
 use formats::DENOMINATOR_POWER;
@@ -62,7 +62,7 @@ fn shifted_up(a: u32, s: u32) -> u32
 // The bits of a magnitude; where `less` is set, as for a format with one more number below zero, a power of two counts as one bit shorter.
 // They are one fewer than those of 2 × o + 1, and of 2 × o - 1, which is never 0: the compiler then makes one instruction of the count.
 fn length_of(o: u32, less: bool) -> u32
-    requires { ⌜ (0 < o) × (o < 2 ^ 31) ⌝ }
+    requires { ⌜ (0 < o) × (o < 2 ^ (mantissaBits - 1)) ⌝ }
     ensures { λ r. ⌜ Length (pick less 1 0) o r × (r < 32) ⌝ }
 {
     if less {
@@ -98,7 +98,7 @@ fn last_place(x: Format, c: u32) -> u32
 // The place of V = ± o × 2^k in a format, for an odd o: of the characteristics that serve, the least. It is told by bit lengths alone, and the
 // fraction is shifted once it is known to fit.
 fn place(x: Format, neg: bool, o: u32, k: u32) -> Placed
-    requires { ⌜ Sound x × (o % 2 ≡ 1) × (k ≤ denominatorPower + highestExponent) × (o < 2 ^ 31) ⌝ }
+    requires { ⌜ Sound x × (o % 2 ≡ 1) × (k ≤ denominatorPower + highestExponent) × (o < 2 ^ (mantissaBits - 1)) ⌝ }
     ensures { λ r. ⌜ r ≡ placed x (signMagnitude neg (o * 2 ^ k)) ⌝ }
 {
     let c = lowest(x, length_of(o, one_more(x, neg)) + k);
@@ -143,7 +143,7 @@ fn packed(y: u32, neg: bool, c: u32, f: u32) -> u32
 
 // The word of V = ± o × 2^k in a format of sign and magnitude, for an odd o, with the characteristic above the y lowest bits.
 fn float_of(x: Format, y: u32, neg: bool, o: u32, k: u32) -> Written
-    requires { ⌜ Float x 32 y × (o % 2 ≡ 1) × (k ≤ denominatorPower + highestExponent) × (o < 2 ^ 31) ⌝ }
+    requires { ⌜ Float x 32 y × (o % 2 ≡ 1) × (k ≤ denominatorPower + highestExponent) × (o < 2 ^ (mantissaBits - 1)) ⌝ }
     ensures { λ r. ⌜ r ≡ floatWord x 32 y (signMagnitude neg (o * 2 ^ k)) ⌝ }
 {
     match place(x, neg, o, k) {
@@ -169,7 +169,7 @@ fn complement(w: u32, neg: bool, q: u32) -> u32
 // The word of V = ± o × 2^k as a number of w bits, for an odd o, by the format of such numbers. With k below 280 it is none: that test stands
 // before the place, where it costs less than in it.
 fn whole_of(x: Format, w: u32, neg: bool, o: u32, k: u32) -> Written
-    requires { ⌜ (x ≡ wholeFormat w) × (0 < w) × (w ≤ 32) × (o % 2 ≡ 1) × (k ≤ denominatorPower + highestExponent) × (o < 2 ^ 31) ⌝ }
+    requires { ⌜ (x ≡ wholeFormat w) × (0 < w) × (w ≤ 32) × (o % 2 ≡ 1) × (k ≤ denominatorPower + highestExponent) × (o < 2 ^ (mantissaBits - 1)) ⌝ }
     ensures { λ r. ⌜ r ≡ wholeWord w (signMagnitude neg (o * 2 ^ k)) ⌝ }
 {
     if k < DENOMINATOR_POWER {
@@ -188,7 +188,7 @@ const GAIN_BASE: u32 = DENOMINATOR_POWER - 255;
 
 // The word of V = ± o × 2^k under code 4, for an odd o, with the smallest gain: the largest characteristic that leaves the number whole.
 fn gain_of(neg: bool, o: u32, k: u32) -> Written
-    requires { ⌜ (o % 2 ≡ 1) × (k ≤ denominatorPower + highestExponent) × (o < 2 ^ 31) ⌝ }
+    requires { ⌜ (o % 2 ≡ 1) × (k ≤ denominatorPower + highestExponent) × (o < 2 ^ (mantissaBits - 1)) ⌝ }
     ensures { λ r. ⌜ r ≡ gainWord (signMagnitude neg (o * 2 ^ k)) ⌝ }
 {
     if k < GAIN_BASE {
@@ -307,7 +307,7 @@ impl Pair {
 
 // The word of V = ± o × 2^k under a code, for an odd o.
 fn word_at(code: u32, neg: bool, o: u32, k: u32) -> Written
-    requires { ⌜ (isCode code ≡ true) × (o % 2 ≡ 1) × (k ≤ denominatorPower + highestExponent) × (o < 2 ^ 31) ⌝ }
+    requires { ⌜ (isCode code ≡ true) × (o % 2 ≡ 1) × (k ≤ denominatorPower + highestExponent) × (o < 2 ^ (mantissaBits - 1)) ⌝ }
     ensures { λ r. ⌜ r ≡ wordOf code (signMagnitude neg (o * 2 ^ k)) ⌝ }
 {
     match code {
@@ -357,7 +357,7 @@ fn bits_of(word: Written) -> u32
 // The bits of the word of V = ± o × 2^k under a code, for an odd o, 0 where there is none. Each arm gives a number, so that no answer is
 // packed and unpacked.
 fn bits_at(code: u32, neg: bool, o: u32, k: u32) -> u32
-    requires { ⌜ (isCode code ≡ true) × (o % 2 ≡ 1) × (k ≤ denominatorPower + highestExponent) × (o < 2 ^ 31) ⌝ }
+    requires { ⌜ (isCode code ≡ true) × (o % 2 ≡ 1) × (k ≤ denominatorPower + highestExponent) × (o < 2 ^ (mantissaBits - 1)) ⌝ }
     ensures { λ r. ⌜ r ≡ wordBits (wordOf code (signMagnitude neg (o * 2 ^ k))) ⌝ }
 {
     match code {

@@ -2,7 +2,7 @@
 use Rattle.value.proofs.Apart.{is-mantissa, zero-bits, bits-zero, zero-yes, zero-no, even-no, high-no, zero-value, apart}
 use Rattle.value.specs.declared.Pair.{Pair}
 use Rattle.formats.specs.Codes.{denominatorPower}
-use Rattle.value.specs.Pair.{isExponent}
+use Rattle.value.specs.Pair.{mantissaBits, isExponent}
 use Rattle.numbers.specs.TwosComplement.{bitsOf}
 use mir.Facts.{toZ-ofZ}
 use mir.Val.{SFits}
@@ -10,7 +10,7 @@ use mir.Syntax.{w16, w32}
 use lib.Signed.{mag}
 use lib.IntN.{ℤ, pos, natAbs, _+ℤ_}
 use native.Mathlib.Omega.{arith}
-use Prim.Native.Nat.{ℕ, _%_, _^_, _≤_, _<_}
+use Prim.Native.Nat.{_-_, ℕ, _%_, _^_, _≤_, _<_}
 use mathlib.Core.Path.{_≡_, sym, ap, _∙_}
 use borrow.Author.Needs.{needs}
 use Rattle.value.proofs.Pair.parts.Statement.{statement}
@@ -20,17 +20,17 @@ use Rattle.value.proofs.Pair.parts.Tie as tie
 record Known (p : Pair) (n o : ℕ) : Type 0 where
   se : SFits w16 (p .e)
   fe : mag (p .e) < 2 ^ 15
-  fm : mag (p .m) < 2 ^ 31
-  bits : n ≡ bitsOf 32 (p .m)
+  fm : mag (p .m) < 2 ^ (mantissaBits - 1)
+  bits : n ≡ bitsOf mantissaBits (p .m)
   abs : o ≡ natAbs (p .m)
-  most : o ≤ 2 ^ 31
+  most : o ≤ 2 ^ (mantissaBits - 1)
 
 known : (c : tie.After-magnitude32) → Known (c .before .before .before .args .self) (c .before .bits32 .result) (c .magnitude32 .result)
 known c =
     let p = c .before .before .before .args .self in
     let x : SFits w16 (p .e) = search needs in
     let y : SFits w32 (p .m) = search needs in
-    let b : c .before .bits32 .result ≡ bitsOf 32 (p .m) = c .before .bits32 .ensures ∙ ap (bitsOf 32) (toZ-ofZ y) in
+    let b : c .before .bits32 .result ≡ bitsOf mantissaBits (p .m) = c .before .bits32 .ensures ∙ ap (bitsOf mantissaBits) (toZ-ofZ y) in
     record {
       se = x;
       fe = x .sfits;
