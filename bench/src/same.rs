@@ -11,12 +11,47 @@ use std::array;
 const DENOMINATOR_POWER: u32 = 280;
 const HIGHEST_SHIFT: u32 = 531;
 
-/// An IEEE single word as a format of sign and magnitude: the bits of a fraction with the hidden bit, how
-/// many characteristics there are, and the power of the last place at characteristic 0, over 2^280. The
-/// word's exponent is the characteristic and the hidden bit.
-const IEEE_FRACTION: u32 = 24;
-const IEEE_CHARACTERISTICS: u32 = 254;
-const IEEE_BASE: u32 = DENOMINATOR_POWER - 149;
+/// The five numbers of a sample format: the bits of a digit and of a fraction, how many characteristics
+/// there are, the power of the last place at characteristic 0, over 2^280, and whether there is one more
+/// number below zero.
+#[derive(Clone, Copy)]
+struct Format {
+    digit: u32,
+    fraction: u32,
+    characteristics: u32,
+    base: u32,
+    more: bool,
+}
+
+const IBM: Format = Format {
+    digit: 4,
+    fraction: 24,
+    characteristics: 128,
+    base: DENOMINATOR_POWER - 280,
+    more: false,
+};
+
+/// An IEEE single word. Its exponent is the characteristic and the hidden bit.
+const SINGLE: Format = Format {
+    digit: 1,
+    fraction: 24,
+    characteristics: 254,
+    base: DENOMINATOR_POWER - 149,
+    more: false,
+};
+
+const fn whole_format(bits: u32) -> Format {
+    Format {
+        digit: 1,
+        fraction: bits - 1,
+        characteristics: 1,
+        base: DENOMINATOR_POWER,
+        more: true,
+    }
+}
+
+/// The power of the last bit at gain 255.
+const GAIN_BASE: u32 = DENOMINATOR_POWER - 255;
 
 struct Same;
 
@@ -101,8 +136,8 @@ impl Steps for Same {
             1 => put_pairs(words, pairs, ibm),
             2 => put_pairs(words, pairs, |word| whole32(i32::from_be_bytes(word))),
             3 => put_pairs(words, pairs, |word| whole16(i16::from_be_bytes(word))),
-            4 => put_pairs(words, pairs, gain_or_zero),
-            5 => put_pairs(words, pairs, |word| ieee_or_zero(u32::from_be_bytes(word))),
+            4 => put_pairs(words, pairs, gain_number),
+            5 => put_pairs(words, pairs, |word| ieee_number(u32::from_be_bytes(word))),
             _ => put_pairs(words, pairs, |word| whole8(i8::from_be_bytes(word))),
         }
     }
@@ -333,46 +368,42 @@ fn whole8(number: i8) -> Pair {
     canonical(number < 0, magnitude, DENOMINATOR_POWER)
 }
 
+/// A gain word as it is converted, whatever its first byte.
 #[inline(always)]
-fn gain_number(g: u8, number: i16) -> Pair {
+fn gain_number([_, g, high, low]: [u8; 4]) -> Pair {
+    let number = i16::from_be_bytes([high, low]);
     let magnitude = u32::from(number.unsigned_abs());
     canonical(number < 0, magnitude, DENOMINATOR_POWER - u32::from(g))
 }
 
 #[inline(always)]
-fn gain([first, g, high, low]: [u8; 4]) -> Result<Pair, u64> {
-    if first != 0 {
+fn gain(word: [u8; 4]) -> Result<Pair, u64> {
+    if word[0] != 0 {
         return Err(BAD_GAIN);
     }
-    Ok(gain_number(g, i16::from_be_bytes([high, low])))
+    Ok(gain_number(word))
 }
 
-/// The second pass's gain word: one that is refused, which the first pass has ruled out, is zero.
+/// An IEEE word as it is converted, whatever its exponent. A normal number has the hidden bit; a subnormal
+/// one has none, and the last place of the least normal.
 #[inline(always)]
-fn gain_or_zero([first, g, high, low]: [u8; 4]) -> Pair {
-    let number = i16::from_be_bytes([high, low]);
-    gain_number(g, if first == 0 { number } else { 0 })
+fn ieee_number(word: u32) -> Pair {
+    let (exponent, fraction) = (word >> 23 & 0xFF, word & 0x7F_FFFF);
+    let significand = if exponent == 0 {
+        fraction
+    } else {
+        0x80_0000 + fraction
+    };
+    let counted = if exponent == 0 { 1 } else { exponent };
+    canonical(word >= 0x8000_0000, significand, SINGLE.base - 1 + counted)
 }
 
-/// A normal number has the hidden bit; a subnormal one has none, and the last place of the least normal.
 #[inline(always)]
 fn ieee(word: u32) -> Result<Pair, u64> {
-    let negative = word >= 0x8000_0000;
-    let fraction = word & 0x7F_FFFF;
-    match word >> 23 & 0xFF {
-        0xFF => Err(NOT_FINITE),
-        0 => Ok(canonical(negative, fraction, IEEE_BASE)),
-        exponent => {
-            let power = IEEE_BASE + exponent - 1;
-            Ok(canonical(negative, 0x80_0000 + fraction, power))
-        }
+    if word & 0x7FFF_FFFF >= 0x7F80_0000 {
+        return Err(NOT_FINITE);
     }
-}
-
-/// The second pass's IEEE word: one that is refused, which the first pass has ruled out, is zero.
-#[inline(always)]
-fn ieee_or_zero(word: u32) -> Pair {
-    ieee(word).unwrap_or(Pair { e: 0, m: 0 })
+    Ok(ieee_number(word))
 }
 
 // ## Writing
@@ -397,7 +428,7 @@ fn put_words<const W: usize>(pairs: &[u8], words: &mut [u8], word_of: impl WordO
         .zip(words.chunks_exact_mut(W))
     {
         let bits = Pair::of(pair).bits(&word_of);
-        word.copy_from_slice(&bits.to_be_bytes()[..W]);
+        word.copy_from_slice(&bits.to_be_bytes()[4 - W..]);
     }
 }
 
@@ -477,105 +508,93 @@ impl Pair {
     }
 }
 
-/// First the largest characteristic that leaves the fraction whole, then digit by digit down from it
-/// until the fraction's first digit isn't 0 or the characteristic is.
+/// The bits of an odd number, or one fewer for 1 where `less` is set.
+#[inline(always)]
+fn length(odd: u32, less: bool) -> u32 {
+    if less {
+        31 - (2 * odd - 1).leading_zeros()
+    } else {
+        31 - (2 * odd + 1).leading_zeros()
+    }
+}
+
+/// The characteristic and the fraction of ± odd × 2^power: the least characteristic whose fraction reaches
+/// up to the first 1, if it reaches down to the last.
+#[inline(always)]
+fn place(format: Format, negative: bool, odd: u32, power: u32) -> Option<(u32, u32)> {
+    let first = length(odd, format.more && negative) + power;
+    let above = first - first.min(format.fraction + format.base);
+    let characteristic = (above + (format.digit - 1)) / format.digit;
+    if characteristic >= format.characteristics {
+        return None;
+    }
+    let last = format.base + format.digit * characteristic;
+    if power < last {
+        return None;
+    }
+    Some((characteristic, odd << (power - last)))
+}
+
+#[inline(always)]
+fn float_of(format: Format, low: u32, negative: bool, odd: u32, power: u32) -> Result<u32, u64> {
+    let (characteristic, fraction) = place(format, negative, odd, power).ok_or(UNFIT)?;
+    let sign = if negative { 0x8000_0000 } else { 0 };
+    Ok(sign + ((characteristic << low) + fraction))
+}
+
 #[inline(always)]
 fn ibm_of(negative: bool, odd: u32, power: u32) -> Result<u32, u64> {
-    let top = (power / 4).min(127);
-    let wide = u64::from(odd) << (power - top * 4);
-    if wide >= 0x100_0000 {
+    float_of(IBM, 24, negative, odd, power)
+}
+
+#[inline(always)]
+fn ieee_of(negative: bool, odd: u32, power: u32) -> Result<u32, u64> {
+    float_of(SINGLE, 23, negative, odd, power)
+}
+
+#[inline(always)]
+fn whole_of(bits: u32, negative: bool, odd: u32, power: u32) -> Result<u32, u64> {
+    if power < DENOMINATOR_POWER {
         return Err(UNFIT);
     }
-    let fraction = wide as u32;
-    let digits = ((fraction.leading_zeros() - 8) / 4).min(top);
-    let sign = if negative { 0x8000_0000 } else { 0 };
-    Ok(sign + ((top - digits) << 24) + (fraction << (digits * 4)))
+    let (_, whole) = place(whole_format(bits), negative, odd, power).ok_or(UNFIT)?;
+    Ok(complement(bits, negative, whole))
 }
 
 #[inline(always)]
 fn whole32_of(negative: bool, odd: u32, power: u32) -> Result<u32, u64> {
-    let limit = if negative { 0x8000_0001 } else { 0x8000_0000 };
-    let whole = whole_below(odd, power, limit).ok_or(UNFIT)?;
-    Ok(if negative {
-        whole.wrapping_neg()
-    } else {
-        whole
-    })
+    whole_of(32, negative, odd, power)
 }
 
-/// In the word's first two bytes.
 #[inline(always)]
 fn whole16_of(negative: bool, odd: u32, power: u32) -> Result<u32, u64> {
-    let whole = whole_below(odd, power, limit(16, negative)).ok_or(UNFIT)?;
-    Ok(complement(16, negative, whole) << 16)
+    whole_of(16, negative, odd, power)
 }
 
-/// In the word's first byte.
 #[inline(always)]
 fn whole8_of(negative: bool, odd: u32, power: u32) -> Result<u32, u64> {
-    let whole = whole_below(odd, power, limit(8, negative)).ok_or(UNFIT)?;
-    Ok(complement(8, negative, whole) << 24)
+    whole_of(8, negative, odd, power)
 }
 
 /// With the least gain that leaves the number whole.
 #[inline(always)]
 fn gain_of(negative: bool, odd: u32, power: u32) -> Result<u32, u64> {
-    let gain = DENOMINATOR_POWER - power.min(DENOMINATOR_POWER);
-    if gain > 255 {
+    if power < GAIN_BASE {
         return Err(UNFIT);
     }
-    let whole = whole_below(odd, power + gain, limit(16, negative)).ok_or(UNFIT)?;
-    Ok((gain << 16) + complement(16, negative, whole))
-}
-
-/// The least characteristic whose fraction reaches up to the first 1 of odd × 2^power, if it reaches down
-/// to the last. At the least of all the first bit of the fraction may be 0: a subnormal number.
-#[inline(always)]
-fn ieee_of(negative: bool, odd: u32, power: u32) -> Result<u32, u64> {
-    let first = 32 - odd.leading_zeros() + power;
-    let characteristic = first.saturating_sub(IEEE_FRACTION + IEEE_BASE);
-    if characteristic >= IEEE_CHARACTERISTICS {
+    let characteristic = (power - GAIN_BASE).min(255);
+    if length(odd, negative) + power > 15 + GAIN_BASE + characteristic {
         return Err(UNFIT);
     }
-    let last_place = IEEE_BASE + characteristic;
-    if power < last_place {
-        return Err(UNFIT);
-    }
-    let fraction = odd << (power - last_place);
-    let sign = if negative { 0x8000_0000 } else { 0 };
-    Ok(sign + (characteristic << 23) + fraction)
-}
-
-/// One more than the largest magnitude of a number of so many bits, of either sign.
-#[inline(always)]
-fn limit(bits: u32, negative: bool) -> u64 {
-    let half = 1 << (bits - 1);
-    if negative {
-        half + 1
-    } else {
-        half
-    }
+    let whole = odd << (power - (GAIN_BASE + characteristic));
+    Ok(((255 - characteristic) << 16) + complement(16, negative, whole))
 }
 
 #[inline(always)]
 fn complement(bits: u32, negative: bool, whole: u32) -> u32 {
     if negative {
-        (1 << bits) - whole
+        ((1u64 << bits) - u64::from(whole)) as u32
     } else {
         whole
     }
-}
-
-/// `odd` × 2^(`power` - 280), where that is a whole number below a limit of at most 2^32.
-#[inline(always)]
-fn whole_below(odd: u32, power: u32, limit: u64) -> Option<u32> {
-    let up = power.wrapping_sub(DENOMINATOR_POWER);
-    if up >= 32 {
-        return None;
-    }
-    let whole = u64::from(odd) << up;
-    if whole >= limit {
-        return None;
-    }
-    Some(whole as u32)
 }
