@@ -511,11 +511,7 @@ impl Pair {
 /// The bits of an odd number, or one fewer for 1 where `less` is set.
 #[inline(always)]
 fn length(odd: u32, less: bool) -> u32 {
-    if less {
-        31 - (2 * odd - 1).leading_zeros()
-    } else {
-        31 - (2 * odd + 1).leading_zeros()
-    }
+    u32::BITS - (odd - u32::from(less)).leading_zeros()
 }
 
 /// The characteristic and the fraction of ± odd × 2^power: the least characteristic whose fraction reaches
@@ -523,8 +519,8 @@ fn length(odd: u32, less: bool) -> u32 {
 #[inline(always)]
 fn place(format: Format, negative: bool, odd: u32, power: u32) -> Option<(u32, u32)> {
     let first = length(odd, format.more && negative) + power;
-    let above = first - first.min(format.fraction + format.base);
-    let characteristic = (above + (format.digit - 1)) / format.digit;
+    let above = first.saturating_sub(format.fraction + format.base);
+    let characteristic = above.div_ceil(format.digit);
     if characteristic >= format.characteristics {
         return None;
     }
