@@ -6,3 +6,5 @@ pub mod CodeLaws
 pub mod WordLaws
 pub mod GainLaws
 pub mod NormalLaws
+pub mod RoundLaws
+pub mod NearestLaws

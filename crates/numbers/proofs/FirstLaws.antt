@@ -52,3 +52,13 @@ found t (suc n) i = go (t i) refl (found t n (suc i))
 pub first-le : (t : ℕ → Bool) (n i c : ℕ) → i ≤ c → t c ≡ true → first t n i ≤ c
 first-le t n i c l e =
     ⊎-elim (λ (h : c < first t n i). absurd (subst T (sym e ∙ found t n i .before c l h) tt)) (λ (h : first t n i ≤ c). h) (below-or c (first t n i))
+
+-- no more is found than was asked for
+pub first-most : (t : ℕ → Bool) (n i : ℕ) → first t n i ≤ i + n
+unfolding first
+first-most t zero i = omega arith
+first-most t (suc n) i = go (t i) (first-most t n (suc i))
+  where
+    go : (b : Bool) → first t n (suc i) ≤ suc i + n → pick b i (first t n (suc i)) ≤ i + suc n
+    go true h = omega arith
+    go false h = omega arith
