@@ -8,3 +8,4 @@ pub mod GainLaws
 pub mod NormalLaws
 pub mod RoundLaws
 pub mod NearestLaws
+pub mod NearestSteps

@@ -5,3 +5,4 @@ pub mod WrittenLaws
 pub mod Apart
 pub mod PartsLaws
 pub mod PairBytes
+pub mod NearLaws

@@ -1,18 +1,20 @@
-// What a sample is worth: the canonical pair, and the word of a pair under a code.
+// What a sample is worth: the canonical pair, the word of a pair under a code, and the word of the nearest value of a code.
 ghost use mathlib.Core.Path.{_≡_};
-ghost use Prim.Native.Nat.{_+_, _-_, _*_, _%_, _^_, _<_, _≤_, min};
-ghost use mathlib.Core.Bool.{true, _&&_};
+ghost use Prim.Native.Nat.{_+_, _-_, _*_, _/_, _%_, _^_, _<_, _≤_, min};
+ghost use mathlib.Core.Bool.{true, not, _&&_};
+ghost use lib.Dec.{eqb};
 ghost use lib.IntN.{pos, natAbs, _+ℤ_};
 ghost use Rattle.numbers.specs.Walk.{pick};
 ghost use Rattle.numbers.specs.TwosComplement.{signedOf, bitsOf};
 ghost use Rattle.numbers.specs.SignMagnitude.{signMagnitude};
-ghost use Rattle.formats.specs.Format.{placed};
-ghost use Rattle.formats.specs.Codes.{denominatorPower, isCode, wholeFormat};
+ghost use Rattle.formats.specs.Format.{unit, limit, placed};
+ghost use Rattle.formats.specs.Codes.{denominatorPower, isCode, wholeFormat, gainFormat, formatOf};
 ghost use Rattle.formats.specs.Words.{floatBits, floatWord, wholeWord, gainWord, wordOf, wordBits};
 ghost use Rattle.formats.specs.Steps.{Sound, Float, Length, Lowest};
+ghost use Rattle.formats.specs.Nearest.{nearestMultiple};
 ghost use Rattle.value.specs.Pair.{highestExponent, mantissaBits, isExponent, isCanonical, pairOfBits, pairIn};
-ghost use Rattle.value.specs.Writing.{writePair};
-ghost use Rattle.value.specs.Parts.{PartsOf};
+ghost use Rattle.value.specs.Writing.{writePair, roundedBy, nearestPair};
+ghost use Rattle.value.specs.Parts.{PartsOf, NearPlace};
 use formats::DENOMINATOR_POWER;
 use formats::Format;
 use formats::Placed;
@@ -381,6 +383,213 @@ pub fn bits(code: u32, p: Pair) -> u32
         Parts::NotCanonical => NO_WORD,
         Parts::Zero => ZERO_WORD,
         Parts::Odd { neg, o, k } => bits_at(code, neg, o, k),
+    }
+}
+
+// ## The nearest value
+
+// What nearest writing makes of a pair: the bits of the word of the nearest value, and 1 where that is another value than the pair's.
+pub struct Rounded {
+    pub bits: u32,
+    pub changed: u32,
+}
+
+// A place of the nearest value in a format, and 1 where that is another value.
+struct RoundedPlace {
+    c: u32,
+    f: u32,
+    changed: u32,
+}
+
+// A shift down.
+fn shifted_down(a: u32, s: u32) -> u32
+    requires { ⌜ s < 32 ⌝ }
+    ensures { λ r. ⌜ r ≡ a / 2 ^ s ⌝ }
+{
+    a >> s
+}
+
+// A power of two.
+fn two_to(s: u32) -> u32
+    requires { ⌜ s < 32 ⌝ }
+    ensures { λ r. ⌜ (r ≡ 2 ^ s) × (0 < r) ⌝ }
+{
+    shifted_up(1, s)
+}
+
+// The largest number whose double is below 2^s.
+fn under_half(s: u32) -> u32
+    requires { ⌜ s < 32 ⌝ }
+    ensures { λ r. ⌜ (2 * r < 2 ^ s) × (2 ^ s ≤ 2 * r + 2) ⌝ }
+{
+    (two_to(s) - 1) / 2
+}
+
+// o / 2^s to the nearest whole number, and of two equally near to the lower one.
+fn rounded_whole(o: u32, s: u32) -> u32
+    requires { ⌜ o < 2 ^ (mantissaBits - 1) ⌝ }
+    ensures { λ r. ⌜ r * 2 ^ s ≡ nearestMultiple (2 ^ s) o ⌝ }
+{
+    if 31 < s {
+        return 0;
+    }
+    shifted_down(o + under_half(s), s)
+}
+
+// The largest fraction of a sign.
+fn most(x: Format, neg: bool) -> u32
+    requires { ⌜ Sound x ⌝ }
+    ensures { λ r. ⌜ r ≡ limit x neg - 1 ⌝ }
+{
+    let p = two_to(x.fraction);
+    if one_more(x, neg) { p } else { p - 1 }
+}
+
+// The place of the nearest value of a format to V = ± o × 2^k, for an odd o. The least characteristic that reaches V is found by bit lengths,
+// as in `place`. Beyond the last one V is beyond the range, and the end is taken. Where the last place isn't above V's last 1, V is one of the
+// format's. Else V is rounded to a whole number of last places, which may be the first number of the next characteristic, or, beside the last,
+// beyond the end.
+fn near_place(x: Format, neg: bool, o: u32, k: u32) -> RoundedPlace
+    requires { ⌜ Sound x × (x .digit ≤ x .fraction) × (o % 2 ≡ 1) × (k ≤ denominatorPower + highestExponent) × (o < 2 ^ (mantissaBits - 1)) ⌝ }
+    ensures { λ r. ⌜ NearPlace x neg (o * 2 ^ k) r ⌝ }
+{
+    let c = lowest(x, length_of(o, one_more(x, neg)) + k);
+    let end = x.characteristics - 1;
+    if end < c {
+        return RoundedPlace {
+            c: end,
+            f: most(x, neg),
+            changed: 1,
+        };
+    }
+    let last = last_place(x, c);
+    if last <= k {
+        return RoundedPlace {
+            c,
+            f: shifted_up(o, k - last),
+            changed: 0,
+        };
+    }
+    let f = rounded_whole(o, last - k);
+    if c == end {
+        return RoundedPlace {
+            c,
+            f: lesser(f, most(x, neg)),
+            changed: 1,
+        };
+    }
+    if f == two_to(x.fraction) {
+        return RoundedPlace {
+            c: c + 1,
+            f: two_to(x.fraction - x.digit),
+            changed: 1,
+        };
+    }
+    RoundedPlace { c, f, changed: 1 }
+}
+
+// The sign of a fraction: zero has none.
+fn sign_of(neg: bool, f: u32) -> bool
+    ensures { λ r. ⌜ r ≡ (neg && not (eqb f 0)) ⌝ }
+{
+    neg && f != 0
+}
+
+// The word of the nearest value to V = ± o × 2^k in a format of sign and magnitude, for an odd o.
+fn near_float(x: Format, y: u32, neg: bool, o: u32, k: u32) -> Rounded
+    requires { ⌜ Float x 32 y × (x .digit ≤ x .fraction) × (o % 2 ≡ 1) × (k ≤ denominatorPower + highestExponent) × (o < 2 ^ (mantissaBits - 1)) ⌝ }
+    ensures { λ r. ⌜ r ≡ roundedBy (floatWord x 32 y) x (signMagnitude neg (o * 2 ^ k)) ⌝ }
+{
+    let p = near_place(x, neg, o, k);
+    Rounded {
+        bits: packed(y, sign_of(neg, p.f), p.c, p.f),
+        changed: p.changed,
+    }
+}
+
+// The bits of a number of w bits, given by sign and magnitude, which may be 0.
+fn complement_of(w: u32, neg: bool, q: u32) -> u32
+    requires { ⌜ (0 < w) × (w ≤ 32) × (q < 2 ^ (w - 1) + pick neg 1 0) ⌝ }
+    ensures { λ r. ⌜ r ≡ bitsOf w (signMagnitude neg q) ⌝ }
+{
+    if q == 0 {
+        return 0;
+    }
+    complement(w, neg, q)
+}
+
+// The word of the nearest number of w bits to V = ± o × 2^k, for an odd o, by the format of such numbers.
+fn near_whole(x: Format, w: u32, neg: bool, o: u32, k: u32) -> Rounded
+    requires { ⌜ (x ≡ wholeFormat w) × (1 < w) × (w ≤ 32) × (o % 2 ≡ 1) × (k ≤ denominatorPower + highestExponent) × (o < 2 ^ (mantissaBits - 1)) ⌝ }
+    ensures { λ r. ⌜ r ≡ roundedBy (wholeWord w) (wholeFormat w) (signMagnitude neg (o * 2 ^ k)) ⌝ }
+{
+    let p = near_place(x, neg, o, k);
+    Rounded {
+        bits: complement_of(w, neg, p.f),
+        changed: p.changed,
+    }
+}
+
+// The word of V = ± f × 2^k under code 4 with the smallest gain, for an f that may be even, or 0.
+fn gain_bits(neg: bool, f: u32, k: u32) -> u32
+    requires { ⌜ (f < 2 ^ (mantissaBits - 1)) × (k + mantissaBits ≤ denominatorPower + highestExponent) ⌝ }
+    ensures { λ r. ⌜ r ≡ wordBits (gainWord (signMagnitude neg (f * 2 ^ k))) ⌝ }
+{
+    if f == 0 {
+        return ZERO_WORD;
+    }
+    let t = u32::trailing_zeros(f);
+    bits_of(gain_of(neg, shifted_down(f, t), k + t))
+}
+
+// The word of the nearest value to V = ± o × 2^k under code 4, for an odd o.
+fn near_gain(x: Format, neg: bool, o: u32, k: u32) -> Rounded
+    requires { ⌜ (x ≡ gainFormat) × (o % 2 ≡ 1) × (k ≤ denominatorPower + highestExponent) × (o < 2 ^ (mantissaBits - 1)) ⌝ }
+    ensures { λ r. ⌜ r ≡ roundedBy gainWord gainFormat (signMagnitude neg (o * 2 ^ k)) ⌝ }
+{
+    let p = near_place(x, neg, o, k);
+    Rounded {
+        bits: gain_bits(neg, p.f, GAIN_BASE + p.c),
+        changed: p.changed,
+    }
+}
+
+// The word of the nearest value to V = ± o × 2^k under a code, for an odd o.
+fn nearest_at(code: u32, neg: bool, o: u32, k: u32) -> Rounded
+    requires { ⌜ (isCode code ≡ true) × (o % 2 ≡ 1) × (k ≤ denominatorPower + highestExponent) × (o < 2 ^ (mantissaBits - 1)) ⌝ }
+    ensures { λ r. ⌜ r ≡ roundedBy (wordOf code) (formatOf code) (signMagnitude neg (o * 2 ^ k)) ⌝ }
+{
+    match code {
+        1 => near_float(formats::format_of(1), 24, neg, o, k),
+        2 => near_whole(formats::format_of(2), 32, neg, o, k),
+        3 => near_whole(formats::format_of(3), 16, neg, o, k),
+        4 => near_gain(formats::format_of(4), neg, o, k),
+        5 => near_float(formats::format_of(5), 23, neg, o, k),
+        _ => near_whole(formats::format_of(8), 8, neg, o, k),
+    }
+}
+
+// The word of the nearest value of a code to a pair's, and whether that is another value. Where the code is none or the pair isn't canonical,
+// both are 0.
+pub fn nearest(code: u32, p: Pair) -> Rounded
+    ensures { λ r. ⌜ r ≡ nearestPair code p ⌝ }
+{
+    if !formats::is_code(code as usize) {
+        return Rounded {
+            bits: NO_WORD,
+            changed: 0,
+        };
+    }
+    match p.parts() {
+        Parts::NotCanonical => Rounded {
+            bits: NO_WORD,
+            changed: 0,
+        },
+        Parts::Zero => Rounded {
+            bits: ZERO_WORD,
+            changed: 0,
+        },
+        Parts::Odd { neg, o, k } => nearest_at(code, neg, o, k),
     }
 }
 
