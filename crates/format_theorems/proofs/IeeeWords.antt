@@ -305,6 +305,12 @@ two = omega arith
 near : bias 8 + 23 ≤ denominatorPower + 1
 near = omega arith
 
+pub single-power : (n : ℕ) → ieeePower 8 23 n ≡ ieeeFormat 8 23 .base + 1 * (ieeeExponent 8 23 n - 1)
+single-power n = power-at 8 23 two near (ieeeExponent 8 23 n)
+
+pub single-significand : (n : ℕ) → significand 8 23 n < 2 ^ 24
+single-significand = significand-lt 8 23 two near
+
 pub single-value : (n : ℕ) → isFinite 8 23 n ≡ true → Value (ieeeFormat 8 23) (ieeeValue 8 23 n)
 single-value = ieee-value 8 23 two near
 

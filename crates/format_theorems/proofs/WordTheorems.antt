@@ -77,7 +77,7 @@ module _ (v : ℤ) where
       go false h q = let z : _≡_ {A = ℕ} 0 1 = cc in absurd (no-zero-one z)
 
   -- it has the value
-  gain-says : (n : ℕ) → gainWord v ≡ Word n → (n < 2 ^ 24) × (gainOf n ≡ least) × (valueIn 4 n ≡ v)
+  pub gain-says : (n : ℕ) → gainWord v ≡ Word n → (n < 2 ^ 24) × (gainOf n ≡ least) × (valueIn 4 n ≡ v)
   gain-says n e =
       let t = gain-is n e in
       let s = isNegative v in
@@ -91,7 +91,7 @@ module _ (v : ℤ) where
       )
 
   -- a gain that serves is not passed over
-  gain-found : (k : ℕ) → gainFits v k ≡ true → least ≤ k
+  pub gain-found : (k : ℕ) → gainFits v k ≡ true → least ≤ k
   gain-found k e = first-le (gainFits v) 256 0 k (omega arith) e
 
   -- so a value of the format is written

@@ -21,7 +21,7 @@ use Rattle.value.specs.declared.Pair.{Pair}
 use Rattle.formats.specs.declared.Written.{Written}
 use Rattle.formats.proofs.CodeLaws.{Code, code-is, ibm, whole32, whole16, gain, ieee, whole8}
 use Rattle.value.proofs.PairBytes.{pair-fetched}
-use Rattle.write_samples.specs.Samples.{wordBytes, writtenAt, pairCheck, pairsThere, samplesChecked, sampleWords, samplesWritten}
+use Rattle.write_samples.specs.Samples.{wordBytes, writtenAt, pairCheck, pairsThere, thereAndFit, samplesChecked, sampleWords, samplesWritten}
 
 -- ## The code
 
@@ -117,21 +117,25 @@ module _ (s : List ℕ) (code n at : ℕ) where
 
   -- pairs that are there and fit are written, and others leave the output as it was
   module _ (out : List ℕ) where
-    pub missing-kept : pairsThere s code n at ≡ false → samplesWritten s code n at out ≡ out
-    unfolding samplesWritten
-    missing-kept e = ap (λ (b : Bool). pick (b && eqb (length out) (n * sampleBytes code)) (sampleWords s code n at) out) e
+    pub missing : pairsThere s code n at ≡ false → thereAndFit s code n at out ≡ false
+    missing e = ap (λ (b : Bool). b && eqb (length out) (n * sampleBytes code)) e
 
-    pub unfit-kept : pairsThere s code n at ≡ true → eqb (length out) (n * sampleBytes code) ≡ false → samplesWritten s code n at out ≡ out
-    unfolding samplesWritten
-    unfit-kept e f =
-        ap (λ (b : Bool). pick (b && eqb (length out) (n * sampleBytes code)) (sampleWords s code n at) out) e
-        ∙ ap (λ (b : Bool). pick b (sampleWords s code n at) out) f
+    pub unfit : pairsThere s code n at ≡ true → eqb (length out) (n * sampleBytes code) ≡ false → thereAndFit s code n at out ≡ false
+    unfit e f = ap (λ (b : Bool). b && eqb (length out) (n * sampleBytes code)) e ∙ f
 
-    pub fit-written : pairsThere s code n at ≡ true → eqb (length out) (n * sampleBytes code) ≡ true → samplesWritten s code n at out ≡ sampleWords s code n at
+    pub both-fit : pairsThere s code n at ≡ true → eqb (length out) (n * sampleBytes code) ≡ true → thereAndFit s code n at out ≡ true
+    both-fit e f = ap (λ (b : Bool). b && eqb (length out) (n * sampleBytes code)) e ∙ f
+
+    pub as-given : isCode code ≡ true → at + n * 6 ≤ length s → length out ≡ n * sampleBytes code → thereAndFit s code n at out ≡ true
+    as-given i w o = both-fit (there i w) (eq-eqb (length out) (n * sampleBytes code) o)
+
+    pub samples-kept : thereAndFit s code n at out ≡ false → samplesWritten s code n at out ≡ out
     unfolding samplesWritten
-    fit-written e f =
-        ap (λ (b : Bool). pick (b && eqb (length out) (n * sampleBytes code)) (sampleWords s code n at) out) e
-        ∙ ap (λ (b : Bool). pick b (sampleWords s code n at) out) f
+    samples-kept e = ap (λ (b : Bool). pick b (sampleWords s code n at) out) e
+
+    pub samples-put : thereAndFit s code n at out ≡ true → samplesWritten s code n at out ≡ sampleWords s code n at
+    unfolding samplesWritten
+    samples-put e = ap (λ (b : Bool). pick b (sampleWords s code n at) out) e
 
     pub samples-written : isCode code ≡ true → at + n * 6 ≤ length s → length out ≡ n * sampleBytes code → samplesWritten s code n at out ≡ sampleWords s code n at
-    samples-written i w o = fit-written (there i w) (eq-eqb (length out) (n * sampleBytes code) o)
+    samples-written i w o = samples-put (as-given i w o)

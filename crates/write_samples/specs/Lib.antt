@@ -1,2 +1,3 @@
--- The samples of a trace, from pairs to words.
+-- The samples of a trace, from pairs to words, exactly and to the nearest.
 pub mod Samples
+pub mod Nearest

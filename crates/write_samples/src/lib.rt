@@ -1,5 +1,5 @@
-// The samples of a trace, from pairs to words: whether they can be written under a code, in one loop, and their words, in a loop
-// for words of four bytes and one for shorter words.
+// The samples of a trace, from pairs to words: whether they can be written under a code, in one loop; their words, in a loop for words of
+// four bytes and one for shorter words; and their words to the nearest, in one loop that also counts.
 ghost use mathlib.Core.Path.{_≡_};
 ghost use mathlib.Core.Bool.{true, _&&_};
 ghost use Prim.Native.Nat.{_+_, _*_, _≤_, _<_};
@@ -10,13 +10,15 @@ ghost use Rattle.numbers.specs.BigEndian.{number, bytesOf};
 ghost use Rattle.numbers.specs.Cause.{firstOf};
 ghost use Rattle.numbers.specs.Places.{placeNo};
 ghost use Rattle.formats.specs.Codes.{isCode, sampleBytes};
-ghost use Rattle.value.specs.Writing.{writePair};
+ghost use Rattle.value.specs.Writing.{writePair, nearestPair};
 ghost use Rattle.formats.specs.Words.{wordBits};
 ghost use Rattle.write_samples.specs.Samples.{pairRefused, pairCheck, wordBytes, sampleWords, samplesChecked, samplesWritten};
+ghost use Rattle.write_samples.specs.Nearest.{roundedBytes, nearestWords, pairsChanged, nearestWritten, nearestCounted};
 use formats::Written;
 use numbers::Check;
 use numbers::Place;
 use value::Pair;
+use value::Rounded;
 
 // The bits of the exponent and of the mantissa of the pair at a place.
 fn exponent_at(record: &[u8], at: usize) -> u16
@@ -254,4 +256,85 @@ pub fn write_samples(record: &[u8], code: u32, n: usize, start: Place, out: &mut
         return;
     }
     put_samples(record, code, n, at, out);
+}
+
+// ## To the nearest
+
+// The bytes of a word as nearest writing gives it, and 1 where it has another value.
+fn put_rounded(code: u32, word: Rounded, out: &mut [u8]) -> u32
+    requires { ⌜ (isCode code ≡ true) × (length (now out) ≡ sampleBytes code) ⌝ }
+    ensures { λ r. ⌜ (r ≡ word .changed) × (now (out .exit) ≡ roundedBytes code word) ⌝ }
+{
+    if formats::width_of(code as usize) < 4 {
+        put_short(code, word.bits, out);
+        return word.changed;
+    }
+    slices::put32(word.bits, out);
+    word.changed
+}
+
+// The word of the nearest value to a pair's under one of the codes. The tests are as they are in `word_of`, and for the same reason.
+fn put_nearest_word(code: u32, p: Pair, out: &mut [u8]) -> u32
+    requires { ⌜ (isCode code ≡ true) × (length (now out) ≡ sampleBytes code) ⌝ }
+    ensures { λ r. ⌜ (r ≡ nearestPair code p .changed) × (now (out .exit) ≡ roundedBytes code (nearestPair code p)) ⌝ }
+{
+    if code < 4 {
+        if code < 2 {
+            return put_rounded(1, value::nearest(1, p), out);
+        }
+        if code < 3 {
+            return put_rounded(2, value::nearest(2, p), out);
+        }
+        return put_rounded(3, value::nearest(3, p), out);
+    }
+    if code < 5 {
+        return put_rounded(4, value::nearest(4, p), out);
+    }
+    if code < 6 {
+        return put_rounded(5, value::nearest(5, p), out);
+    }
+    put_rounded(8, value::nearest(8, p), out)
+}
+
+// The samples of a trace to the nearest, and how many have another value. The bits of a pair are fetched a turn early.
+fn put_nearest(record: &[u8], code: u32, n: usize, start: usize, out: &mut [u8]) -> usize
+    requires { ⌜ (isCode code ≡ true) × (start + n * 6 ≤ length (now «record»)) × (length (now out) ≡ n * sampleBytes code) ⌝ }
+    ensures { λ r. ⌜ (r ≡ pairsChanged (now («record» .entry)) code n start) × (now (out .exit) ≡ nearestWords (now («record» .entry)) code n start) ⌝ }
+{
+    if n < 1 {
+        return 0;
+    }
+    let v = formats::width_of(code as usize);
+    let mut at = start;
+    let mut o = 0;
+    let mut left = n - 1;
+    let mut count = 0;
+    let mut e = exponent_at(record, start);
+    let mut m = mantissa_at(record, start);
+    while 0 < left {
+        let next = o + v;
+        count += put_nearest_word(code, value::pair_of_bits(e, m), &mut out[o..next]) as usize;
+        at += 6;
+        e = exponent_at(record, at);
+        m = mantissa_at(record, at);
+        o = next;
+        left -= 1;
+    }
+    let last = value::nearest(code, value::pair_of_bits(e, m));
+    count + put_rounded(code, last, &mut out[o..o + v]) as usize
+}
+
+// The samples of a trace to the nearest: the words of n pairs from a place on, and how many have another value than their pairs. Where the
+// code is none, the pairs aren't all there or the output isn't as long as n words, it is left as it was, and the count is 0.
+pub fn write_nearest(record: &[u8], code: u32, n: usize, start: Place, out: &mut [u8]) -> usize
+    ensures { λ r. ⌜ (r ≡ nearestCounted (now («record» .entry)) code n (placeNo start) (now (out .entry))) × (now (out .exit) ≡ nearestWritten (now («record» .entry)) code n (placeNo start) (now (out .entry))) ⌝ }
+{
+    let at = start.0;
+    if !are_there(record.len(), code, n, at) {
+        return 0;
+    }
+    if !slices::make_up(out.len(), n, formats::width_of(code as usize)) {
+        return 0;
+    }
+    put_nearest(record, code, n, at, out)
 }

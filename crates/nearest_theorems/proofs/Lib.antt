@@ -1,0 +1,6 @@
+-- The theorems about nearest writing, and what they rest on.
+pub mod Refusals
+pub mod Values
+pub mod Meanings
+pub mod Reels
+pub mod Theorems
