@@ -1,16 +1,20 @@
--- A record's reel as the code writes it, by copying what can be copied and storing the format code over it: for the functions inside this
--- crate.
+-- A record's reel as the code writes it, exactly or to the nearest, by copying what can be copied and storing the format code over it: for
+-- the functions inside this crate.
 use Prim.Native.Nat.{ℕ, _+_, _-_}
-use mathlib.Core.List.{List, _++_, map}
-use lib.ListN.{length, replicate}
-use Rattle.numbers.specs.Walk.{walk, flat, bytesAt, overwritten}
+use mathlib.Core.Bool.{Bool}
+use mathlib.Core.List.{List, [], _∷_, _++_, map}
+use lib.Dec.{ltb}
+use lib.ListN.{length, replicate, drop}
+use Rattle.numbers.specs.Walk.{pick, walk, flat, sum, bytesAt, overwritten}
+use Rattle.numbers.specs.Outcome.{taken, refused, Outcome}
 use Rattle.numbers.specs.Places.{bytePlace}
 use Rattle.numbers.specs.BigEndian.{bytesOf}
 use Rattle.reel.specs.Layout.{cardBytes, traceHeader}
 use Rattle.write_samples.specs.Samples.{sampleWords}
+use Rattle.write_samples.specs.Nearest.{nearestWords, pairsChanged}
 use Rattle.headers.specs.Header.{headerSize}
 use Rattle.record.specs.Form.{fieldHead, binarySize, binaryStart, toPairs, heldStride, tracesPlace}
-use Rattle.write_reel.specs.Reel.{binaryHeader}
+use Rattle.write_reel.specs.Reel.{binaryHeader, reelLength}
 
 -- Unassigned bytes in place of a slice's content.
 unfoldable pub zerosFor : List ℕ → List ℕ
@@ -20,17 +24,43 @@ zerosFor out = replicate (length out) 0
 unfoldable pub reelHeaderCopied : ℕ → List ℕ → List ℕ
 reelHeaderCopied size assigned = assigned ++ replicate (size - length assigned) 0
 
--- The trace whose tag 03 stands at the place `at`.
-unfoldable pub reelTraceCopied : List ℕ → ℕ → ℕ → ℕ → List ℕ
-reelTraceCopied s code n at = reelHeaderCopied traceHeader (bytesAt s (at + fieldHead) headerSize) ++ sampleWords s code n (at + toPairs)
+-- The words of n samples whose pairs stand from a place on: to the nearest where `near` is set, else exactly;
+unfoldable pub samplesCopied : Bool → List ℕ → ℕ → ℕ → ℕ → List ℕ
+samplesCopied near s code n at = pick near (nearestWords s code n at) (sampleWords s code n at)
+
+-- and how many have another value than their pairs.
+unfoldable pub samplesChanged : Bool → List ℕ → ℕ → ℕ → ℕ → ℕ
+samplesChanged near s code n at = pick near (pairsChanged s code n at) 0
+
+-- The trace whose tag 03 stands at the place `at`;
+unfoldable pub reelTraceCopied : Bool → List ℕ → ℕ → ℕ → ℕ → List ℕ
+reelTraceCopied near s code n at =
+    reelHeaderCopied traceHeader (bytesAt s (at + fieldHead) headerSize) ++ samplesCopied near s code n (at + toPairs)
+
+-- and how many of its samples changed, and of t traces from a place on.
+unfoldable pub traceChanged : Bool → List ℕ → ℕ → ℕ → ℕ → ℕ
+traceChanged near s code n at = samplesChanged near s code n (at + toPairs)
+
+unfoldable pub tracesChanged : Bool → List ℕ → ℕ → ℕ → ℕ → ℕ → ℕ
+tracesChanged near s code n t at = sum (walk (traceChanged near s code n) (heldStride n) t at)
 
 -- The reel of t traces of n samples, but for its format code, which a record has as 0.
-unfoldable pub partsCopied : List ℕ → ℕ → ℕ → ℕ → List ℕ
-partsCopied s code n t =
+unfoldable pub partsCopied : Bool → List ℕ → ℕ → ℕ → ℕ → List ℕ
+partsCopied near s code n t =
     bytesAt s fieldHead cardBytes
     ++ (reelHeaderCopied binaryHeader (bytesAt s (bytePlace binaryStart 3201) binarySize)
-    ++ flat (map (reelTraceCopied s code n) (walk (λ p. p) (heldStride n) t tracesPlace)))
+    ++ flat (map (reelTraceCopied near s code n) (walk (λ p. p) (heldStride n) t tracesPlace)))
 
 -- The reel of t traces of n samples.
-unfoldable pub reelCopied : List ℕ → ℕ → ℕ → ℕ → List ℕ
-reelCopied s code n t = overwritten (partsCopied s code n t) (bytePlace 0 3225) (bytesOf 2 code)
+unfoldable pub reelCopied : Bool → List ℕ → ℕ → ℕ → ℕ → List ℕ
+reelCopied near s code n t = overwritten (partsCopied near s code n t) (bytePlace 0 3225) (bytesOf 2 code)
+
+-- The outcome of writing it into an output: refused by 10 where that is too short, else taken with T, N, the length and the count.
+abbrev pub copiedOutcome : Bool → List ℕ → ℕ → ℕ → ℕ → List ℕ → Outcome
+copiedOutcome near s code n t out =
+    pick (ltb (length out) (reelLength code t n))
+    (record { said = refused 10 (reelLength code t n); bytes = out })
+    (record {
+      said = taken (t ∷ n ∷ reelLength code t n ∷ tracesChanged near s code n t tracesPlace ∷ []);
+      bytes = reelCopied near s code n t ++ drop (reelLength code t n) out;
+    })

@@ -1,24 +1,29 @@
-// Writing a record as a reel. Two passes: `fit::judge_fit` looks for a cause against the record and its samples, and then the
-// reel is written. Each function that writes is lent exactly the bytes that it writes.
+// Writing a record as a reel, exactly or to the nearest. Two passes: `fit::judge_fit`, or `record::judge_record`, looks for a cause against
+// the record, and in exact writing against its samples; then the reel is written. Each function that writes is lent exactly the bytes that it
+// writes.
 ghost use mathlib.Core.Path.{_≡_};
-ghost use mathlib.Core.Bool.{true};
+ghost use mathlib.Core.Bool.{true, not};
 ghost use mathlib.Core.List.{map};
 ghost use Prim.Native.Nat.{_+_, _*_, _≤_};
 ghost use lib.ListN.{length};
 ghost use Rattle.numbers.specs.Walk.{walk, flat, overwritten};
+ghost use Rattle.numbers.specs.Cause.{refuseIf, then};
 ghost use Rattle.numbers.specs.Places.{bytePlace};
 ghost use Rattle.numbers.specs.BigEndian.{bytesOf};
 ghost use Rattle.formats.specs.Codes.{isCode, sampleBytes};
 ghost use Rattle.reel.specs.Layout.{firstTrace, stride};
 ghost use Rattle.reel.specs.Causes.{mostSamples};
-ghost use Rattle.record.specs.Form.{heldStride, tracesPlace};
+ghost use Rattle.record.specs.Form.{heldStride, tracesPlace, formCauses, recordFound, recordJudged};
 ghost use Rattle.fit.specs.Target.{fitJudged};
-ghost use Rattle.record.specs.Answer.{outcome};
+ghost use Rattle.record.specs.Answer.{outcome, countedOutcome};
 ghost use Rattle.write_reel.specs.Writing.{writeOutcome};
-ghost use Rattle.write_reel.specs.Copied.{zerosFor, reelHeaderCopied, reelTraceCopied, reelCopied};
+ghost use Rattle.write_reel.specs.Nearest.{nearestOutcome};
+ghost use Rattle.write_reel.specs.Copied.{zerosFor, reelHeaderCopied, samplesCopied, samplesChanged, reelTraceCopied, traceChanged, tracesChanged, reelCopied, copiedOutcome};
 use numbers::ByteNo;
+use numbers::Check;
 use numbers::Place;
 use record::Answer;
+use record::Counted;
 use record::Judged;
 
 // Bytes 00, which unassigned bytes are.
@@ -43,31 +48,61 @@ fn put_header(assigned: &[u8], out: &mut [u8])
     put_zeros(&mut out[k..e]);
 }
 
-// A trace: its 71 fields, the unassigned bytes of its header, and its samples.
-fn put_trace(record: &[u8], code: u32, n: usize, at: usize, out: &mut [u8])
+// The samples of a trace, to the nearest where `near` is set, else exactly; and how many changed.
+fn put_samples(
+    record: &[u8],
+    near: bool,
+    code: u32,
+    n: usize,
+    start: usize,
+    out: &mut [u8],
+) -> usize
+    requires { ⌜ (isCode code ≡ true) × (start + n * 6 ≤ length (now «record»)) × (length (now out) ≡ n * sampleBytes code) ⌝ }
+    ensures { λ r. ⌜ (r ≡ samplesChanged near (now («record» .entry)) code n start) × (now (out .exit) ≡ samplesCopied near (now («record» .entry)) code n start) ⌝ }
+{
+    if near {
+        return write_samples::write_nearest(record, code, n, Place(start), out);
+    }
+    write_samples::write_samples(record, code, n, Place(start), out);
+    0
+}
+
+// A trace: its 71 fields, the unassigned bytes of its header, and its samples; and how many of these changed.
+fn put_trace(record: &[u8], near: bool, code: u32, n: usize, at: usize, out: &mut [u8]) -> usize
     requires { ⌜ (isCode code ≡ true) × (at + heldStride n ≤ length (now «record»)) × (length (now out) ≡ stride n (sampleBytes code)) ⌝ }
-    ensures { λ _. ⌜ now (out .exit) ≡ reelTraceCopied (now («record» .entry)) code n at ⌝ }
+    ensures { λ r. ⌜ (r ≡ traceChanged near (now («record» .entry)) code n at) × (now (out .exit) ≡ reelTraceCopied near (now («record» .entry)) code n at) ⌝ }
 {
     let e = out.len();
     put_header(&record[at + 3..at + 183], &mut out[0..240]);
-    write_samples::write_samples(record, code, n, Place(at + 186), &mut out[240..e]);
+    put_samples(record, near, code, n, at + 186, &mut out[240..e])
 }
 
-// The traces, one behind the other.
-fn put_traces(record: &[u8], code: u32, n: usize, w: usize, m: usize, t: usize, out: &mut [u8])
+// The traces, one behind the other; and how many samples changed.
+fn put_traces(
+    record: &[u8],
+    near: bool,
+    code: u32,
+    n: usize,
+    w: usize,
+    m: usize,
+    t: usize,
+    out: &mut [u8],
+) -> usize
     requires { ⌜ (isCode code ≡ true) × (w ≡ stride n (sampleBytes code)) × (m ≡ heldStride n) × (tracesPlace + t * m ≤ length (now «record»)) × (length (now out) ≡ t * w) ⌝ }
-    ensures { λ _. ⌜ now (out .exit) ≡ flat (map (reelTraceCopied (now («record» .entry)) code n) (walk (λ p. p) (heldStride n) t tracesPlace)) ⌝ }
+    ensures { λ r. ⌜ (r ≡ tracesChanged near (now («record» .entry)) code n t tracesPlace) × (now (out .exit) ≡ flat (map (reelTraceCopied near (now («record» .entry)) code n) (walk (λ p. p) (heldStride n) t tracesPlace))) ⌝ }
 {
     let mut at = 3266;
     let mut o = 0;
     let mut left = t;
+    let mut count = 0;
     while 0 < left {
         let e = o + w;
-        put_trace(record, code, n, at, &mut out[o..e]);
+        count += put_trace(record, near, code, n, at, &mut out[o..e]);
         at += m;
         o = e;
         left -= 1;
     }
+    count
 }
 
 // A format code in its field of a reel.
@@ -79,16 +114,48 @@ fn put_code(code: u32, out: &mut [u8])
     slices::put16(code as u16, &mut out[p..p + 2]);
 }
 
-// The reel of t traces of n samples, which fills out.
-fn put_reel(record: &[u8], code: u32, n: usize, w: usize, t: usize, out: &mut [u8])
+// The reel of t traces of n samples, which fills out; and how many samples changed.
+fn put_reel(
+    record: &[u8],
+    near: bool,
+    code: u32,
+    n: usize,
+    w: usize,
+    t: usize,
+    out: &mut [u8],
+) -> usize
     requires { ⌜ (isCode code ≡ true) × (w ≡ stride n (sampleBytes code)) × (n ≤ mostSamples) × (tracesPlace + t * heldStride n ≤ length (now «record»)) × (length (now out) ≡ firstTrace + t * w) ⌝ }
-    ensures { λ _. ⌜ now (out .exit) ≡ reelCopied (now («record» .entry)) code n t ⌝ }
+    ensures { λ r. ⌜ (r ≡ tracesChanged near (now («record» .entry)) code n t tracesPlace) × (now (out .exit) ≡ reelCopied near (now («record» .entry)) code n t) ⌝ }
 {
     let e = out.len();
     slices::copy(&record[3..3203], &mut out[0..3200]);
     put_header(&record[3206..3266], &mut out[3200..3600]);
-    put_traces(record, code, n, w, 186 + 6 * n, t, &mut out[3600..e]);
+    let count = put_traces(record, near, code, n, w, 186 + 6 * n, t, &mut out[3600..e]);
     put_code(code, out);
+    count
+}
+
+// A valid record under one of the codes, by its N and T: its reel, or 10 where the output is too short.
+fn put_checked(record: &[u8], near: bool, code: u32, n: usize, t: usize, reel: &mut [u8]) -> Counted
+    requires { ⌜ (isCode code ≡ true) × (recordJudged (now «record») ≡ Judged.Fine n t) ⌝ }
+    ensures { λ r. ⌜ countedOutcome r (now (reel .exit)) ≡ copiedOutcome near (now («record» .entry)) code n t (now (reel .entry)) ⌝ }
+{
+    let v = formats::width_of(code as usize);
+    let w = 240 + n * v;
+    let length = 3600 + t * w;
+    if reel.len() < length {
+        return Counted::Refused {
+            number: 10,
+            place: Place(length),
+        };
+    }
+    let count = put_reel(record, near, code, n, w, t, &mut reel[..length]);
+    Counted::Taken {
+        traces: t,
+        samples: n,
+        length,
+        count,
+    }
 }
 
 // A record that can be written under the code, by its N and T.
@@ -96,20 +163,19 @@ fn write_checked(record: &[u8], code: u32, n: usize, t: usize, reel: &mut [u8]) 
     requires { ⌜ fitJudged (now «record») code ≡ Judged.Fine n t ⌝ }
     ensures { λ r. ⌜ outcome r (now (reel .exit)) ≡ writeOutcome (now («record» .entry)) code (now (reel .entry)) ⌝ }
 {
-    let v = formats::width_of(code as usize);
-    let w = 240 + n * v;
-    let length = 3600 + t * w;
-    if reel.len() < length {
-        return Answer::Refused {
-            number: 10,
-            place: Place(length),
-        };
-    }
-    put_reel(record, code, n, w, t, &mut reel[..length]);
-    Answer::Taken {
-        traces: t,
-        samples: n,
-        length,
+    let c = put_checked(record, false, code, n, t, reel);
+    match c {
+        Counted::Taken {
+            traces,
+            samples,
+            length,
+            count: _,
+        } => Answer::Taken {
+            traces,
+            samples,
+            length,
+        },
+        Counted::Refused { number, place } => Answer::Refused { number, place },
     }
 }
 
@@ -121,5 +187,28 @@ pub fn write_reel(record: &[u8], code: u32, reel: &mut [u8]) -> Answer
     match c {
         Judged::Refused { number, place } => Answer::Refused { number, place },
         Judged::Fine { samples, traces } => write_checked(record, code, samples, traces, reel),
+    }
+}
+
+// Whether the code is one of the codes and the record valid, by the causes 11, 12 and 13, and its N and T where none applies.
+fn judge_writable(record: &[u8], code: u32) -> Judged
+    ensures { λ r. ⌜ r ≡ recordFound (now («record» .entry)) (then (refuseIf (not (isCode code)) 11 0) (formCauses (now («record» .entry)))) ⌝ }
+{
+    let c = reel::check_code(code as usize, 11, Place(0));
+    match c {
+        Check::Refused { number, place } => Judged::Refused { number, place },
+        Check::Fine => record::judge_record(record),
+    }
+}
+
+// Writes a record under a target code as a reel, each sample as the nearest value of the code, into the front of a reel buffer, and counts
+// the samples whose value changed.
+pub fn write_nearest(record: &[u8], code: u32, reel: &mut [u8]) -> Counted
+    ensures { λ r. ⌜ countedOutcome r (now (reel .exit)) ≡ nearestOutcome (now («record» .entry)) code (now (reel .entry)) ⌝ }
+{
+    let c = judge_writable(record, code);
+    match c {
+        Judged::Refused { number, place } => Counted::Refused { number, place },
+        Judged::Fine { samples, traces } => put_checked(record, true, code, samples, traces, reel),
     }
 }

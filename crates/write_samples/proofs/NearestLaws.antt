@@ -3,7 +3,7 @@
 use mathlib.Core.Path.{_≡_, refl, sym, ap, _∙_}
 use mathlib.Core.Bool.{Bool, true, false, _&&_}
 use mathlib.Core.List.{List, []}
-use Prim.Native.Nat.{ℕ, _+_, _-_, _*_, _≤_, _<_}
+use Prim.Native.Nat.{ℕ, zero, suc, _+_, _-_, _*_, _≤_, _<_}
 use native.Mathlib.Omega.{arith}
 use lib.Dec.{eqb}
 use lib.ListN.{length}
@@ -13,12 +13,13 @@ use Rattle.numbers.proofs.WalkLaws.{flat-length, flat-none, sum-none, sum-more}
 use Rattle.numbers.proofs.ByteLaws.{length-bytes}
 use Rattle.formats.specs.Codes.{isCode, sampleBytes, formatOf}
 use Rattle.formats.specs.Nearest.{distance, nearestIn}
-use Rattle.value.specs.Pair.{pairLength, pairOfBits, isCanonical, valueOf}
+use Rattle.value.specs.Pair.{pairLength, pairIn, pairOfBits, isCanonical, valueOf}
 use Rattle.value.specs.Writing.{nearestPair}
 use Rattle.value.specs.declared.Pair.{Pair}
 use Rattle.value.specs.declared.Rounded.{Rounded}
 use Rattle.value.proofs.PairBytes.{pair-fetched}
 use Rattle.write_samples.specs.Samples.{thereAndFit}
+use Rattle.write_samples.proofs.WordLaws.{as-given}
 use Rattle.write_samples.specs.Nearest.{nearestAt, roundedBytes, nearestWords, pairsChanged, nearestWritten, nearestCounted}
 
 -- ## Words
@@ -71,6 +72,12 @@ module _ (s : List ℕ) (code : ℕ) where
       let e : k + 1 - 1 ≡ k = omega arith in
       sum-more (λ p. nearestAt s code p .changed) pairLength (k + 1) at (omega arith) ∙ ap (λ (j : ℕ). nearestAt s code at .changed + pairsChanged s code j (at + 6)) e
 
+  -- no more than there are pairs
+  pub pairs-most : (k at : ℕ) → pairsChanged s code k at ≤ k
+  unfolding pairsChanged
+  pairs-most zero at = omega arith
+  pairs-most (suc k) at = omega (arith, changed-most code (pairIn (bytesAt s at pairLength)), pairs-most k (at + pairLength))
+
 -- ## The call
 
 module _ (s : List ℕ) (code n at : ℕ) (out : List ℕ) where
@@ -81,3 +88,7 @@ module _ (s : List ℕ) (code n at : ℕ) (out : List ℕ) where
   pub nearest-put : thereAndFit s code n at out ≡ true → (nearestCounted s code n at out ≡ pairsChanged s code n at) × (nearestWritten s code n at out ≡ nearestWords s code n at)
   unfolding nearestWritten nearestCounted
   nearest-put e = (ap (λ (b : Bool). pick b (pairsChanged s code n at) 0) e, ap (λ (b : Bool). pick b (nearestWords s code n at) out) e)
+
+  -- of pairs that are there, into an output as long as their words
+  pub as-nearest : isCode code ≡ true → at + n * 6 ≤ length s → length out ≡ n * sampleBytes code → (nearestCounted s code n at out ≡ pairsChanged s code n at) × (nearestWritten s code n at out ≡ nearestWords s code n at)
+  as-nearest i w o = nearest-put (as-given s code n at out i w o)

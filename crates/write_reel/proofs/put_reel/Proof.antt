@@ -41,22 +41,22 @@ returns c =
     let from = bytePlace binaryStart 3201 in
     let x = bytesAt s fieldHead cardBytes in
     let y = reelHeaderCopied binaryHeader (bytesAt s from binarySize) in
-    let z = flat (map (reelTraceCopied s (a .code) (a .n)) (walk (λ p. p) (heldStride (a .n)) (a .t) tracesPlace)) in
+    let z = flat (map (reelTraceCopied (a .near) s (a .code) (a .n)) (walk (λ p. p) (heldStride (a .n)) (a .t) tracesPlace)) in
     let wide : a .t * a .w ≡ a .t * stride (a .n) (sampleBytes (a .code)) = ap (λ (k : ℕ). a .t * k) (b .pre .1) in
     let cards = copied _ _ (copy .copy .ensures) (omega (arith, copy .before .before .copy-arg .given .2, copy .before .copy-arg2 .given .2)) ∙ bytes-between s fieldHead binaryPlace cardBytes (omega (arith, b .pre .3)) refl in
     let binary = header .put-header .ensures ∙ ap₂ reelHeaderCopied (header .before .put-header-arg2 .given .2) (bytes-between s from tracesPlace binarySize (omega (arith, b .pre .3)) refl) in
-    let w₀ = start _ (a .out .now) (b .pre .4 ∙ ap (λ (k : ℕ). firstTrace + k) wide ∙ sym (size-parts s (a .code) (a .n) (a .t))) in
+    let w₀ = start _ (a .out .now) (b .pre .4 ∙ ap (λ (k : ℕ). firstTrace + k) wide ∙ sym (size-parts (a .near) s (a .code) (a .n) (a .t))) in
     let w₁ = lend x (y ++ z) cardBytes w₀ (omega arith) (size-bytes s fieldHead cardBytes) cards in
     let w₂ = lend y z firstTrace w₁ (omega arith) (size-bytes-header binaryHeader s from binarySize (omega arith)) binary in
-    let size : length z ≡ length (a .out .now) - firstTrace = size-traces s (a .code) (a .n) (a .t) tracesPlace ∙ sym wide ∙ omega (arith, b .pre .4) in
-    let parts = close z (length (a .out .now)) w₂ (omega (arith, b .pre .4)) size (traces .put-traces .ensures) in
-    c .before .before .put-code .ensures ∙ ap (λ (l : List ℕ). overwritten l (bytePlace 0 3225) (bytesOf 2 (a .code))) parts
+    let size : length z ≡ length (a .out .now) - firstTrace = size-traces (a .near) s (a .code) (a .n) (a .t) tracesPlace ∙ sym wide ∙ omega (arith, b .pre .4) in
+    let parts = close z (length (a .out .now)) w₂ (omega (arith, b .pre .4)) size (traces .put-traces .ensures .1) in
+    (traces .put-traces .ensures .0, c .before .before .put-code .ensures ∙ ap (λ (l : List ℕ). overwritten l (bytePlace 0 3225) (bytesOf 2 (a .code))) parts)
 
 same-length : tie.Need-same-length
 same-length c =
     let b = c .before .before .before .before .before .before .before .before .before .before .before .before .before .before .before .before .before .before .before .before in
     let a = b .args in
-    ap length (returns c) ∙ (size-reel (a .«record» .now) (a .code) (a .n) (a .t) ∙ ap (λ (k : ℕ). firstTrace + a .t * k) (sym (b .pre .1)) ∙ sym (b .pre .4))
+    ap length (returns c .1) ∙ (size-reel (a .near) (a .«record» .now) (a .code) (a .n) (a .t) ∙ ap (λ (k : ℕ). firstTrace + a .t * k) (sym (b .pre .1)) ∙ sym (b .pre .4))
 
 pub put-reel-spec : {M : Type 1} → statement M
 put-reel-spec =

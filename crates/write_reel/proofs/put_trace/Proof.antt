@@ -1,8 +1,6 @@
 -- `write_reel::put_trace` meets its contract. Assumes nothing.
-use Rattle.write_samples.specs.Samples.{sampleWords}
-use Rattle.write_samples.proofs.WordLaws.{size-samples, samples-written}
-use Rattle.write_reel.proofs.CopiedLaws.{size-bytes-header, size-trace}
-use Rattle.write_reel.specs.Copied.{reelHeaderCopied, reelTraceCopied}
+use Rattle.write_reel.proofs.CopiedLaws.{size-bytes-header, size-samples-copied, size-trace}
+use Rattle.write_reel.specs.Copied.{reelHeaderCopied, samplesCopied, traceChanged, reelTraceCopied}
 use Rattle.headers.specs.Header.{headerSize}
 use Rattle.record.specs.Form.{fieldHead, toSamples, toPairs}
 use Rattle.reel.specs.Layout.{traceHeader}
@@ -18,7 +16,7 @@ use Rattle.write_reel.proofs.put_trace.Statement.{statement}
 use Rattle.write_reel.proofs.put_trace.Tie as tie
 
 returns : tie.Need-returns
-unfolding reelTraceCopied
+unfolding traceChanged reelTraceCopied
 returns c =
     let h = c .before .before .before .before .before .before in
     let b = h .before .before .before .before .before in
@@ -27,12 +25,12 @@ returns c =
     let from = a .at + fieldHead in
     let pairs = a .at + toPairs in
     let x = reelHeaderCopied traceHeader (bytesAt s from headerSize) in
-    let z = sampleWords s (a .code) (a .n) pairs in
+    let z = samplesCopied (a .near) s (a .code) (a .n) pairs in
     let header = h .put-header .ensures ∙ ap₂ reelHeaderCopied (h .before .put-header-arg2 .given .2) (bytes-between s from (a .at + toSamples) headerSize (omega (arith, b .pre .1)) (omega arith)) in
-    let w₀ = start _ (a .out .now) (b .pre .2 ∙ sym (size-trace s (a .code) (a .n) (a .at))) in
+    let w₀ = start _ (a .out .now) (b .pre .2 ∙ sym (size-trace (a .near) s (a .code) (a .n) (a .at))) in
     let w₁ = lend x z traceHeader w₀ (omega arith) (size-bytes-header traceHeader s from headerSize (omega arith)) header in
-    let size : length z ≡ length (a .out .now) - traceHeader = size-samples s (a .code) (a .n) pairs ∙ omega (arith, b .pre .2) in
-    close z (length (a .out .now)) w₁ (omega (arith, b .pre .2)) size (c .before .before .write-samples .ensures ∙ samples-written s (a .code) (a .n) pairs _ (b .pre .0) (omega (arith, b .pre .1)) (c .before .before .before .write-samples-arg .given .2 ∙ omega (arith, b .pre .2)))
+    let size : length z ≡ length (a .out .now) - traceHeader = size-samples-copied (a .near) s (a .code) (a .n) pairs ∙ omega (arith, b .pre .2) in
+    (c .before .before .put-samples .ensures .0, close z (length (a .out .now)) w₁ (omega (arith, b .pre .2)) size (c .before .before .put-samples .ensures .1))
 
 pub put-trace-spec : {M : Type 1} → statement M
 put-trace-spec =

@@ -1,87 +1,44 @@
 -- `write_reel::write_checked` meets its contract. Assumes nothing.
 use Rattle.fit.specs.Target.{targetCauses}
+use Rattle.record.specs.Answer.{countedOutcome}
+use Rattle.record.specs.declared.Counted.{Counted}
 use Rattle.record.proofs.JudgedLaws.{Own, own}
-use Rattle.write_reel.proofs.WriteLaws.{Fit, fit, short-end, taken-end}
+use Rattle.write_reel.specs.Writing.{writeOutcome}
+use Rattle.write_reel.proofs.WriteLaws.{own-judged, withoutCount, own-form, exact-end}
 use Rattle.numbers.proofs.ByteLaws.{all-bytes}
-use Rattle.reel.specs.Layout.{firstTrace, stride}
-use Rattle.formats.specs.Codes.{sampleBytes}
-use lib.Seq.{length-take-le}
-use Prim.Native.Nat.{ℕ, _+_, _*_, _≤_}
-use mathlib.Core.Path.{_≡_, sym, ap, subst}
+use mathlib.Core.List.{List}
+use mathlib.Core.Path.{_≡_, sym, ap, _∙_}
+use Prim.Native.Nat.{ℕ}
 use native.Mathlib.Omega.{arith}
+use borrow.Author.Needs.{needs}
 use Rattle.write_reel.proofs.write_checked.Statement.{statement}
 use Rattle.write_reel.proofs.write_checked.Tie as tie
 
 owns : (c : tie.Start) → let a = c .args in Own (a .«record» .now) (targetCauses (a .«record» .now) (a .code)) (a .n) (a .t)
 owns c = let a = c .args in own (a .«record» .now) (targetCauses (a .«record» .now) (a .code)) (c .pre)
 
-fits : (c : tie.Start) → let a = c .args in Fit (a .«record» .now) (a .code) (a .n) (a .t)
-fits c = let a = c .args in fit (a .«record» .now) (a .code) (a .n) (a .t) (owns c)
+put-checked-requires : tie.Need-put-checked-requires
+put-checked-requires c κs =
+    let s = c .before .before .before in
+    let a = s .args in
+    let f = own-form (a .«record» .now) (a .code) (a .reel .now) (a .n) (a .t) (owns s) in
+    (f .0, own-judged (a .«record» .now) (a .n) (a .t) (f .1))
 
--- a trace's bytes on the reel, and the reel's length
-wide : (c : tie.After-width-of) → 240 + c .before .before .before .args .n * c .width-of .result ≤ 32240
-wide c = subst (λ (v : ℕ). 240 + c .before .before .before .args .n * v ≤ 32240) (sym (c .width-of .ensures .0)) (fits (c .before .before .before) .wide)
-
-most : (c : tie.After-width-of) → c .before .before .before .args .t * (240 + c .before .before .before .args .n * c .width-of .result) ≤ 100000 * 32240
-most c = subst (λ (v : ℕ). c .before .before .before .args .t * (240 + c .before .before .before .args .n * v) ≤ 100000 * 32240) (sym (c .width-of .ensures .0)) (fits (c .before .before .before) .size)
-
-size : (c : tie.After-width-of) → let a = c .before .before .before .args in 3600 + a .t * (240 + a .n * c .width-of .result) ≡ firstTrace + a .t * stride (a .n) (sampleBytes (a .code))
-size c = let a = c .before .before .before .args in ap (λ (v : ℕ). 3600 + a .t * (240 + a .n * v)) (c .width-of .ensures .0)
-
-mul-w : tie.Need-mul-w
-mul-w c = omega (arith, wide c)
-
-add-w : tie.Need-add-w
-add-w c = omega (arith, wide c)
-
-mul-length : tie.Need-mul-length
-mul-length c = omega (arith, most c)
-
-add-length : tie.Need-add-length
-add-length c = omega (arith, most c)
+-- the answer without its count, by what was told of it
+ends : (c : tie.After-put-checked) (r : Counted) → c .put-checked .result ≡ r
+    → let a = c .before .before .before .before .args in withoutCount (countedOutcome r (c .put-checked .last .1 .1 .1 .1 .1 .0)) ≡ writeOutcome (a .«record» .now) (a .code) (a .reel .now)
+ends c r told =
+    let b = c .before .before .before .before in
+    let a = b .args in
+    let s = a .«record» .now in
+    ap (λ (x : Counted). withoutCount (countedOutcome x (c .put-checked .last .1 .1 .1 .1 .1 .0))) (sym told) ∙ ap withoutCount (c .put-checked .ensures)
+    ∙ exact-end s (a .code) (a .reel .now) (a .n) (a .t) (all-bytes s (λ i. omega (arith, c .before .before .before .shared-slice-known .given i))) (owns b)
 
 returns : tie.Need-returns
-returns c =
-    let s = c .before .before .before .before in
-    let a = s .args in
-    short-end (a .«record» .now) (a .code) (a .reel .now) (a .n) (a .t) (3600 + a .t * (240 + a .n * c .before .width-of .result)) (owns s) (size (c .before)) (c .if1 .taken)
-
-slice-relend-prefix-put-reel : tie.Need-slice-relend-prefix-put-reel
-slice-relend-prefix-put-reel c = c .if1 .left
-
-slice-aggregate-put-reel : tie.Need-slice-aggregate-put-reel
-slice-aggregate-put-reel c =
-    let a = c .before .before .before .before .before .args in
-    sym (length-take-le (3600 + a .t * (240 + a .n * c .before .before .width-of .result)) (a .reel .now) (c .before .if1 .left))
-
-put-reel-requires : tie.Need-put-reel-requires
-put-reel-requires c κs =
-    let s = c .before .before .before .before .before in
-    let a = s .args in
-    let f = fits s in
-    (f .a-code, ap (λ (v : ℕ). 240 + a .n * v) (c .before .before .width-of .ensures .0), f .n-high, f .room, length-take-le (3600 + a .t * (240 + a .n * c .before .before .width-of .result)) (a .reel .now) (c .before .if1 .left))
-
-same-length : tie.Need-same-length
-same-length c = c .before .reel .given .1
+returns c = ends (c .before .before .before .before .before) _ (c .before .c .given .1)
 
 returns-2 : tie.Need-returns-2
-returns-2 c =
-    let s = c .before .before .before .before .before .before .before .before in
-    let a = s .args in
-    taken-end (a .«record» .now) (a .code) (a .reel .now) (a .n) (a .t) (3600 + a .t * (240 + a .n * c .before .before .before .before .before .width-of .result)) (owns s) (size (c .before .before .before .before .before)) (all-bytes (a .«record» .now) (λ i. omega (arith, c .before .before .before .before .before .before .before .shared-slice-known .given i))) _ (c .before .before .put-reel .ensures) (c .before .before .before .before .if1 .left)
+returns-2 c = ends (c .before .before .before .before .before) _ (c .before .c2 .given .1)
 
 pub write-checked-spec : {M : Type 1} → statement M
-write-checked-spec =
-    tie.close
-    (tie.spec
-    (λ c κs. tt)
-    mul-w
-    add-w
-    mul-length
-    add-length
-    returns
-    slice-relend-prefix-put-reel
-    slice-aggregate-put-reel
-    put-reel-requires
-    same-length
-    returns-2)
+write-checked-spec = tie.close (tie.spec put-checked-requires (λ c. search needs) (λ c. search needs) (λ c. search needs) returns (λ c. search needs) returns-2)
