@@ -14,13 +14,14 @@ pub data Handed (A : Type 0) : Type 0 where
   handed : A → Handed A
   lost : Handed A
 
--- A taken call on a whole reel or record, in numbers: number 0, T, N, the length and the count.
-abbrev pub takenAnswer : ℕ → ℕ → ℕ → ℕ → ReelAnswer
-takenAnswer t n l c = record { number = 0; traces = t; samples = n; length = l; beside = 0; «not_normal» = c }
+-- A taken call on a whole reel or record, in numbers: number 0, T, N, the length, the count of words that are not normal and that of
+-- samples whose value changed.
+abbrev pub takenAnswer : ℕ → ℕ → ℕ → ℕ → ℕ → ReelAnswer
+takenAnswer t n l c d = record { number = 0; traces = t; samples = n; length = l; beside = 0; «not_normal» = c; changed = d }
 
 -- A refused call on a whole reel or record, in numbers: the number of the cause and what stands beside it; the other members are 0.
 abbrev pub refusedAnswer : ℕ → ℕ → ReelAnswer
-refusedAnswer number beside = record { number = number; traces = 0; samples = 0; length = 0; beside = beside; «not_normal» = 0 }
+refusedAnswer number beside = record { number = number; traces = 0; samples = 0; length = 0; beside = beside; «not_normal» = 0; changed = 0 }
 
 -- What a call that gives a reel or a record says, in numbers: number 0 and T, N and the length where it is taken; else the number of the
 -- cause and what stands beside it in the table. The other members are 0.
@@ -28,7 +29,7 @@ abbrev pub reelAnswer : Said → Handed ReelAnswer
 reelAnswer (taken []) = lost
 reelAnswer (taken (t ∷ [])) = lost
 reelAnswer (taken (t ∷ n ∷ [])) = lost
-reelAnswer (taken (t ∷ n ∷ l ∷ [])) = handed (takenAnswer t n l 0)
+reelAnswer (taken (t ∷ n ∷ l ∷ [])) = handed (takenAnswer t n l 0 0)
 reelAnswer (taken (t ∷ n ∷ l ∷ more ∷ rest)) = lost
 reelAnswer (refused number beside) = handed (refusedAnswer number beside)
 
@@ -38,9 +39,19 @@ countedAnswer (taken []) = lost
 countedAnswer (taken (t ∷ [])) = lost
 countedAnswer (taken (t ∷ n ∷ [])) = lost
 countedAnswer (taken (t ∷ n ∷ l ∷ [])) = lost
-countedAnswer (taken (t ∷ n ∷ l ∷ c ∷ [])) = handed (takenAnswer t n l c)
+countedAnswer (taken (t ∷ n ∷ l ∷ c ∷ [])) = handed (takenAnswer t n l c 0)
 countedAnswer (taken (t ∷ n ∷ l ∷ c ∷ more ∷ rest)) = lost
 countedAnswer (refused number beside) = handed (refusedAnswer number beside)
+
+-- What nearest writing says, in numbers: number 0, T, N, the length and the count of samples whose value changed.
+abbrev pub nearestAnswer : Said → Handed ReelAnswer
+nearestAnswer (taken []) = lost
+nearestAnswer (taken (t ∷ [])) = lost
+nearestAnswer (taken (t ∷ n ∷ [])) = lost
+nearestAnswer (taken (t ∷ n ∷ l ∷ [])) = lost
+nearestAnswer (taken (t ∷ n ∷ l ∷ d ∷ [])) = handed (takenAnswer t n l 0 d)
+nearestAnswer (taken (t ∷ n ∷ l ∷ d ∷ more ∷ rest)) = lost
+nearestAnswer (refused number beside) = handed (refusedAnswer number beside)
 
 -- The structure and the output's bytes.
 pub record ReelHanded : Type 0 where
@@ -56,11 +67,14 @@ reelHanded o = record { answer = reelAnswer (o .said); bytes = o .bytes }
 abbrev pub countedHanded : Outcome → ReelHanded
 countedHanded o = record { answer = countedAnswer (o .said); bytes = o .bytes }
 
+abbrev pub nearestHanded : Outcome → ReelHanded
+nearestHanded o = record { answer = nearestAnswer (o .said); bytes = o .bytes }
+
 -- What listing a record's cards says, in numbers: number 0 and the listing's length where it is taken; else the number of the cause and what
 -- stands beside it. The other members are 0.
 abbrev pub listingAnswer : Said → Handed ReelAnswer
 listingAnswer (taken []) = lost
-listingAnswer (taken (l ∷ [])) = handed (takenAnswer 0 0 l 0)
+listingAnswer (taken (l ∷ [])) = handed (takenAnswer 0 0 l 0 0)
 listingAnswer (taken (l ∷ more ∷ rest)) = lost
 listingAnswer (refused number beside) = handed (refusedAnswer number beside)
 

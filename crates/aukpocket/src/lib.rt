@@ -6,10 +6,11 @@ ghost use Rattle.sample.specs.Calls as single;
 ghost use Rattle.record.specs.Answer.{saidBy, countedBy};
 ghost use Rattle.read_reel.specs.Reading.{readOutcome};
 ghost use Rattle.write_reel.specs.Writing.{writeOutcome};
+ghost use Rattle.write_reel.specs.Nearest.{nearestOutcome};
 ghost use Rattle.look_up.specs.LookUp.{lookUpOutcome};
 ghost use Rattle.code_page.specs.Page.{latin};
 ghost use Rattle.listing.specs.Calls as calls;
-ghost use Rattle.aukpocket.specs.Interface.{handed, takenAnswer, refusedAnswer, reelAnswer, reelIn, reelHanded, countedAnswer, countedHanded, listingAnswer, listingHanded, fieldHanded, sampleAnswer, wordAnswer, sampleIn, sampleHanded, wordHanded};
+ghost use Rattle.aukpocket.specs.Interface.{handed, takenAnswer, refusedAnswer, reelAnswer, reelIn, reelHanded, countedAnswer, countedHanded, nearestAnswer, nearestHanded, listingAnswer, listingHanded, fieldHanded, sampleAnswer, wordAnswer, sampleIn, sampleHanded, wordHanded};
 use listing::Listed;
 use numbers::ByteNo;
 use numbers::Place;
@@ -18,7 +19,8 @@ use record::Counted;
 use sample::WordAnswer;
 
 // What a call on a whole reel or record answers: T, N and the length of what it wrote, of which the listing of a record's cards has the
-// length alone, and of reading a reel how many of its words are not normal; or the number of the cause, and what stands beside it.
+// length alone; of reading a reel how many of its words are not normal, and of nearest writing how many samples have another value; or the
+// number of the cause, and what stands beside it.
 #[repr(C)]
 pub struct ReelAnswer {
     pub number: u64,
@@ -27,6 +29,7 @@ pub struct ReelAnswer {
     pub length: u64,
     pub beside: u64,
     pub not_normal: u64,
+    pub changed: u64,
 }
 
 // What looking up a field answers: its signed number; or the number of the cause, and what stands beside it.
@@ -45,7 +48,7 @@ pub struct SampleAnswer {
     pub not_normal: u64,
 }
 
-// Beside a refusal no word is counted.
+// Beside a refusal nothing is counted.
 const NONE_COUNTED: u64 = 0;
 
 // What a refused call on a whole reel or record answers, in numbers.
@@ -59,12 +62,19 @@ fn refused_answer(number: u8, place: Place) -> ReelAnswer
         length: 0,
         beside: place.0 as u64,
         not_normal: NONE_COUNTED,
+        changed: NONE_COUNTED,
     }
 }
 
-// What a taken call on a whole reel or record answers, in numbers: T, N, the length and the count.
-fn taken_answer(traces: usize, samples: usize, length: usize, count: usize) -> ReelAnswer
-    ensures { λ r. ⌜ r ≡ takenAnswer traces samples length count ⌝ }
+// What a taken call on a whole reel or record answers, in numbers: T, N, the length and both counts.
+fn taken_answer(
+    traces: usize,
+    samples: usize,
+    length: usize,
+    not_normal: usize,
+    changed: usize,
+) -> ReelAnswer
+    ensures { λ r. ⌜ r ≡ takenAnswer traces samples length «not_normal» changed ⌝ }
 {
     ReelAnswer {
         number: 0,
@@ -72,7 +82,8 @@ fn taken_answer(traces: usize, samples: usize, length: usize, count: usize) -> R
         samples: samples as u64,
         length: length as u64,
         beside: 0,
-        not_normal: count as u64,
+        not_normal: not_normal as u64,
+        changed: changed as u64,
     }
 }
 
@@ -85,12 +96,12 @@ fn reel_answer(answer: Answer) -> ReelAnswer
             traces,
             samples,
             length,
-        } => taken_answer(traces, samples, length, 0),
+        } => taken_answer(traces, samples, length, 0, 0),
         Answer::Refused { number, place } => refused_answer(number, place),
     }
 }
 
-// An answer with its count, in numbers.
+// An answer of reading with its count, in numbers.
 fn counted_answer(answer: Counted) -> ReelAnswer
     ensures { λ r. ⌜ handed r ≡ countedAnswer (countedBy answer) ⌝ }
 {
@@ -100,7 +111,22 @@ fn counted_answer(answer: Counted) -> ReelAnswer
             samples,
             length,
             count,
-        } => taken_answer(traces, samples, length, count),
+        } => taken_answer(traces, samples, length, count, 0),
+        Counted::Refused { number, place } => refused_answer(number, place),
+    }
+}
+
+// An answer of nearest writing with its count, in numbers.
+fn nearest_answer(answer: Counted) -> ReelAnswer
+    ensures { λ r. ⌜ handed r ≡ nearestAnswer (countedBy answer) ⌝ }
+{
+    match answer {
+        Counted::Taken {
+            traces,
+            samples,
+            length,
+            count,
+        } => taken_answer(traces, samples, length, 0, count),
         Counted::Refused { number, place } => refused_answer(number, place),
     }
 }
@@ -121,12 +147,20 @@ pub extern "C" fn aukpocket_write_reel(record: &[u8], code: u32, out: &mut [u8])
     reel_answer(write_reel::write_reel(record, code, out))
 }
 
+// Writes a record under a target code as a reel, each sample as the nearest value of the code, into the front of a reel buffer.
+#[no_mangle]
+pub extern "C" fn aukpocket_write_nearest(record: &[u8], code: u32, out: &mut [u8]) -> ReelAnswer
+    ensures { λ r. ⌜ reelIn r (now (out .exit)) ≡ nearestHanded (nearestOutcome (now («record» .entry)) code (now (out .entry))) ⌝ }
+{
+    nearest_answer(write_reel::write_nearest(record, code, out))
+}
+
 // What listing a record's cards answers, in numbers.
 fn listing_answer(answer: Listed) -> ReelAnswer
     ensures { λ r. ⌜ handed r ≡ listingAnswer (calls.saidBy answer) ⌝ }
 {
     match answer {
-        Listed::Taken { length } => taken_answer(0, 0, length, 0),
+        Listed::Taken { length } => taken_answer(0, 0, length, 0, 0),
         Listed::Refused { number, place } => refused_answer(number, place),
     }
 }

@@ -68,35 +68,6 @@ signs false true = inr refl
 of-sign : (v : ℤ) (s : Bool) → isNegative v ≡ s → v ≡ signMagnitude s (natAbs v)
 of-sign v s e = sym (signed-back v) ∙ ap (λ (b : Bool). signMagnitude b (natAbs v)) e
 
--- values at no distance are the same, and only those
-pub distance-none : (v w : ℤ) → distance v w ≡ 0 → v ≡ w
-distance-none v w e = ⊎-elim same other (signs (isNegative v) (isNegative w))
-  where
-    s : Bool
-    s = isNegative v
-
-    mine : v ≡ signMagnitude s (natAbs v)
-    mine = of-sign v s refl
-
-    same : isNegative w ≡ s → v ≡ w
-    same q =
-        let d : distance v w ≡ dist (natAbs v) (natAbs w) = ap₂ distance mine (of-sign w s q) ∙ distance-same s (natAbs v) (natAbs w) in
-        mine ∙ ap (signMagnitude s) (equal (natAbs v) (natAbs w) (sym d ∙ e)) ∙ sym (of-sign w s q)
-      where
-        equal : (a b : ℕ) → dist a b ≡ 0 → a ≡ b
-        equal a b h = omega arith
-
-    other : isNegative w ≡ not s → v ≡ w
-    other q =
-        let d : distance v w ≡ natAbs v + natAbs w = ap₂ distance mine (of-sign w (not s) q) ∙ distance-opposite s (natAbs v) (natAbs w) in
-        abs-zero v (omega (arith, d, e)) ∙ sym (abs-zero w (omega (arith, d, e)))
-
-pub distance-self : (v : ℤ) → distance v v ≡ 0
-distance-self v = ap (λ (w : ℤ). distance w w) (of-sign v (isNegative v) refl) ∙ distance-same (isNegative v) (natAbs v) (natAbs v) ∙ none (natAbs v)
-  where
-    none : (a : ℕ) → dist a a ≡ 0
-    none a = omega arith
-
 -- ## The nearest value of a format
 
 module _ (x : Format) (ok : Rounds x) where

@@ -44,7 +44,8 @@ use Rattle.format_theorems.specs.Nearness.{NearestOf, Inside, wholeCodes
 use Rattle.format_theorems.proofs.IeeeWords.{single-power, single-significand}
 use Rattle.format_theorems.proofs.OneFit.{word-in, one-fit}
 use Rattle.format_theorems.proofs.WordTheorems.{gain-says, gain-found, word-sound, word-complete}
-use Rattle.format_theorems.proofs.DistanceLaws.{distance-none, distance-self, value-nearer, value-only, beyond, within-half, unit-more, place-reaches, some-reaches, one-unit, one-apart}
+use Rattle.formats.proofs.DifferLaws.{same-differs}
+use Rattle.format_theorems.proofs.DistanceLaws.{value-nearer, value-only, beyond, within-half, unit-more, place-reaches, some-reaches, one-unit, one-apart}
 
 -- ## The nearest value
 
@@ -208,23 +209,7 @@ nearest-again code v k = nearest-self (formatOf code) (code-rounds code k) (near
 -- THEOREM. "The answer counts the samples whose value changed": a sample counts 0 exactly when its nearest value is its value,
 -- Rules out counting a sample whose word changes and whose value doesn't.
 pub changes-same : (code : ℕ) (v : ℤ) → Iff (changes code v ≡ 0) (nearestValue code v ≡ v)
-changes-same code v = (there, back)
-  where
-    near : ℤ
-    near = nearestValue code v
-
-    there : changes code v ≡ 0 → near ≡ v
-    there = go (eqb (distance v near) 0) refl
-      where
-        go : (b : Bool) → eqb (distance v near) 0 ≡ b → _≡_ {A = ℕ} (pick b 0 1) 0 → near ≡ v
-        go true e h = sym (distance-none v near (eqb-true (distance v near) 0 e))
-        go false e h = absurd (no h)
-          where
-            no : _≡_ {A = ℕ} 1 0 → ⊥
-            no h = omega arith
-
-    back : near ≡ v → changes code v ≡ 0
-    back e = ap (λ (b : Bool). pick b 0 1) (eq-eqb (distance v near) 0 (ap (distance v) e ∙ distance-self v))
+changes-same code v = let d = same-differs v (nearestValue code v) in (λ h. sym (d .0 h), λ h. d .1 (sym h))
 
 -- THEOREM. and that is exactly when the value is one of the code's, so that exact writing takes it.
 -- Rules out a count of 0 beside a value that the code doesn't have.

@@ -6,6 +6,7 @@ pub mod CodeLaws
 pub mod WordLaws
 pub mod GainLaws
 pub mod NormalLaws
+pub mod DifferLaws
 pub mod RoundLaws
 pub mod NearestLaws
 pub mod NearestSteps

@@ -6,65 +6,40 @@ use mathlib.Core.Bool.{Bool, true, false, not, _&&_}
 use Prim.Native.Nat.{ℕ, zero, suc, _+_, _-_, _*_, _/_, _%_, _^_, _≤_, _<_, min}
 use native.Mathlib.Nat.{one-mul, mul-pos, pow-suc, mul-assoc, mul-comm, mul-mod-left, le-trans, le-of-eq, lt-of-lt-of-le, mul-le-mul, mul-le-mul-right, mul-lt-mul-of-pos-right, le-of-mul-le-mul-right, div-lt-iff-lt-mul, le-div-iff-mul-le}
 use native.Mathlib.Omega.{arith}
-use borrow.Author.Tests.{lt-ltb, le-ltb, eq-eqb, ne-eqb}
-use lib.Dec.{T, eqb, ltb}
+use borrow.Author.Tests.{lt-ltb, le-ltb}
+use lib.Dec.{T, ltb}
 use lib.Pow.{pow-add, pow-pos, pow-mono}
-use lib.IntN.{ℤ, natAbs, subℕ, _-ℤ_}
+use lib.IntN.{ℤ, natAbs}
 use Rattle.numbers.specs.Walk.{pick}
-use Rattle.numbers.specs.SignMagnitude.{signMagnitude, isNegative}
-use Rattle.numbers.proofs.SignLaws.{below-or, sub-below, sub-above}
+use Rattle.numbers.specs.SignMagnitude.{signMagnitude}
+use Rattle.numbers.proofs.SignLaws.{below-or}
 use Rattle.numbers.proofs.Magnitudes.{neg-signed, abs-signed}
 use Rattle.numbers.proofs.FirstLaws.{first-at, none-passes}
 use Rattle.formats.specs.Format.{unit, limit, inFormat}
 use Rattle.formats.specs.Steps.{Length, Lowest}
-use Rattle.formats.specs.Nearest.{nearestMultiple, reaching, rangeEnd, nearestMagnitude, nearestIn, distance, changesIn}
+use Rattle.formats.specs.Nearest.{nearestMultiple, reaching, rangeEnd, nearestMagnitude, nearestIn, changesIn}
 use Rattle.formats.specs.declared.Format.{Format}
 use Rattle.formats.proofs.FitLaws.{place, places-rise, placed-at, placed-odd}
 use Rattle.formats.proofs.PlacedLaws.{placed-in, placed-none}
-use Rattle.formats.proofs.RoundLaws.{dist, enclosed, multiple-above, multiple-below}
+use Rattle.formats.proofs.DifferLaws.{same-differs, other-differs}
+use Rattle.formats.proofs.RoundLaws.{multiple-above, multiple-below}
 use Rattle.formats.proofs.NearestLaws.{Rounds, step, step-fits, under-limit, nearest-self, nearest-other}
 
 -- ## Changes
-
--- the distance of two values of one sign
-sub-dist : (a b : ℕ) → natAbs (subℕ a b) ≡ dist a b
-sub-dist a b =
-    ⊎-elim (λ (h : a < b). ap natAbs (sub-below a b h) ∙ low a b h) (λ (h : b ≤ a). ap natAbs (sub-above a b h) ∙ high a b h) (below-or a b)
-  where
-    low : (a b : ℕ) → a < b → suc (b - suc a) ≡ dist a b
-    low a b h = omega arith
-
-    high : (a b : ℕ) → b ≤ a → a - b ≡ dist a b
-    high a b h = omega arith
-
-pub same-sign : (s : Bool) (a b : ℕ) → distance (signMagnitude s a) (signMagnitude s b) ≡ dist a b
-same-sign false a zero = omega arith
-same-sign false a (suc b) = sub-dist a (suc b)
-same-sign true zero zero = refl
-same-sign true zero (suc b) = omega arith
-same-sign true (suc a) zero = sub-dist 0 (suc a) ∙ omega arith
-same-sign true (suc a) (suc b) = sub-dist (suc b) (suc a) ∙ omega arith
 
 module _ (x : Format) (s : Bool) (a : ℕ) (some : 0 < a) where
   -- the nearest value of a magnitude with its sign
   pub nearest-signed : nearestIn x (signMagnitude s a) ≡ signMagnitude s (nearestMagnitude x s a)
   nearest-signed = rw (neg-signed s a some, abs-signed s a)
 
-  apart : distance (signMagnitude s a) (nearestIn x (signMagnitude s a)) ≡ dist a (nearestMagnitude x s a)
-  apart = ap (distance (signMagnitude s a)) nearest-signed ∙ same-sign s a (nearestMagnitude x s a)
-
   -- it changes where its magnitude does
-  pub changes-not : nearestMagnitude x s a ≡ a → changesIn x (signMagnitude s a) ≡ 0
-  changes-not e = rw (eq-eqb (distance (signMagnitude s a) (nearestIn x (signMagnitude s a))) 0 (apart ∙ same (nearestMagnitude x s a) e))
-    where
-      same : (n : ℕ) → n ≡ a → dist a n ≡ 0
-      same n e = omega arith
+  changes-not : nearestMagnitude x s a ≡ a → changesIn x (signMagnitude s a) ≡ 0
+  changes-not e = same-differs (signMagnitude s a) (nearestIn x (signMagnitude s a)) .1 (sym (nearest-signed ∙ ap (signMagnitude s) e))
 
-  pub changes-so : (nearestMagnitude x s a ≡ a → ⊥) → changesIn x (signMagnitude s a) ≡ 1
-  changes-so f = rw (ne-eqb (distance (signMagnitude s a) (nearestIn x (signMagnitude s a))) 0 (λ e. f (other (nearestMagnitude x s a) (sym apart ∙ e))))
-    where
-      other : (n : ℕ) → dist a n ≡ 0 → n ≡ a
-      other n e = omega arith
+  changes-so : (nearestMagnitude x s a ≡ a → ⊥) → changesIn x (signMagnitude s a) ≡ 1
+  changes-so f =
+      other-differs (signMagnitude s a) (nearestIn x (signMagnitude s a)) .1
+      (λ e. f (sym (abs-signed s (nearestMagnitude x s a)) ∙ ap natAbs (sym nearest-signed ∙ sym e) ∙ abs-signed s a))
 
 -- ## Steps
 

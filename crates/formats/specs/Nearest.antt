@@ -40,9 +40,13 @@ nearestValue code v = nearestIn (formatOf code) v
 abbrev pub distance : ℤ → ℤ → ℕ
 distance v w = natAbs (v -ℤ w)
 
+-- 1 for two values that are not the same, else 0.
+abbrev pub differs : ℤ → ℤ → ℕ
+differs v w = pick (eqb (distance v w) 0) 0 1
+
 -- 1 for a value that becomes another one, else 0: in a format,
 abbrev pub changesIn : Format → ℤ → ℕ
-changesIn x v = pick (eqb (distance v (nearestIn x v)) 0) 0 1
+changesIn x v = differs v (nearestIn x v)
 
 -- and under a code.
 abbrev pub changes : ℕ → ℤ → ℕ

@@ -28,7 +28,8 @@ use Rattle.demands.proofs.Fitting.{FittingTrace, Fitting}
 use Rattle.demands.proofs.Headers.{meaning-eq}
 use Rattle.demands.proofs.WrittenSize.{sample-size, reel-size}
 use Rattle.demands.proofs.Taken.{held-count}
-use Rattle.nearest_theorems.proofs.Values.{differs-most, nearest-fits, fits-self, unchanged-fits, fits-canonical}
+use Rattle.formats.proofs.DifferLaws.{differs-most}
+use Rattle.nearest_theorems.proofs.Values.{nearest-fits, fits-self, unchanged-fits, fits-canonical}
 
 -- ## Lists
 

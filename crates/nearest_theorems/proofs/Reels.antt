@@ -20,7 +20,7 @@ use Rattle.numbers.proofs.CauseLaws.{passed, then-fine, at-most}
 use Rattle.numbers.proofs.WalkLaws.{cons-eq, walk-each, walk-same, map-walk}
 use Rattle.formats.specs.Codes.{isCode, sampleBytes, wordLength}
 use Rattle.formats.specs.Value.{exactValue}
-use Rattle.formats.specs.Nearest.{nearestValue, changes}
+use Rattle.formats.specs.Nearest.{nearestValue, changes, differs}
 use Rattle.value.specs.Pair.{pairLength}
 use Rattle.reel.specs.Layout.{firstTrace, traceHeader, stride, intervalOf, samplesOf, codeOf, tracesOf}
 use Rattle.reel.specs.Meaning.{Trace, traceMeaning, Meaning, meaningOf}
@@ -41,7 +41,7 @@ use Rattle.demands.proofs.Fitting.{Fitting}
 use Rattle.demands.proofs.Taken.{held-count, read-taken}
 use Rattle.demands.proofs.ReelBack.{reel-bytes, reel-code, reel-samples, reel-interval, reel-traces, reel-no-cause, reel-again, reel-count}
 use Rattle.demands.proofs.RecordBack.{record-length, record-bytes, record-samples, record-traces, record-no-cause, record-again}
-use Rattle.nearest_theorems.specs.Results.{heldSample, differs, samplesChanged, SamplesNearest, NearestRead}
+use Rattle.nearest_theorems.specs.Results.{heldSample, samplesChanged, SamplesNearest, NearestRead}
 use Rattle.nearest_theorems.proofs.Meanings.{nearest-fitting, nearest-proper}
 
 -- ## What it needs

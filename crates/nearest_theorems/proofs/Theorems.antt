@@ -47,15 +47,16 @@ use Rattle.record.specs.Held.{heldBy}
 use Rattle.read_reel.specs.Reading.{readOutcome}
 use Rattle.write_reel.specs.Reel.{reelOf, reelLength}
 use Rattle.write_reel.specs.Writing.{reelLengthOf, writtenNumbers, writeOutcome}
+use Rattle.formats.specs.Nearest.{differs}
 use Rattle.write_reel.specs.Nearest.{nearestMeaning, meaningChanges, nearestNumbers, nearestCauses, nearestEnd, nearestOutcome}
 use Rattle.demands.specs.NotNormal.{countSaid}
 use Rattle.demands.proofs.Fitting.{Fitting, fit-is}
 use Rattle.demands.proofs.Taken.{Writable, written-needs, write-taken}
 use Rattle.demands.proofs.Demand2.{read-back}
 use Rattle.nearest_theorems.specs.NearestTable.{NearestRow}
-use Rattle.nearest_theorems.specs.Results.{differs, NearestWritten, SamplesNearest, NearestRead}
+use Rattle.nearest_theorems.specs.Results.{NearestWritten, SamplesNearest, NearestRead}
 use Rattle.nearest_theorems.proofs.Refusals.{exact-nearest, row-number}
-use Rattle.nearest_theorems.proofs.Values.{same-differs, other-differs}
+use Rattle.formats.proofs.DifferLaws.{same-differs, other-differs}
 use Rattle.nearest_theorems.proofs.Meanings.{nearest-size, changes-bound, unchanged-fitting, fitting-same, nearest-fitting, nearest-unchanged, nearest-again}
 use Rattle.nearest_theorems.proofs.Reels.{Needs, fine-needs, needs-taken, nearest-valid, nearest-held, nearest-samples-held, nearest-count-held, nearest-record, nearest-reads, nearest-by-sample}
 

@@ -17,7 +17,7 @@ use Rattle.formats.specs.Words.{wordOf}
 use Rattle.formats.specs.Nearest.{nearestValue, distance, changes}
 use Rattle.formats.specs.declared.Written.{Written}
 use Rattle.formats.specs.declared.Written.the-variants.{Word, Refused}
-use Rattle.formats.proofs.PlacedLaws.{no-zero-one}
+use Rattle.formats.proofs.DifferLaws.{same-differs}
 use Rattle.formats.proofs.NearestLaws.{nearest-in, nearest-self, nearest-other, code-rounds}
 use Rattle.format_theorems.proofs.WordTheorems.{word-sound, word-complete, word-in-format}
 use Rattle.value.specs.Pair.{pairOf, isCanonical}
@@ -25,46 +25,6 @@ use Rattle.sample.specs.Calls.{singleWord}
 use Rattle.sample_theorems.proofs.Pairs.{value-canonical}
 use Rattle.sample_theorems.proofs.Words.{single-number, single-bytes}
 use Rattle.fit.specs.Target.{isUnfit}
-use Rattle.nearest_theorems.specs.Results.{differs}
-
--- ## Two values
-
--- A value of magnitude 0 is 0.
-no-magnitude : (z : ℤ) → natAbs z ≡ 0 → z ≡ pos 0
-no-magnitude (pos n) e = ap pos e
-no-magnitude (negsuc n) e = absurd (let z : suc n ≡ 0 = e in omega arith)
-
--- Values at no distance are the same.
-no-distance : (v w : ℤ) → distance v w ≡ 0 → v ≡ w
-no-distance v w e = sym (-ℤ-+ℤ-cancel v w) ∙ ap (λ (z : ℤ). z +ℤ w) (no-magnitude (v -ℤ w) e) ∙ +ℤ-idl w
-
-own-distance : (v w : ℤ) → v ≡ w → distance v w ≡ 0
-own-distance v w e = ap (distance v) (sym e) ∙ ap natAbs (+ℤ-invr v)
-
--- LAW. Two values differ by 0 exactly where they are the same, and by 1 exactly where they are not.
-pub same-differs : (v w : ℤ) → Iff (differs v w ≡ 0) (v ≡ w)
-same-differs v w = (λ e. no-distance v w (there (eqb (distance v w) 0) refl e), λ e. rw (eq-eqb (distance v w) 0 (own-distance v w e)))
-  where
-    there : (b : Bool) → eqb (distance v w) 0 ≡ b → _≡_ {A = ℕ} (pick b 0 1) 0 → distance v w ≡ 0
-    there true e q = eqb-true (distance v w) 0 e
-    there false e q = absurd (no-zero-one (sym q))
-
-pub other-differs : (v w : ℤ) → Iff (differs v w ≡ 1) (¬ (v ≡ w))
-other-differs v w = (λ e q. no-zero-one (sym (same-differs v w .1 q) ∙ e), λ n. back n (eqb (distance v w) 0) refl)
-  where
-    back : ¬ (v ≡ w) → (b : Bool) → eqb (distance v w) 0 ≡ b → _≡_ {A = ℕ} (pick b 0 1) 1
-    back n true e = absurd (n (no-distance v w (eqb-true (distance v w) 0 e)))
-    back n false e = refl
-
--- They differ by 1 at most.
-pub differs-most : (v w : ℤ) → differs v w ≤ 1
-differs-most v w = go (eqb (distance v w) 0)
-  where
-    go : (b : Bool) → pick b 0 1 ≤ 1
-    go true = omega arith
-    go false = omega arith
-
--- ## A value under a code
 
 module _ (code : ℕ) (h : isCode code ≡ true) where
   -- LAW. A value has a word exactly where it is one of the code's format.

@@ -3,15 +3,14 @@
 use mathlib.Core.Path.{_≡_}
 use mathlib.Core.List.{List, [], _∷_, _++_}
 use Prim.Native.Nat.{ℕ, _+_, _*_, _<_}
-use lib.Dec.{eqb}
 use lib.ListN.{length, take, drop}
 use lib.IntN.{ℤ}
-use Rattle.numbers.specs.Walk.{pick, walk, sum}
+use Rattle.numbers.specs.Walk.{walk, sum}
 use Rattle.numbers.specs.Outcome.{taken}
 use Rattle.numbers.specs.Terms.{Bytes}
 use Rattle.numbers.specs.declared.Check.the-variants.{Fine}
 use Rattle.formats.specs.Codes.{sampleBytes}
-use Rattle.formats.specs.Nearest.{nearestValue, distance}
+use Rattle.formats.specs.Nearest.{nearestValue, differs}
 use Rattle.reel.specs.Layout.{codeOf, samplesOf, tracesOf}
 use Rattle.reel.specs.Causes.{causesOf}
 use Rattle.reel.specs.Meaning.{meaningOf}
@@ -29,10 +28,6 @@ use Rattle.demands.specs.Results.{sampleValue, RecordHolds}
 -- The exact value V, over 16^70, of sample j of trace k of a record, both counted from 0: that of the pair at its place.
 abbrev pub heldSample : List ℕ → ℕ → ℕ → ℤ
 heldSample r k j = heldValue r (pairPlace r k j)
-
--- 1 for two values that are not the same, else 0; `differs-0` and `differs-1` say so.
-abbrev pub differs : ℤ → ℤ → ℕ
-differs v w = pick (eqb (distance v w) 0) 0 1
 
 -- How many samples of a record and of a reel, of t traces of n samples each, have other values in the reel than in the record.
 abbrev pub samplesChanged : List ℕ → List ℕ → ℕ → ℕ → ℕ

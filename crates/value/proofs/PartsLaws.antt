@@ -2,14 +2,12 @@
 use Prim.Native.Nat.{ℕ, _*_, _^_}
 use mathlib.Core.Path.{_≡_, refl, sym, ap, ap₂, _∙_}
 use mathlib.Core.Bool.{Bool, true, false}
-use lib.Dec.{eqb}
 use lib.IntN.{ℤ, pos}
-use Rattle.numbers.specs.Walk.{pick}
 use Rattle.numbers.specs.First.{first}
 use Rattle.numbers.specs.SignMagnitude.{signMagnitude}
 use Rattle.formats.specs.Codes.{isCode, formatOf}
 use Rattle.formats.specs.Words.{wordOf, wordBits}
-use Rattle.formats.specs.Nearest.{nearestIn, distance, changesIn}
+use Rattle.formats.specs.Nearest.{nearestIn, differs}
 use Rattle.value.specs.Pair.{isCanonical, valueOf}
 use Rattle.value.specs.Writing.{writePair, roundedBy, nearestPair}
 use Rattle.value.specs.Parts.{PartsOf}
@@ -71,7 +69,7 @@ module _ (code : ℕ) (p : Pair) where
     near-of-zero : roundedBy (wordOf code) (formatOf code) (pos 0) ≡ nothing
     near-of-zero =
         ap₂ (λ (b c : ℕ). record { bits = b; changed = c }) (ap (λ (v : ℤ). wordBits (wordOf code v)) zero-self ∙ ap wordBits (zero-word code i))
-        (ap (λ (v : ℤ). pick (eqb (distance (pos 0) v) 0) 0 1) zero-self)
+        (ap (differs (pos 0)) zero-self)
 
     pub near-zero : PartsOf p Zero → nearestPair code p ≡ nothing
     near-zero h = rw (i, h .0) (ap (roundedBy (wordOf code) (formatOf code)) (h .1) ∙ near-of-zero)

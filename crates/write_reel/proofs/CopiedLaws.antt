@@ -17,7 +17,7 @@ use Rattle.write_samples.specs.Nearest.{nearestWords, pairsChanged}
 use Rattle.write_samples.proofs.WordLaws.{size-samples}
 use Rattle.write_samples.proofs.NearestLaws.{size-nearest, pairs-most}
 use Rattle.record.specs.Form.{toPairs, heldStride}
-use Rattle.write_reel.specs.Copied.{zerosFor, reelHeaderCopied, samplesCopied, samplesChanged, reelTraceCopied, traceChanged, tracesChanged, partsCopied, reelCopied}
+use Rattle.write_reel.specs.Copied.{zerosFor, reelHeaderCopied, samplesCopied, countCopied, reelTraceCopied, traceChanged, tracesChanged, partsCopied, reelCopied}
 
 -- unassigned bytes in a slice of k bytes
 pub zeroed : (out : List ℕ) (k : ℕ) {ys : List ℕ} → ys ≡ zerosFor out → length out ≡ k → ys ≡ replicate k 0
@@ -39,12 +39,12 @@ size-bytes-header size s at k h = size-header size (bytesAt s at k) (omega (arit
 
 -- samples to the nearest, and exactly
 module _ (s : List ℕ) (code n at : ℕ) where
-  pub copied-near : (near : Bool) → near ≡ true → (pairsChanged s code n at ≡ samplesChanged near s code n at) × (nearestWords s code n at ≡ samplesCopied near s code n at)
-  unfolding samplesCopied samplesChanged
+  pub copied-near : (near : Bool) → near ≡ true → (pairsChanged s code n at ≡ countCopied near s code n at) × (nearestWords s code n at ≡ samplesCopied near s code n at)
+  unfolding samplesCopied countCopied
   copied-near near e = (sym (ap (λ (b : Bool). pick b (pairsChanged s code n at) 0) e), sym (ap (λ (b : Bool). pick b (nearestWords s code n at) (sampleWords s code n at)) e))
 
-  pub copied-exact : (near : Bool) → near ≡ false → (0 ≡ samplesChanged near s code n at) × (sampleWords s code n at ≡ samplesCopied near s code n at)
-  unfolding samplesCopied samplesChanged
+  pub copied-exact : (near : Bool) → near ≡ false → (0 ≡ countCopied near s code n at) × (sampleWords s code n at ≡ samplesCopied near s code n at)
+  unfolding samplesCopied countCopied
   copied-exact near e = (sym (ap (λ (b : Bool). pick b (pairsChanged s code n at) 0) e), sym (ap (λ (b : Bool). pick b (nearestWords s code n at) (sampleWords s code n at)) e))
 
 module _ (near : Bool) (s : List ℕ) (code n : ℕ) where
@@ -75,7 +75,7 @@ module _ (near : Bool) (s : List ℕ) (code n : ℕ) where
 
   -- no more of a trace than it has samples
   pub trace-most : (at : ℕ) → traceChanged near s code n at ≤ n
-  unfolding traceChanged samplesChanged
+  unfolding traceChanged countCopied
   trace-most at = go near
     where
       go : (near : Bool) → pick near (pairsChanged s code n (at + toPairs)) 0 ≤ n

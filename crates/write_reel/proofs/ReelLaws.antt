@@ -31,7 +31,7 @@ use Rattle.write_reel.specs.Reel.{sampleWritten, binaryHeader, traceWrit
 use Rattle.write_reel.specs.Nearest.{nearestTrace, nearestMeaning, traceChanges, meaningChanges}
 use Rattle.write_samples.specs.Samples.{wordBytes, writtenAt, sampleWords}
 use Rattle.write_samples.specs.Nearest.{nearestAt, roundedBytes, nearestWords, pairsChanged}
-use Rattle.write_reel.specs.Copied.{reelHeaderCopied, samplesCopied, samplesChanged, reelTraceCopied, traceChanged, tracesChanged, partsCopied, reelCopied}
+use Rattle.write_reel.specs.Copied.{reelHeaderCopied, samplesCopied, countCopied, reelTraceCopied, traceChanged, tracesChanged, partsCopied, reelCopied}
 use Rattle.write_reel.proofs.CopiedLaws.{header-bytes}
 
 -- ## Samples
@@ -97,7 +97,7 @@ module _ (s : List ℕ) (b : Bytes s) (code n i : ℕ) (h : isCode code ≡ true
   trace-is true at e = joined true at _ e (nearest-walk s code h pairLength n (at + toPairs) (pairs-fine at e))
 
   trace-changes : (at : ℕ) → traceForm s n i at ≡ Fine → traceChanges code (heldTrace s n at) ≡ traceChanged true s code n at
-  unfolding heldTrace traceChanged samplesChanged pairsChanged
+  unfolding heldTrace traceChanged countCopied pairsChanged
   trace-changes at e = changes-walk s code h pairLength n (at + toPairs) (pairs-fine at e)
 
   -- along a walk over traces that are all of the right form

@@ -29,8 +29,8 @@ unfoldable pub samplesCopied : Bool → List ℕ → ℕ → ℕ → ℕ → Lis
 samplesCopied near s code n at = pick near (nearestWords s code n at) (sampleWords s code n at)
 
 -- and how many have another value than their pairs.
-unfoldable pub samplesChanged : Bool → List ℕ → ℕ → ℕ → ℕ → ℕ
-samplesChanged near s code n at = pick near (pairsChanged s code n at) 0
+unfoldable pub countCopied : Bool → List ℕ → ℕ → ℕ → ℕ → ℕ
+countCopied near s code n at = pick near (pairsChanged s code n at) 0
 
 -- The trace whose tag 03 stands at the place `at`;
 unfoldable pub reelTraceCopied : Bool → List ℕ → ℕ → ℕ → ℕ → List ℕ
@@ -39,7 +39,7 @@ reelTraceCopied near s code n at =
 
 -- and how many of its samples changed, and of t traces from a place on.
 unfoldable pub traceChanged : Bool → List ℕ → ℕ → ℕ → ℕ → ℕ
-traceChanged near s code n at = samplesChanged near s code n (at + toPairs)
+traceChanged near s code n at = countCopied near s code n (at + toPairs)
 
 unfoldable pub tracesChanged : Bool → List ℕ → ℕ → ℕ → ℕ → ℕ → ℕ
 tracesChanged near s code n t at = sum (walk (traceChanged near s code n) (heldStride n) t at)

@@ -18,7 +18,7 @@ ghost use Rattle.fit.specs.Target.{fitJudged};
 ghost use Rattle.record.specs.Answer.{outcome, countedOutcome};
 ghost use Rattle.write_reel.specs.Writing.{writeOutcome};
 ghost use Rattle.write_reel.specs.Nearest.{nearestOutcome};
-ghost use Rattle.write_reel.specs.Copied.{zerosFor, reelHeaderCopied, samplesCopied, samplesChanged, reelTraceCopied, traceChanged, tracesChanged, reelCopied, copiedOutcome};
+ghost use Rattle.write_reel.specs.Copied.{zerosFor, reelHeaderCopied, samplesCopied, countCopied, reelTraceCopied, traceChanged, tracesChanged, reelCopied, copiedOutcome};
 use numbers::ByteNo;
 use numbers::Check;
 use numbers::Place;
@@ -58,7 +58,7 @@ fn put_samples(
     out: &mut [u8],
 ) -> usize
     requires { ⌜ (isCode code ≡ true) × (start + n * 6 ≤ length (now «record»)) × (length (now out) ≡ n * sampleBytes code) ⌝ }
-    ensures { λ r. ⌜ (r ≡ samplesChanged near (now («record» .entry)) code n start) × (now (out .exit) ≡ samplesCopied near (now («record» .entry)) code n start) ⌝ }
+    ensures { λ r. ⌜ (r ≡ countCopied near (now («record» .entry)) code n start) × (now (out .exit) ≡ samplesCopied near (now («record» .entry)) code n start) ⌝ }
 {
     if near {
         return write_samples::write_nearest(record, code, n, Place(start), out);

@@ -5,14 +5,14 @@ use mathlib.Core.Bool.{Bool, true, false, _&&_}
 use mathlib.Core.List.{List, []}
 use Prim.Native.Nat.{ℕ, zero, suc, _+_, _-_, _*_, _≤_, _<_}
 use native.Mathlib.Omega.{arith}
-use lib.Dec.{eqb}
 use lib.ListN.{length}
 use Rattle.numbers.specs.Walk.{pick, sum, bytesAt}
 use Rattle.numbers.specs.BigEndian.{number, bytesOf}
 use Rattle.numbers.proofs.WalkLaws.{flat-length, flat-none, sum-none, sum-more}
 use Rattle.numbers.proofs.ByteLaws.{length-bytes}
 use Rattle.formats.specs.Codes.{isCode, sampleBytes, formatOf}
-use Rattle.formats.specs.Nearest.{distance, nearestIn}
+use Rattle.formats.specs.Nearest.{nearestIn}
+use Rattle.formats.proofs.DifferLaws.{differs-most}
 use Rattle.value.specs.Pair.{pairLength, pairIn, pairOfBits, isCanonical, valueOf}
 use Rattle.value.specs.Writing.{nearestPair}
 use Rattle.value.specs.declared.Pair.{Pair}
@@ -26,15 +26,11 @@ use Rattle.write_samples.specs.Nearest.{nearestAt, roundedBytes, nearest
 
 -- a pair counts once at most
 pub changed-most : (code : ℕ) (p : Pair) → nearestPair code p .changed ≤ 1
-changed-most code p = go (isCode code && isCanonical p) _ _ (once (eqb (distance (valueOf p) (nearestIn (formatOf code) (valueOf p))) 0)) (omega arith)
+changed-most code p = go (isCode code && isCanonical p) _ _ (differs-most (valueOf p) (nearestIn (formatOf code) (valueOf p))) (omega arith)
   where
     go : (b : Bool) (v w : Rounded) → v .changed ≤ 1 → w .changed ≤ 1 → pick b v w .changed ≤ 1
     go true v w h l = h
     go false v w h l = l
-
-    once : (b : Bool) → pick b 0 1 ≤ 1
-    once true = omega arith
-    once false = omega arith
 
 pub size-rounded : (code : ℕ) (w : Rounded) → length (roundedBytes code w) ≡ sampleBytes code
 size-rounded code w = length-bytes (sampleBytes code) (w .bits)

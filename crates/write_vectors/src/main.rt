@@ -1,5 +1,6 @@
 // Runs write vectors. The input is a row of cases without anything between them:
 //
+//     1 byte     0 to write exactly, 1 to the nearest
 //     1 byte     target code
 //     4 bytes    room, the length of the output, big-endian, at most 60,000
 //     4 bytes    length of the record, big-endian, at most 60,000
@@ -8,11 +9,13 @@
 // The output holds bytes A5 before each call. Each case is answered by a line, its items parted by one space:
 //
 //     taken T N LENGTH DIGEST AGAIN COUNT
+//     taken T N LENGTH CHANGED DIGEST AGAIN COUNT
 //     refused NUMBER BESIDE DIGEST
 //
-// DIGEST is that of the whole output after the call, all its room. AGAIN is the digest of the record that reading the written reel
-// gives, and COUNT that of its words that are not normal. A digest is 0 at first, and each byte b makes (digest * 31 + b) mod 2^32 of it. All numbers are decimal. A case that is cut
-// short, or longer than 60,000, is answered by `bad case`, and is the last; a written reel that isn't read again, by `not read`.
+// the second where it was written to the nearest. DIGEST is that of the whole output after the call, all its room. AGAIN is the digest of the
+// record that reading the written reel gives, and COUNT that of its words that are not normal. A digest is 0 at first, and each byte b makes
+// (digest * 31 + b) mod 2^32 of it. All numbers are decimal. A case that is cut short, longer than 60,000 or neither exact nor to the nearest
+// is answered by `bad case`, and is the last; a written reel that isn't read again, by `not read`.
 use libc::STDIN_FILENO;
 use libc::STDOUT_FILENO;
 use record::Answer;
@@ -78,12 +81,16 @@ fn print_again(reel: &[u8], again: &mut [u8]) {
     }
 }
 
-// The line of a record that was written.
-fn print_taken(traces: usize, samples: usize, length: usize, out: &[u8], again: &mut [u8]) {
+// The front of the line of a record that was written.
+fn print_numbers(traces: usize, samples: usize, length: usize) {
     io::write_all(STDOUT_FILENO, b"taken");
     print_item(traces as u64);
     print_item(samples as u64);
     print_item(length as u64);
+}
+
+// The rest of it.
+fn print_written(length: usize, out: &[u8], again: &mut [u8]) {
     print_item(digest(out));
     if out.len() < length {
         return;
@@ -101,16 +108,35 @@ fn print_refused(number: u8, place: usize, out: &[u8]) {
     print_end();
 }
 
-// The line of a case.
-fn run(code: u8, record: &[u8], out: &mut [u8], again: &mut [u8]) {
-    fill(out);
-    match write_reel::write_reel(record, code as u32, out) {
+// The line of a case that is written exactly.
+fn run_exact(code: u32, record: &[u8], out: &mut [u8], again: &mut [u8]) {
+    match write_reel::write_reel(record, code, out) {
         Answer::Taken {
             traces,
             samples,
             length,
-        } => print_taken(traces, samples, length, out, again),
+        } => {
+            print_numbers(traces, samples, length);
+            print_written(length, out, again);
+        }
         Answer::Refused { number, place } => print_refused(number, place.0, out),
+    }
+}
+
+// The line of a case that is written to the nearest.
+fn run_nearest(code: u32, record: &[u8], out: &mut [u8], again: &mut [u8]) {
+    match write_reel::write_nearest(record, code, out) {
+        Counted::Taken {
+            traces,
+            samples,
+            length,
+            count,
+        } => {
+            print_numbers(traces, samples, length);
+            print_item(count as u64);
+            print_written(length, out, again);
+        }
+        Counted::Refused { number, place } => print_refused(number, place.0, out),
     }
 }
 
@@ -121,17 +147,26 @@ fn refuse_case() -> bool {
 }
 
 // Reads the record of a case and runs it, and says whether to go on.
-fn run_sized(code: u8, record: &mut [u8], out: &mut [u8], again: &mut [u8]) -> bool {
+fn run_sized(near: u8, code: u8, record: &mut [u8], out: &mut [u8], again: &mut [u8]) -> bool {
     let n = io::read_full(STDIN_FILENO, record);
     if n < record.len() {
         return refuse_case();
     }
-    run(code, record, out, again);
-    true
+    fill(out);
+    if near == 0 {
+        run_exact(code as u32, record, out, again);
+        return true;
+    }
+    if near == 1 {
+        run_nearest(code as u32, record, out, again);
+        return true;
+    }
+    refuse_case()
 }
 
 // The same with buffers of which it uses the front, as much as the case asks for.
 fn run_record(
+    near: u8,
     code: u8,
     room: usize,
     size: usize,
@@ -145,21 +180,22 @@ fn run_record(
     if out.len() < room {
         return refuse_case();
     }
-    run_sized(code, &mut record[..size], &mut out[..room], again)
+    run_sized(near, code, &mut record[..size], &mut out[..room], again)
 }
 
 // Reads a case and runs it, and says whether to go on: not past the end of the input.
 fn run_case() -> bool {
-    let mut head = [0u8; 9];
+    let mut head = [0u8; 10];
     let n = io::read_full(STDIN_FILENO, &mut head);
-    if n == 9 {
+    if n == 10 {
         let mut record = [0u8; 60000];
         let mut out = [0u8; 60000];
         let mut again = [0u8; 60000];
         return run_record(
             head[0],
-            numbers::be32(head[1], head[2], head[3], head[4]) as usize,
-            numbers::be32(head[5], head[6], head[7], head[8]) as usize,
+            head[1],
+            numbers::be32(head[2], head[3], head[4], head[5]) as usize,
+            numbers::be32(head[6], head[7], head[8], head[9]) as usize,
             &mut record,
             &mut out,
             &mut again,
