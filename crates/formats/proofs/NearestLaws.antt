@@ -3,7 +3,7 @@
 use mathlib.Core.Path.{_≡_, refl, sym, ap, _∙_, subst}
 use mathlib.Core.Logic.{_⊎_, inl, inr, ⊎-elim}
 use mathlib.Core.Bool.{Bool, true, false, _&&_}
-use Prim.Native.Nat.{ℕ, zero, suc, _+_, _-_, _*_, _/_, _%_, _^_, _≤_, _<_}
+use Prim.Native.Nat.{ℕ, zero, suc, _+_, _-_, _*_, _/_, _^_, _≤_, _<_}
 use native.Mathlib.Nat.{mul-assoc, mul-suc, mul-le-mul-left, mul-le-mul-right, le-trans, le-of-eq, div-lt-iff-lt-mul}
 use native.Mathlib.Omega.{arith}
 use native.Mathlib.Numerals.{unary-clauses}
@@ -22,7 +22,7 @@ use Rattle.formats.specs.Nearest.{nearestMultiple, reaching, rangeEnd, n
 use Rattle.formats.specs.declared.Format.{Format}
 use Rattle.formats.proofs.PlacedLaws.{serves-value, fits-in-format, placed-is, placed-some}
 use Rattle.formats.proofs.CodeLaws.{Code, ibm, whole32, whole16, gain, ieee, whole8, code-is}
-use Rattle.formats.proofs.RoundLaws.{dist, enclosed, multiple-nearest}
+use Rattle.formats.proofs.RoundLaws.{dist, enclosed, by-side, multiple-nearest}
 
 -- a format whose digits are no longer than its fraction
 pub record Rounds (x : Format) : Type 0 where
@@ -199,38 +199,31 @@ module _ (x : Format) (ok : Rounds x) where
       in-range = omega (arith, reaching-low a, ok .some)
 
       -- the quotient is a fraction, and so is the next number, or it is the first of the next characteristic
-      early : (i : ℕ) → i ≤ 1 → q < 2 ^ x .fraction → suc c < x .characteristics → Among s ((q + i) * u)
-      early i o h l =
-          ⊎-elim (λ (k : q + i < 2 ^ x .fraction). record { c = c; f = q + i; below = in-range; fits = under-limit s (q + i) k; is = refl })
-          (λ (k : 2 ^ x .fraction ≤ q + i).
-          let e : q + i ≡ 2 ^ x .fraction = omega arith in
-          record { c = suc c; f = 2 ^ (x .fraction - x .digit); below = l; fits = under-limit s _ step-fits; is = ap (λ (y : ℕ). y * u) e ∙ step c })
-          (below-or (q + i) (2 ^ x .fraction))
+      early : q < 2 ^ x .fraction → suc c < x .characteristics → (y : ℕ) → y ≤ suc q → Among s (y * u)
+      early h l y o =
+          ⊎-elim (λ (k : y < 2 ^ x .fraction). record { c = c; f = y; below = in-range; fits = under-limit s y k; is = refl })
+          (λ (k : 2 ^ x .fraction ≤ y).
+          let e : y ≡ 2 ^ x .fraction = omega arith in
+          record { c = suc c; f = 2 ^ (x .fraction - x .digit); below = l; fits = under-limit s _ step-fits; is = ap (λ (i : ℕ). i * u) e ∙ step c })
+          (below-or y (2 ^ x .fraction))
 
       -- beside the last characteristic the end is not passed
-      late : (i : ℕ) → i ≤ 1 → q < limit x s - 1 → Among s ((q + i) * u)
-      late i o h = record { c = c; f = q + i; below = in-range; fits = omega arith; is = refl }
+      late : q < limit x s - 1 → (y : ℕ) → y ≤ suc q → Among s (y * u)
+      late h y o = record { c = c; f = y; below = in-range; fits = omega arith; is = refl }
 
-      -- whether the next multiple is nearer
-      next : ℕ
-      next = pick (ltb u (2 * (a % u))) 1 0
-
-      one : next ≤ 1
-      one = go (ltb u (2 * (a % u)))
-        where
-          go : (b : Bool) → pick b 1 0 ≤ 1
-          go true = omega arith
-          go false = omega arith
+      -- the nearest multiple is one of the two
+      either : ((y : ℕ) → y ≤ suc q → Among s (y * u)) → Among s (nearestMultiple u a)
+      either f = by-side (Among s) u a (λ h. f (suc q) (omega arith)) (λ h. f q (omega arith))
 
       go : (b : Bool) → ltb a (rangeEnd x s) ≡ b → Among s (pick b (nearestMultiple u a) (rangeEnd x s))
       go true e =
-          ⊎-elim
-          (λ (l : c < x .characteristics - 1).
-          early next one (div-lt-iff-lt-mul (pow-pos (x .base + x .digit * c)) .1 (reaching-reaches a l)) (omega arith))
+          either
+          (⊎-elim
+          (λ (l : c < x .characteristics - 1). early (div-lt-iff-lt-mul (pow-pos (x .base + x .digit * c)) .1 (reaching-reaches a l)) (omega arith))
           (λ (l : x .characteristics - 1 ≤ c).
           let z : x .characteristics - 1 ≡ c = omega (arith, reaching-low a) in
           let p : a < (limit x s - 1) * u = subst (λ (y : ℕ). a < (limit x s - 1) * unit x y) z (ltb-true a (rangeEnd x s) e) in
-          late next one (div-lt-iff-lt-mul (pow-pos (x .base + x .digit * c)) .1 p)) (below-or c (x .characteristics - 1))
+          late (div-lt-iff-lt-mul (pow-pos (x .base + x .digit * c)) .1 p)) (below-or c (x .characteristics - 1)))
       go false e =
           record { c = x .characteristics - 1; f = limit x s - 1; below = omega (arith, ok .some); fits = omega (arith, pow-pos (x .fraction)); is = refl }
 

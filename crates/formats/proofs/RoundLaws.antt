@@ -24,11 +24,18 @@ enclosed u a h =
     let m : a % u < u = mod-lt a h in
     (omega (arith, e), omega (arith, e, m, suc-mul (a / u) u))
 
+-- the upper one is taken where the remainder is more than half of u, and else the lower one
 pub multiple-up : (u a : ℕ) → u < 2 * (a % u) → nearestMultiple u a ≡ suc (a / u) * u
-multiple-up u a h = rw (lt-ltb u (2 * (a % u)) h) (ap (λ (y : ℕ). y * u) (let e : a / u + 1 ≡ suc (a / u) = omega arith in e))
+multiple-up u a h = up _ (omega (arith, h))
+  where
+    up : (t : ℕ) → u < t → (a / u + pick (ltb u t) 1 0) * u ≡ suc (a / u) * u
+    up t l = rw (lt-ltb u t l) (ap (λ (y : ℕ). y * u) (let e : a / u + 1 ≡ suc (a / u) = omega arith in e))
 
 pub multiple-down : (u a : ℕ) → 2 * (a % u) ≤ u → nearestMultiple u a ≡ a / u * u
-multiple-down u a h = rw (le-ltb u (2 * (a % u)) h) (ap (λ (y : ℕ). y * u) (let e : a / u + 0 ≡ a / u = omega arith in e))
+multiple-down u a h = down _ (omega (arith, h))
+  where
+    down : (t : ℕ) → t ≤ u → (a / u + pick (ltb u t) 1 0) * u ≡ a / u * u
+    down t l = rw (le-ltb u t l) (ap (λ (y : ℕ). y * u) (let e : a / u + 0 ≡ a / u = omega arith in e))
 
 -- what is proved of both is proved of the nearest
 pub by-side : (P : ℕ → Type 0) (u a : ℕ) → (u < 2 * (a % u) → P (suc (a / u) * u)) → (2 * (a % u) ≤ u → P (a / u * u)) → P (nearestMultiple u a)

@@ -472,18 +472,13 @@ fn near_place(x: Format, neg: bool, o: u32, k: u32) -> RoundedPlace
     }
     let f = rounded_whole(o, last - k);
     if c == end {
-        return RoundedPlace {
-            c,
-            f: lesser(f, most(x, neg)),
-            changed: 1,
-        };
+        let f = lesser(f, most(x, neg));
+        return RoundedPlace { c, f, changed: 1 };
     }
     if f == two_to(x.fraction) {
-        return RoundedPlace {
-            c: c + 1,
-            f: two_to(x.fraction - x.digit),
-            changed: 1,
-        };
+        let c = c + 1;
+        let f = two_to(x.fraction - x.digit);
+        return RoundedPlace { c, f, changed: 1 };
     }
     RoundedPlace { c, f, changed: 1 }
 }
