@@ -1,28 +1,34 @@
-"""Writing of reels from records, worked out from document 01 and document 02's CR 2 and CR 4 alone.
+"""Writing of reels from records, worked out from document 01 and document 02's CR 2, CR 4 and CR 5 alone.
 
     python3 tools/vectors/records.py          checks this file on the paper's statements
 
 The rules are written here as literally as possible, so that they share
 nothing with the code they test. What is said of a record is a tuple:
-    ("taken", T, N, length, reel)      by writing; the reel is bytes
-    ("refused", number, beside)        beside is the place or length of the table
+    ("taken", T, N, length, reel)             by exact writing; the reel is bytes
+    ("taken", T, N, length, changed, reel)    by nearest writing, with the count of samples whose value changed
+    ("refused", number, beside)               beside is the place or length of the table
+The nearest values are those of tools/vectors/nearest.py.
 """
 
 import random
 import sys
+from collections import Counter
 from functools import lru_cache
 from pathlib import Path
 
 sys.path.insert(0, str(Path(__file__).resolve().parent))
 sys.dont_write_bytecode = True
 
+import nearest  # noqa: E402
 from reels import (  # noqa: E402
     BINARY_FIELDS, CARDS, CODE, COUNT, GROUPS, HEADERS, INTERVAL, MOST_INTERVAL, MOST_N, MOST_T, POWERS,
     TRACE_COUNT, TRACE_FIELDS, TRACE_HEADER, TRACE_INTERVAL, example, make_reel, make_trace, meaning,
     number_bytes, pair_of_word, random_reel, read_reel, record_length, sample_size, scalar_of, smallest,
     some_bytes, some_groups, some_sample, tagged, trace_size, trace_starts, words,
 )
-from samples import CODES, NORMAL, NOT_NORMAL, is_canonical, pair_bytes, signed, v_of_pair, word_of_v  # noqa: E402
+from samples import (  # noqa: E402
+    CODES, NORMAL, NOT_NORMAL, is_canonical, pair_bytes, pair_of_v, signed, v_of_pair, word_of_v,
+)
 
 # ----------------------------------------------------- where things stand
 
@@ -216,12 +222,49 @@ def write_reel(record, code, room):
     return "taken", t, n, length, reel
 
 
-def write_into(record, code, output):
-    """What is said of the record, and the output's bytes after the call."""
-    said = write_reel(record, code, len(output))
+@lru_cache(maxsize=1 << 16)
+def nearest_pair(code, pair):
+    """The pair of the code's value nearest to a pair's."""
+    return pair_bytes(*pair_of_v(nearest.nearest_v(code, v_of_pair(signed(pair[0:2]), signed(pair[2:6])))))
+
+
+def nearest_record(record, code):
+    """A valid record with the nearest value of the code for each sample, and how many are other values."""
+    t, n = counts(record)
+    rounded = bytearray(record)
+    changed = 0
+    for i in range(1, t + 1):
+        for k in range(1, n + 1):
+            place = place_of_pair(i, n, k)
+            pair = record[place : place + 6]
+            rounded[place : place + 6] = nearest_pair(code, pair)
+            changed += rounded[place : place + 6] != pair
+    return bytes(rounded), changed
+
+
+def write_nearest(record, code, room):
+    """The same by nearest writing: what doesn't fit is no cause."""
+    if code not in CODES:
+        return "refused", 11, 0
+    cause = first_cause(record)
+    if cause:
+        return cause
+    t, n = counts(record)
+    length = reel_length(t, n, code)
+    if room < length:
+        return "refused", 10, length
+    rounded, changed = nearest_record(record, code)
+    reel = reel_of(rounded, code)
+    assert len(reel) == length
+    return "taken", t, n, length, changed, reel
+
+
+def write_into(record, code, output, write=write_reel):
+    """What is said of the record by either writing, and the output's bytes after the call."""
+    said = write(record, code, len(output))
     if said[0] == "refused":
         return said, output
-    return said, said[4] + output[said[3] :]
+    return said, said[-1] + output[said[3] :]
 
 
 # --------------------------------------------------------- making records
@@ -394,6 +437,75 @@ def check_example():
     assert len(make_record(2000, 2)) == 3273 == record_length(0, 2)
 
 
+def check_nearest_example():
+    """The example's samples, 1 and -949/8: whole numbers take 1 and -119, the other codes have both."""
+    reel = example()
+    record = read_reel(reel, 3471)[1]
+    for code, samples in ((2, "00000001 FFFFFF89"), (3, "0001 FF89"), (8, "01 89")):
+        samples = bytes.fromhex(samples)
+        length = 3840 + len(samples)
+        said = write_nearest(record, code, length)
+        assert said[:5] == ("taken", 1, 2, length, 1)
+        # the headers are those of exact writing, but for the code
+        headers = with_bytes(write_reel(record, 1, 3848)[4][:3840], 3224, bytes([0, code]))
+        assert said[5] == headers + samples
+        assert read_reel(said[5], 3471)[1] == make_record(2000, 2, [[pair_bytes(0, 1), pair_bytes(0, -119)]])
+        assert write_nearest(record, code, length - 1) == ("refused", 10, length)
+        assert write_into(record, code, b"\xA5" * (length + 2), write_nearest) == (said, said[5] + b"\xA5\xA5")
+        assert write_into(record, code, b"\xA5" * 9, write_nearest) == (("refused", 10, length), b"\xA5" * 9)
+    for code in (1, 4, 5):
+        exact = write_reel(record, code, 3848)
+        assert write_nearest(record, code, 3848) == (*exact[:4], 0, exact[4])
+
+
+def check_nearest_causes():
+    """11, then 12 and 13 front to back, then 10; a sample that fits no code is no cause."""
+    wide, even = pair_bytes(251, 3), pair_bytes(0, 2)
+    good = make_record(2000, 2, [[wide, wide], [wide, pair_bytes(0, 1)]])
+    bad = make_record(2000, 2, [[wide, wide], [wide, even]])
+    for code in (0, 6, 7, 9, 256, 257, 264, 2 ** 32 - 1):
+        assert write_nearest(b"", code, 0) == write_nearest(bad, code, 0) == ("refused", 11, 0)
+    for code in CODES:
+        length = reel_length(2, 2, code)
+        for room in (0, length - 1, length):
+            assert write_nearest(b"", code, room) == ("refused", 12, 0)
+            assert write_nearest(with_bytes(bad, 3, b"\x00"), code, room) == ("refused", 13, 3)
+            assert write_nearest(bad, code, room) == ("refused", 13, place_of_pair(2, 2, 2))
+            assert write_nearest(good + b"\x00", code, room) == ("refused", 12, len(good))
+            assert write_reel(good, code, room) == ("refused", 14, place_of_pair(1, 2, 1))
+        assert write_nearest(good, code, length - 1) == write_nearest(good, code, 0) == ("refused", 10, length)
+        assert write_nearest(good, code, length)[:5] == ("taken", 2, 2, length, 3)
+
+
+def check_nearest_round_trip(rnd):
+    """The count is that of the samples that exact writing doesn't take; the rounded record comes back as it is."""
+    kinds = Counter()
+    for turn in range(120):
+        code, t, n = CODES[turn % 6], rnd.getrandbits(2), 1 + rnd.getrandbits(2)
+        of = code if turn // 6 % 2 == 0 else 1
+        record = b"".join(some_fields(rnd, some_traces(rnd, of, n, t), n=n))
+        said = write_nearest(record, code, 1 << 20)
+        assert said[:4] == ("taken", t, n, reel_length(t, n, code))
+        exact = write_reel(record, code, 1 << 20)
+        places = [place_of_pair(i, n, k) for i in range(1, t + 1) for k in range(1, n + 1)]
+        unfit = [p for p in places if word_of_pair(code, record[p : p + 6]) is None]
+        assert said[4] == len(unfit)
+        if unfit:
+            assert exact == ("refused", 14, unfit[0])
+        else:
+            assert exact == (*said[:4], said[5])
+        again = read_reel(said[5], len(record))
+        assert again[0] == ("taken", t, n, len(record), 0)
+        changed = [p for p in places if again[1][p : p + 6] != record[p : p + 6]]
+        assert changed == unfit and len(again[1]) == len(record)
+        for p in changed:
+            record = with_bytes(record, p, again[1][p : p + 6])
+        assert record == again[1]
+        assert write_nearest(record, code, said[3]) == (*said[:4], 0, said[5])
+        kinds[len(unfit) > 0] += 1
+    assert min(kinds.values()) > 30, kinds
+
+
 def check_places():
     fields = make_fields(1, 5, [[bytes(6)] * 5] * 3)
     places = [sum(len(field) for field in fields[:k]) for k in range(len(fields))]
@@ -513,6 +625,10 @@ def main():
     check_valid(random.Random(1976))
     check_scalars()
     check_many_traces()
+    nearest.check(random.Random(1978))
+    check_nearest_example()
+    check_nearest_causes()
+    check_nearest_round_trip(random.Random(1979))
     print("records.py: the paper's statements hold")
 
 

@@ -1,4 +1,4 @@
-"""Test vectors for writing reels, worked out from document 01 and document 02's CR 2 and CR 4 alone.
+"""Test vectors for writing reels, worked out from document 01 and document 02's CR 2, CR 4 and CR 5 alone.
 
 Run from the root of the repository:  python3 tools/vectors/write_vectors.py [--check | --list]
 It rewrites crates/write_vectors/stdin and crates/write_vectors/stdout; with
@@ -7,21 +7,25 @@ what each case is about beside its line, and neither writes anything.
 
 The rules are those of tools/vectors/records.py. Beside them nearly every case
 has its answer worked out by hand, and both must agree. Each written reel is
-read by the rules of tools/vectors/reels.py, and its record must come back.
+read by the rules of tools/vectors/reels.py, and its record must come back, by
+nearest writing with the values that its samples became.
 
-stdin is a row of cases without anything between them, at most 1,000,000 bytes:
+stdin is a row of cases without anything between them, at most 1,080,000 bytes:
+    1 byte     0 for exact writing, 1 for nearest writing
     1 byte     target code
     4 bytes    room, the length of the output, big-endian, at most 60,000
     4 bytes    length of the record, big-endian, at most 60,000
     the record
 
 The output holds bytes A5 before each call. stdout has a line for each case:
-    taken T N LENGTH DIGEST AGAIN COUNT
-    refused NUMBER BESIDE DIGEST
-DIGEST is that of the whole output after the call, all its room. AGAIN is the
-digest of the record that reading the written reel gives, and COUNT is how many
-of the reel's words are not normal: none. A digest is 0 at first, and each byte
-b makes (digest * 31 + b) mod 2^32 of it. All numbers are decimal.
+    taken T N LENGTH DIGEST AGAIN COUNT              by exact writing
+    taken T N LENGTH CHANGED DIGEST AGAIN COUNT      by nearest writing
+    refused NUMBER BESIDE DIGEST                     by either
+CHANGED is how many samples have another value on the reel. DIGEST is that of
+the whole output after the call, all its room. AGAIN is the digest of the record
+that reading the written reel gives, and COUNT is how many of the reel's words
+are not normal: none. A digest is 0 at first, and each byte b makes
+(digest * 31 + b) mod 2^32 of it. All numbers are decimal.
 
 Trace 100,001 can't be reached here: 100,000 traces take more than 19 million
 bytes. records.py checks the rules there.
@@ -35,21 +39,22 @@ from pathlib import Path
 sys.path.insert(0, str(Path(__file__).resolve().parent))
 sys.dont_write_bytecode = True
 
+from nearest import examples  # noqa: E402
 from reels import (  # noqa: E402
     BINARY_FIELDS, GROUPS, TRACE_FIELDS, example, pair_of_word, read_reel, record_length, sample_size,
     some_bytes, trace_size, whole16,
 )
 from records import (  # noqa: E402
-    RECORD_SCALARS, make_fields, make_record, place_of_card, place_of_end, place_of_field, place_of_pair,
-    place_of_samples, place_of_trace, reel_length, refilled, relengthed, retagged, some_fields,
-    some_traces, with_bytes, write_into,
+    RECORD_SCALARS, make_fields, make_record, nearest_record, place_of_card, place_of_end, place_of_field,
+    place_of_pair, place_of_samples, place_of_trace, reel_length, refilled, relengthed, retagged, some_fields,
+    some_traces, with_bytes, write_into, write_nearest, write_reel,
 )
 from samples import CODES, pair_bytes  # noqa: E402
 
 FOLDER = Path(__file__).resolve().parents[2] / "crates" / "write_vectors"
 
 MOST = 60000  # of room and of a record
-MOST_STDIN = 1000000
+MOST_STDIN = 1080000
 FILLING = b"\xA5"
 
 
@@ -62,7 +67,7 @@ def digest(some):
 
 def check_written(record, said):
     """The written reel gives the record again, its words are normal, and it carries nothing else but its code."""
-    _, t, n, length, reel = said
+    _, t, n, length, *_, reel = said
     code = reel[3225]
     assert length == len(reel) == 3600 + t * (240 + n * sample_size(code))
     assert read_reel(reel, len(record)) == (("taken", t, n, len(record), 0), record)
@@ -77,22 +82,24 @@ class Cases:
         self.seen = set()
         self.kinds = Counter()
 
-    def put(self, what, record, code, room, by_hand=None):
-        """A case; the line's beginning where it was worked out by hand."""
+    def put(self, what, record, code, room, by_hand=None, write=write_reel):
+        """A case of either writing; the line's beginning where it was worked out by hand."""
         assert code <= 255 and room <= MOST and len(record) <= MOST
-        said, output = write_into(record, code, FILLING * room)
-        line = " ".join(str(item) for item in said[:4])
+        nearest = write is write_nearest
+        said, output = write_into(record, code, FILLING * room, write)
+        line = " ".join(str(item) for item in said if not isinstance(item, bytes))
         assert by_hand in (None, line), (what, by_hand, line)
         line += f" {digest(output)}"
+        kind = "nearest, " if nearest else ""
         if said[0] == "taken":
-            check_written(record, said)
-            (*_, count), again = read_reel(said[4], len(record))
+            check_written(nearest_record(record, code)[0] if nearest else record, said)
+            (*_, count), again = read_reel(said[-1], len(record))
             line += f" {digest(again)} {count}"
-            self.kinds[f"taken, code {code}"] += 1
+            self.kinds[f"{kind}taken, code {code}"] += 1
         else:
             assert output == FILLING * room
-            self.kinds[f"refused by {said[1]}"] += 1
-        case = bytes([code]) + room.to_bytes(4, "big") + len(record).to_bytes(4, "big") + record
+            self.kinds[f"{kind}refused by {said[1]}"] += 1
+        case = bytes([nearest, code]) + room.to_bytes(4, "big") + len(record).to_bytes(4, "big") + record
         assert case not in self.seen, what
         self.seen.add(case)
         self.all.append((what, case, line))
@@ -102,14 +109,19 @@ class Cases:
         length = 3600 + t * (240 + n * sample_size(code))
         self.put(what, record, code, length + more, f"taken {t} {n} {length}")
 
-    def refused(self, what, record, number, beside, code=None, room=None):
+    def nearest(self, what, record, code, t, n, changed, more=0):
+        """The same by nearest writing, with the count of samples whose value changes."""
+        length = 3600 + t * (240 + n * sample_size(code))
+        self.put(what, record, code, length + more, f"taken {t} {n} {length} {changed}", write_nearest)
+
+    def refused(self, what, record, number, beside, code=None, room=None, write=write_reel):
         """A record that is refused, by any code and with any room if none is named."""
         turn = len(self.all)
         if code is None:
             code = CODES[turn % 6]
         if room is None:
             room = (4600, 0, 5000, 3600, 4096)[turn % 5]
-        self.put(what, record, code, room, f"refused {number} {beside}")
+        self.put(what, record, code, room, f"refused {number} {beside}", write)
 
 
 def pairs(some):
@@ -622,10 +634,79 @@ def any_bytes(x, rnd):
         x.refused(f"any {len(record)} bytes, code {code}", record, 11, 0, code, rnd.getrandbits(9))
 
 
+# --------------------------------------------------------- nearest writing
+
+# Pairs (e, m) of all sizes, and the codes that they don't fit.
+ANY_SIZE = [
+    (0, 0, ()), (0, 1, ()), (-1, -1, (2, 3, 8)), (-1, 3, (2, 3, 8)), (2, 25, ()), (7, -1, ()), (7, 1, (8,)),
+    (15, -1, (8,)), (15, 1, (3, 4, 8)), (31, -1, (3, 4, 8)), (31, 1, (2, 3, 4, 8)),
+    (0, 16777217, (1, 3, 4, 5, 8)), (1, 16777215, (1, 3, 4, 8)), (-2, 67108863, CODES),
+    (-149, 1, (2, 3, 8)), (-150, -3, (2, 3, 5, 8)), (-256, 3, (2, 3, 4, 5, 8)), (-280, 1, (2, 3, 4, 5, 8)),
+    (104, -16777215, (2, 3, 4, 8)), (128, 1, (2, 3, 4, 5, 8)), (228, 16777215, (2, 3, 4, 5, 8)), (251, -3, CODES),
+    (-16, 65535, (2, 3, 4, 8)), (-1, -65537, (2, 3, 4, 8)),
+]
+
+# The exponents at which m of 31 bits is within the range of a code, and fits it nowhere.
+LONG_MANTISSAS = {1: (-276, 220), 2: (-31, -1), 3: (-31, -17), 4: (-280, -17), 5: (-179, 96), 8: (-31, -25)}
+
+
+def long_mantissa(rnd, code):
+    """A random pair with 31 bits in m that the code rounds."""
+    least, most = LONG_MANTISSAS[code]
+    m = 2 ** 30 + rnd.getrandbits(30) | 1
+    return pair_bytes(least + rnd.getrandbits(16) % (most - least + 1), (1 - 2 * rnd.getrandbits(1)) * m)
+
+
+def nearest_writing(x, rnd):
+    """Samples at halves and ends, of all sizes, and the causes in their order."""
+    record = read_reel(example(), 3471)[1]
+    x.nearest("the paper's example, -949/8 becomes -119", record, 3, 1, 2, 1, 3)
+    x.nearest("the paper's example, which fits", record, 1, 1, 2, 0)
+    x.refused("the paper's example, one byte short", record, 10, 3842, 8, 3841, write_nearest)
+    x.nearest("no traces", make_record(9, 7), 5, 0, 7, 0, 1)
+    # the examples worked out by hand, every one of which changes
+    for code in CODES:
+        some = examples(code)
+        n = (len(some) + 1) // 2
+        traces = [some[:n], some[-n:]]
+        record = joined(some_fields(rnd, [pairs((e, m) for e, m, _ in trace) for trace in traces]))
+        x.nearest(f"halves and ends, code {code}", record, code, 2, n, 2 * n)
+        reel = write_nearest(record, code, MOST)[-1]
+        for i, trace in enumerate(traces, 1):
+            end = reel_length(i, n, code)
+            assert reel[end - n * sample_size(code) : end] == b"".join(word for _, _, word in trace)
+    # the same two traces under every code, and one of mantissas that fit nowhere
+    traces = [pairs((e, m) for e, m, _ in ANY_SIZE[:12]), pairs((e, m) for e, m, _ in ANY_SIZE[12:])]
+    for code in CODES:
+        record = joined(some_fields(rnd, [*traces, [long_mantissa(rnd, code) for _ in range(12)]]))
+        changed = 12 + sum(code in codes for _, _, codes in ANY_SIZE)
+        x.nearest(f"samples of any size, code {code}", record, code, 3, 12, changed, code % 3)
+
+    # 11, then 12 and 13 front to back, then 10; what doesn't fit is no cause
+    def refused(*case):
+        x.refused(*case, write_nearest)
+
+    for code in (0, 6, 7, 9, 128, 255):
+        refused(f"code {code}, an empty record", b"", 11, 0, code, 7)
+    for code, front in zip(CODES, ("", "01", "02003C", "010C80", "010C8000", "050004 00000000")):
+        front = bytes.fromhex(front)
+        refused(f"{len(front)} bytes, code {code}", front, 12, 0, code, 4 * code)
+    unfit, even, one = pair_bytes(251, 3), pair_bytes(0, 2), pair_bytes(0, 1)
+    a = some_fields(rnd, [[unfit, unfit], [unfit, one]])
+    refused("code 10, a good record", joined(a), 11, 0, 10, 4200)
+    refused("the last card byte 00, nothing follows", with_bytes(a[0], 3202, b"\x00"), 13, 3202, 4, 3603)
+    refused("samples don't fit, a wrong count", joined(a[:-1]) + bytes.fromhex("050004 00000001"),
+            12, place_of_end(2, 2), 2, reel_length(2, 2, 2))
+    refused("samples don't fit, one byte short", joined(a), 10, reel_length(2, 2, 8), 8, reel_length(2, 2, 8) - 1)
+    refused("samples don't fit, no room", joined(a), 10, reel_length(2, 2, 5), 5, 0)
+    a = some_fields(rnd, [[unfit, unfit], [unfit, even]])
+    refused("samples don't fit, the last pair even", joined(a), 13, place_of_pair(2, 2, 2), 3, 4500)
+
+
 PARTS = (
     good_records, no_traces, long_records, edges, room, bad_codes, wrong_tags, wrong_lengths, cut_short,
     missing_and_twice, counts_and_more, wrong_numbers, wrong_trace_numbers, wrong_pairs, order,
-    small_changes, any_bytes, scalars,
+    small_changes, any_bytes, scalars, nearest_writing,
 )
 
 

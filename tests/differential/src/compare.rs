@@ -14,7 +14,7 @@ const ALIGNMENTS: usize = 16;
 /// The longest output that a call is lent.
 const MOST_ROOM: usize = 26_000_000;
 
-const CALLS: [&str; 7] = [
+const CALLS: [&str; 8] = [
     "read_word",
     "write_pair",
     "read_reel",
@@ -22,6 +22,7 @@ const CALLS: [&str; 7] = [
     "look_up",
     "list_cards",
     "take_cards",
+    "write_nearest",
 ];
 const READ_WORD: usize = 0;
 const WRITE_PAIR: usize = 1;
@@ -30,6 +31,7 @@ const WRITE_REEL: usize = 3;
 const LOOK_UP: usize = 4;
 const LIST_CARDS: usize = 5;
 const TAKE_CARDS: usize = 6;
+const WRITE_NEAREST: usize = 7;
 
 /// The largest number of a cause.
 const MOST_NUMBER: usize = 19;
@@ -42,6 +44,7 @@ const CAUSES: [&[usize]; CALLS.len()] = [
     &[1, 2, 3, 4, 5, 6, 7, 8, 9, 15, 16, 18, 19],
     &[10, 12, 13],
     &[10, 12, 13, 17],
+    &[10, 11, 12, 13],
 ];
 
 pub struct Comparison {
@@ -212,6 +215,24 @@ impl Comparison {
                 (
                     library::write_reel(record, code, theirs),
                     independent::write_reel(record, code, ours).into(),
+                )
+            },
+        )
+    }
+
+    /// Writes a record with both under a code, each sample as the nearest value, into an output of
+    /// `room` bytes, and gives the answer.
+    pub fn write_nearest(&mut self, record: &[u8], code: u32, room: usize) -> ReelAnswer {
+        let name = format!("write_nearest, code {code}");
+        self.reel_call(
+            WRITE_NEAREST,
+            name,
+            [record],
+            room,
+            |[record], theirs, ours| {
+                (
+                    library::write_nearest(record, code, theirs),
+                    independent::write_nearest(record, code, ours).into(),
                 )
             },
         )

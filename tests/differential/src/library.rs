@@ -1,6 +1,6 @@
 //! The calls of include/aukpocket.h, and the independent implementation's answers in their form.
 
-use independent::{ReelRead, Refused, Taken, WordRead};
+use independent::{NearestWritten, ReelRead, Refused, Taken, WordRead};
 
 #[repr(C)]
 #[derive(Clone, Copy, Debug, PartialEq, Eq)]
@@ -11,6 +11,7 @@ pub struct ReelAnswer {
     pub length: u64,
     pub beside: u64,
     pub not_normal: u64,
+    pub changed: u64,
 }
 
 #[repr(C)]
@@ -37,6 +38,13 @@ extern "C" {
         record_length: usize,
     ) -> ReelAnswer;
     fn aukpocket_write_reel(
+        record: *const u8,
+        record_length: usize,
+        code: u32,
+        reel: *mut u8,
+        reel_length: usize,
+    ) -> ReelAnswer;
+    fn aukpocket_write_nearest(
         record: *const u8,
         record_length: usize,
         code: u32,
@@ -74,6 +82,18 @@ pub fn read_reel(reel: &[u8], out: &mut [u8]) -> ReelAnswer {
 pub fn write_reel(record: &[u8], code: u32, out: &mut [u8]) -> ReelAnswer {
     unsafe {
         aukpocket_write_reel(
+            record.as_ptr(),
+            record.len(),
+            code,
+            out.as_mut_ptr(),
+            out.len(),
+        )
+    }
+}
+
+pub fn write_nearest(record: &[u8], code: u32, out: &mut [u8]) -> ReelAnswer {
+    unsafe {
+        aukpocket_write_nearest(
             record.as_ptr(),
             record.len(),
             code,
@@ -122,10 +142,12 @@ impl From<Refused> for ReelAnswer {
             length: 0,
             beside,
             not_normal: 0,
+            changed: 0,
         }
     }
 }
 
+/// Reading changes no sample.
 impl From<Result<ReelRead, Refused>> for ReelAnswer {
     fn from(result: Result<ReelRead, Refused>) -> ReelAnswer {
         match result {
@@ -141,13 +163,37 @@ impl From<Result<ReelRead, Refused>> for ReelAnswer {
                 length,
                 beside: 0,
                 not_normal,
+                changed: 0,
             },
             Err(cause) => cause.into(),
         }
     }
 }
 
-/// A call on a record counts no words.
+/// Nearest writing counts no words, but the samples that it changed.
+impl From<Result<NearestWritten, Refused>> for ReelAnswer {
+    fn from(result: Result<NearestWritten, Refused>) -> ReelAnswer {
+        match result {
+            Ok(NearestWritten {
+                traces,
+                samples,
+                length,
+                changed,
+            }) => ReelAnswer {
+                number: 0,
+                traces,
+                samples,
+                length,
+                beside: 0,
+                not_normal: 0,
+                changed,
+            },
+            Err(cause) => cause.into(),
+        }
+    }
+}
+
+/// Any other call on a record counts nothing.
 impl From<Result<Taken, Refused>> for ReelAnswer {
     fn from(result: Result<Taken, Refused>) -> ReelAnswer {
         match result {
@@ -162,6 +208,7 @@ impl From<Result<Taken, Refused>> for ReelAnswer {
                 length,
                 beside: 0,
                 not_normal: 0,
+                changed: 0,
             },
             Err(cause) => cause.into(),
         }

@@ -7,6 +7,7 @@
 mod compare;
 mod library;
 mod listings;
+mod nearest;
 mod normal;
 mod random;
 mod records;
@@ -34,6 +35,7 @@ fn everything(compare: &mut compare::Comparison) {
     reels::reels(compare);
     reels::look_ups(compare);
     records::records(compare);
+    nearest::nearest(compare);
     scalars::scalars(compare);
     normal::counts(compare);
     listings::listings(compare);
@@ -41,6 +43,7 @@ fn everything(compare: &mut compare::Comparison) {
     reels::long_reels(compare);
     normal::long_reels(compare);
     records::long_records(compare);
+    nearest::long_records(compare);
     listings::long_listings(compare);
 
     compare.stage("the whole run");

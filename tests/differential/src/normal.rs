@@ -79,9 +79,9 @@ fn put_word(reel: &mut [u8], shape: Shape, trace: usize, sample: usize, word: [u
     reel[place..place + 4].copy_from_slice(&word);
 }
 
-/// Some of a row: of the traces of a reel, or of the samples of a trace.
+/// Some of a row: of the traces of a reel, or of the samples of a trace or of a record.
 #[derive(Clone, Copy)]
-enum Which {
+pub enum Which {
     None,
     First,
     Last,
@@ -92,7 +92,7 @@ enum Which {
 }
 
 /// All but none.
-const WHICH: [Which; 6] = [
+pub const WHICH: [Which; 6] = [
     Which::First,
     Which::Last,
     Which::One,
@@ -103,7 +103,7 @@ const WHICH: [Which; 6] = [
 
 impl Which {
     /// For each of a row of so many, whether it is one of these.
-    fn of(self, random: &mut Random, count: usize) -> Vec<bool> {
+    pub fn of(self, random: &mut Random, count: usize) -> Vec<bool> {
         let one = random.below(count);
         let chosen = |index| match self {
             Which::None => false,

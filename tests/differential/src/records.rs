@@ -84,7 +84,8 @@ impl Record {
     }
 }
 
-fn fitting_pair(random: &mut Random, code: u32) -> [u8; 6] {
+/// The pair of some word of the code.
+pub fn fitting_pair(random: &mut Random, code: u32) -> [u8; 6] {
     let word = if random.once_in(2) {
         random_word(random, code)
     } else {

@@ -1,10 +1,12 @@
-//! SEG-Y revision 0 reels and their canonical records: the five calls of document 01 and the two of
-//! document 02's CR 1, with the scalars of CR 2, the count of CR 3 and the codes of CR 4, in plain Rust,
-//! written from the papers alone. The differential test compares the library with them.
+//! SEG-Y revision 0 reels and their canonical records: the five calls of document 01, the two of
+//! document 02's CR 1 and the one of its CR 5, with the scalars of CR 2, the count of CR 3 and the codes
+//! of CR 4, in plain Rust, written from the papers alone. The differential test compares the library
+//! with them.
 //!
 //! A refused call changes no byte of its output. So each call on a whole reel or record makes two
 //! passes: the first looks for causes to refuse, the second writes.
 
+mod nearest;
 mod page;
 mod scalars;
 #[cfg(test)]
@@ -66,6 +68,16 @@ pub struct ReelRead {
     pub samples: u64,
     pub length: u64,
     pub not_normal: u64,
+}
+
+/// What nearest writing answers where it is taken. The length is that of the reel that was written, and
+/// the last is how many samples have another value on it than in the record.
+#[derive(Clone, Copy, Debug, PartialEq, Eq)]
+pub struct NearestWritten {
+    pub traces: u64,
+    pub samples: u64,
+    pub length: u64,
+    pub changed: u64,
 }
 
 /// What reading a word answers where it is taken: its pair, and whether it is an IBM word that is not
@@ -225,6 +237,39 @@ pub fn write_reel(record: &[u8], code: u32, out: &mut [u8]) -> Result<Taken, Ref
         }
     }
     Ok(shape.taken(length))
+}
+
+/// Writes a record as a reel under a target code to the front of the output, each sample as the nearest
+/// value of that code. It is what exact writing makes of the record with those values in it, and they
+/// all fit.
+pub fn write_nearest(record: &[u8], code: u32, out: &mut [u8]) -> Result<NearestWritten, Refused> {
+    let Some(target) = Code::numbered(code) else {
+        return refused(11, 0);
+    };
+    let shape = check_record(record, None)?;
+    let length = shape.reel_length(target);
+    if out.len() < length {
+        return refused(10, length);
+    }
+
+    let rows = nearest::rows(target);
+    let mut rounded = record.to_vec();
+    let mut changed = 0;
+    for held in rounded[TRACES_PLACE..].chunks_exact_mut(shape.held_length()) {
+        let pairs = &mut held[2 * FIELD_HEAD + TRACE_FIELDS..];
+        for pair in pairs.chunks_exact_mut(PAIR_BYTES) {
+            let near = nearest::nearest(Pair::of_bytes(pair), &rows).bytes();
+            changed += u64::from(pair != near);
+            pair.copy_from_slice(&near);
+        }
+    }
+    let written = write_reel(&rounded, code, out).expect("each sample fits, and so does the reel");
+    Ok(NearestWritten {
+        traces: written.traces,
+        samples: written.samples,
+        length: written.length,
+        changed,
+    })
 }
 
 /// Looks up the assigned field that begins at a byte number: of the binary header for trace 0, of

@@ -1,4 +1,4 @@
-//! Document 01's samples at the edges and its example, and what document 02's CR 1 to CR 4 make of it.
+//! Document 01's samples at the edges and its example, and what document 02's CR 1 to CR 5 make of it.
 
 use super::*;
 
@@ -1487,4 +1487,889 @@ fn causes_of_scalars_in_a_record_in_order() {
     }
     assert_eq!(write_reel(&record, 1, &mut []), refused(12, 3449));
     assert_eq!(write_reel(&record, 0, &mut []), refused(11, 0));
+}
+
+/// A record of these pairs, trace by trace, its headers the example's.
+fn record_of(traces: &[&[[u8; 6]]]) -> Vec<u8> {
+    let samples = (traces[0].len() as u16).to_be_bytes();
+    let mut record = example_record();
+    let mut header = record.split_off(3266);
+    header.truncate(183);
+    header[3 + 114..3 + 116].copy_from_slice(&samples);
+    record[3206 + 20..3206 + 22].copy_from_slice(&samples);
+    for pairs in traces {
+        record.extend(&header);
+        record.push(0x04);
+        record.extend((6 * pairs.len() as u16).to_be_bytes());
+        record.extend(pairs.concat());
+    }
+    record.extend([0x05, 0x00, 0x04]);
+    record.extend((traces.len() as u32).to_be_bytes());
+    record
+}
+
+/// The bytes of a sample on a reel.
+fn width(code: u32) -> usize {
+    match code {
+        3 => 2,
+        8 => 1,
+        _ => 4,
+    }
+}
+
+/// Nearest writing of these samples, at most 8,000: their words, with 00 behind them under codes 3 and
+/// 8, and how many values changed. The output is just long enough.
+fn near_words(code: u32, pairs: &[[u8; 6]]) -> (Vec<u32>, u64) {
+    let mut out = vec![0xA5; 3840 + pairs.len() * width(code)];
+    let written = write_nearest(&record_of(&[pairs]), code, &mut out).expect("a valid record");
+    assert_eq!(written.length, out.len() as u64);
+    let words = out[3840..].chunks_exact(width(code)).map(|bytes| {
+        let mut word = [0; 4];
+        word[..bytes.len()].copy_from_slice(bytes);
+        u32::from_be_bytes(word)
+    });
+    (words.collect(), written.changed)
+}
+
+/// A sample that doesn't fit the code becomes this word, and counts.
+fn becomes(code: u32, exponent: i16, mantissa: i32, bits: u32) {
+    let (words, changed) = near_words(code, &[pair(exponent, mantissa)]);
+    assert_eq!(
+        (words[0], changed),
+        (bits, 1),
+        "code {code}, e {exponent}, m {mantissa}: {:08X}",
+        words[0]
+    );
+    misfits(code, exponent, mantissa);
+}
+
+/// A sample that fits the code gets the word that exact writing gives, and doesn't count.
+fn stays(code: u32, exponent: i16, mantissa: i32, bits: u32) {
+    let (words, changed) = near_words(code, &[pair(exponent, mantissa)]);
+    assert_eq!(
+        (words[0], changed),
+        (bits, 0),
+        "code {code}, e {exponent}, m {mantissa}: {:08X}",
+        words[0]
+    );
+    writes(code, exponent, mantissa, bits);
+}
+
+/// The word of a whole number under codes 2, 3 and 8.
+fn whole_word(code: u32, number: i64) -> u32 {
+    match code {
+        2 => number as u32,
+        3 => (number as u32) << 16,
+        _ => (number as u32) << 24,
+    }
+}
+
+/// Halves go to the whole number nearer zero, which for -1/2 is written as any zero; all else goes to
+/// the nearer one.
+#[test]
+fn nearest_whole_numbers() {
+    for (exponent, mantissa, number) in [
+        (-1, 1, 0),
+        (-1, 3, 1),
+        (-1, 5, 2),
+        (-1, 7, 3),
+        (-1, 201, 100),
+        (-1, 253, 126),
+        (-2, 1, 0),
+        (-2, 3, 1),
+        (-2, 5, 1),
+        (-2, 7, 2),
+        (-2, 507, 127),
+        // A half and the least that pairs have above it and below it, then three halves so.
+        (-31, (1 << 30) + 1, 1),
+        (-31, (1 << 30) - 1, 0),
+        (-29, (3 << 28) + 1, 2),
+        (-29, (3 << 28) - 1, 1),
+        (-31, i32::MAX, 1),
+        (-32, i32::MAX, 0),
+        (-280, 1, 0),
+        (-280, i32::MAX, 0),
+    ] {
+        for code in [2, 3, 8] {
+            becomes(code, exponent, mantissa, whole_word(code, number));
+            becomes(code, exponent, -mantissa, whole_word(code, -number));
+        }
+    }
+    for number in [0, 1, -1, 63, -63, 127, -127] {
+        for code in [2, 3, 8] {
+            stays(code, 0, number, whole_word(code, i64::from(number)));
+        }
+    }
+}
+
+/// Beyond the largest number and below the least, by however much, it is that number.
+#[test]
+fn ends_of_whole_numbers() {
+    stays(2, 0, i32::MAX, 0x7FFF_FFFF);
+    stays(2, 0, -i32::MAX, 0x8000_0001);
+    stays(2, 31, -1, 0x8000_0000);
+    becomes(2, 31, 1, 0x7FFF_FFFF);
+    becomes(2, 1, (1 << 30) + 1, 0x7FFF_FFFF);
+    becomes(2, 1, -(1 << 30) - 1, 0x8000_0000);
+    becomes(2, 32, 1, 0x7FFF_FFFF);
+    becomes(2, 32, -1, 0x8000_0000);
+    becomes(2, -1, i32::MAX, 0x3FFF_FFFF);
+    becomes(2, -1, -i32::MAX, 0xC000_0001);
+
+    // 32,767 and 1/4, 1/2, 3/4, 1 and 2 more; below zero 5/4 and 3/2 as well; then 32,766.5.
+    stays(3, 0, 32_767, 0x7FFF_0000);
+    becomes(3, -2, 131_069, 0x7FFF_0000);
+    becomes(3, -1, 65_535, 0x7FFF_0000);
+    becomes(3, -2, 131_071, 0x7FFF_0000);
+    becomes(3, 15, 1, 0x7FFF_0000);
+    becomes(3, 0, 32_769, 0x7FFF_0000);
+    becomes(3, -2, -131_069, 0x8001_0000);
+    becomes(3, -1, -65_535, 0x8001_0000);
+    becomes(3, -2, -131_071, 0x8000_0000);
+    stays(3, 15, -1, 0x8000_0000);
+    becomes(3, -2, -131_073, 0x8000_0000);
+    becomes(3, -1, -65_537, 0x8000_0000);
+    becomes(3, 0, -32_769, 0x8000_0000);
+    becomes(3, -1, 65_533, 0x7FFE_0000);
+    becomes(3, -1, -65_533, 0x8002_0000);
+
+    // The same about 127.
+    stays(8, 0, 127, 0x7F00_0000);
+    becomes(8, -2, 509, 0x7F00_0000);
+    becomes(8, -1, 255, 0x7F00_0000);
+    becomes(8, -2, 511, 0x7F00_0000);
+    becomes(8, 7, 1, 0x7F00_0000);
+    becomes(8, 0, 129, 0x7F00_0000);
+    becomes(8, -2, -509, 0x8100_0000);
+    becomes(8, -1, -255, 0x8100_0000);
+    becomes(8, -2, -511, 0x8000_0000);
+    stays(8, 7, -1, 0x8000_0000);
+    becomes(8, -2, -513, 0x8000_0000);
+    becomes(8, -1, -257, 0x8000_0000);
+    becomes(8, 0, -129, 0x8000_0000);
+    becomes(8, -1, 253, 0x7E00_0000);
+    becomes(8, -1, -253, 0x8200_0000);
+
+    // 127.99999994, which is nearer 128 than 127.
+    becomes(8, -24, i32::MAX, 0x7F00_0000);
+    becomes(8, -24, -i32::MAX, 0x8000_0000);
+
+    for code in [2, 3, 8] {
+        let (least, most) = match code {
+            2 => (i64::from(i32::MIN), i64::from(i32::MAX)),
+            3 => (-32_768, 32_767),
+            _ => (-128, 127),
+        };
+        for (exponent, mantissa) in [(33, 1), (64, 1), (251, 1), (251, i32::MAX), (32, 12_345)] {
+            becomes(code, exponent, mantissa, whole_word(code, most));
+            becomes(code, exponent, -mantissa, whole_word(code, least));
+        }
+    }
+}
+
+/// A word of sign and magnitude stays, of either sign.
+fn stays_of_either_sign(code: u32, exponent: i16, mantissa: i32, bits: u32) {
+    stays(code, exponent, mantissa, bits);
+    stays(code, exponent, -mantissa, bits | 0x8000_0000);
+}
+
+/// A sample becomes a word of sign and magnitude, and its negative that word's negative; but a zero has
+/// no sign.
+fn becomes_of_either_sign(code: u32, exponent: i16, mantissa: i32, bits: u32) {
+    becomes(code, exponent, mantissa, bits);
+    let negative = if bits == 0 { 0 } else { bits | 0x8000_0000 };
+    becomes(code, exponent, -mantissa, negative);
+}
+
+/// The step of an IBM word is that of its sixth hexadecimal digit, 16 times as long where C is one more.
+#[test]
+fn nearest_ibm_words() {
+    stays(1, 0, 0, 0x0000_0000);
+    stays_of_either_sign(1, -280, 1, 0x0000_0001);
+    stays_of_either_sign(1, -280, 16_777_215, 0x00FF_FFFF);
+    stays_of_either_sign(1, 0, 16_777_215, 0x46FF_FFFF);
+    stays_of_either_sign(1, 4, 2_097_151, 0x471F_FFFF);
+    stays_of_either_sign(1, 228, 16_777_215, 0x7FFF_FFFF);
+
+    for (exponent, mantissa, bits) in [
+        // In steps of 16^-70, of which C 1 has every sixteenth: 2^24 and 1, 7, 8, 9, 15 and 24 more.
+        (-280, 16_777_217, 0x0110_0000),
+        (-280, 16_777_223, 0x0110_0000),
+        (-277, 2_097_153, 0x0110_0000),
+        (-280, 16_777_225, 0x0110_0001),
+        (-280, 16_777_231, 0x0110_0001),
+        (-277, 2_097_155, 0x0110_0001),
+        // 2^28 less 8, 4 and 1: a half of the step goes down, less of it carries into C.
+        (-277, 33_554_431, 0x01FF_FFFF),
+        (-278, 67_108_863, 0x0210_0000),
+        (-280, 268_435_455, 0x0210_0000),
+        // About 2^24: less 3/2, 3/4, 1/2 and 1/4, then more by 1, 8, 9 and 24.
+        (-1, 33_554_429, 0x46FF_FFFE),
+        (-2, 67_108_861, 0x46FF_FFFF),
+        (-1, 33_554_431, 0x46FF_FFFF),
+        (-2, 67_108_863, 0x4710_0000),
+        (0, 16_777_217, 0x4710_0000),
+        (3, 2_097_153, 0x4710_0000),
+        (0, 16_777_225, 0x4710_0001),
+        (3, 2_097_155, 0x4710_0001),
+        // 33,554,424, 33,554,425 and 33,554,430, of which the last has 24 bits.
+        (3, 4_194_303, 0x471F_FFFF),
+        (0, 33_554_425, 0x4720_0000),
+        (1, 16_777_215, 0x4720_0000),
+        // 2^31 - 1, and 2^28 less 8, 4 and 1.
+        (0, i32::MAX, 0x4880_0000),
+        (3, 33_554_431, 0x47FF_FFFF),
+        (2, 67_108_863, 0x4810_0000),
+        (0, 268_435_455, 0x4810_0000),
+        // About 1: the step is 2^-24 below it and 2^-20 above it.
+        (-25, 33_554_431, 0x40FF_FFFF),
+        (-26, 67_108_863, 0x4110_0000),
+        (-21, 2_097_153, 0x4110_0000),
+        (-22, 4_194_307, 0x4110_0001),
+        (-21, 2_097_155, 0x4110_0001),
+        // Up to the end, and beyond it.
+        (227, 33_554_427, 0x7FFF_FFFD),
+        (227, 33_554_429, 0x7FFF_FFFE),
+        (226, 67_108_859, 0x7FFF_FFFF),
+        (227, 33_554_431, 0x7FFF_FFFF),
+        (226, 67_108_863, 0x7FFF_FFFF),
+        (228, 16_777_217, 0x7FFF_FFFF),
+        (251, 3, 0x7FFF_FFFF),
+        (251, i32::MAX, 0x7FFF_FFFF),
+    ] {
+        becomes_of_either_sign(1, exponent, mantissa, bits);
+    }
+}
+
+/// The step of a gain word is 2^-g for the largest g that has the value in range. Of the words of one
+/// value that with the smallest g is written.
+#[test]
+fn nearest_gain_words() {
+    for (exponent, mantissa, above, below) in [
+        (0, 0, 0x0000_0000, 0x0000_0000),
+        (0, 32_767, 0x0000_7FFF, 0x0000_8001),
+        (-14, 16_385, 0x000E_4001, 0x000E_BFFF),
+        (-1, 32_767, 0x0001_7FFF, 0x0001_8001),
+        (-255, 1, 0x00FF_0001, 0x00FF_FFFF),
+        (-240, 1, 0x00F0_0001, 0x00F0_FFFF),
+    ] {
+        stays(4, exponent, mantissa, above);
+        stays(4, exponent, -mantissa, below);
+    }
+    stays(4, 15, -1, 0x0000_8000);
+
+    for (exponent, mantissa, above, below) in [
+        // 32,766.5, then 32,767.25; the range ends at 32,767 and at -32,768.
+        (-1, 65_533, 0x0000_7FFE, 0x0000_8002),
+        (-2, 131_069, 0x0000_7FFF, 0x0000_8001),
+        (-1, 65_535, 0x0000_7FFF, 0x0000_8001),
+        (-2, 131_071, 0x0000_7FFF, 0x0000_8000),
+        (-1, 65_537, 0x0000_7FFF, 0x0000_8000),
+        (0, 32_769, 0x0000_7FFF, 0x0000_8000),
+        (16, 1, 0x0000_7FFF, 0x0000_8000),
+        (5, 3_125, 0x0000_7FFF, 0x0000_8000),
+        (251, i32::MAX, 0x0000_7FFF, 0x0000_8000),
+        // 16,384.5; then 16,383.75 and 16,383.875, between 32,767 halves and 16,384.
+        (-1, 32_769, 0x0000_4000, 0x0000_C000),
+        (-2, 65_535, 0x0001_7FFF, 0x0001_8001),
+        (-3, 131_071, 0x0000_4000, 0x0000_C000),
+        // 1 + 2^-15, 1 + 3/4 of 2^-14, 1 + 3/2 of 2^-14, 1 - 2^-16 and 1 - 2^-17.
+        (-15, 32_769, 0x0000_0001, 0x0000_FFFF),
+        (-16, 65_539, 0x000E_4001, 0x000E_BFFF),
+        (-15, 32_771, 0x000E_4001, 0x000E_BFFF),
+        (-16, 65_535, 0x000F_7FFF, 0x000F_8001),
+        (-17, 131_071, 0x0000_0001, 0x0000_FFFF),
+        // In steps of 2^-255: 1/2, 3/4, 5/4, 3/2, 5/2, 7/2, and far less than one.
+        (-256, 1, 0x0000_0000, 0x0000_0000),
+        (-257, 3, 0x00FF_0001, 0x00FF_FFFF),
+        (-257, 5, 0x00FF_0001, 0x00FF_FFFF),
+        (-256, 3, 0x00FF_0001, 0x00FF_FFFF),
+        (-256, 5, 0x00FE_0001, 0x00FE_FFFF),
+        (-256, 7, 0x00FF_0003, 0x00FF_FFFD),
+        (-280, (1 << 24) - 1, 0x0000_0000, 0x0000_0000),
+        (-280, (1 << 24) + 1, 0x00FF_0001, 0x00FF_FFFF),
+        (-257, 1, 0x0000_0000, 0x0000_0000),
+        (-280, 1, 0x0000_0000, 0x0000_0000),
+        // 32,767.5 and 32,767.75 of those steps; 32,768 of them is 2^-240.
+        (-256, 65_535, 0x00FF_7FFF, 0x00FF_8001),
+        (-257, 131_071, 0x00F0_0001, 0x00F0_FFFF),
+    ] {
+        becomes(4, exponent, mantissa, above);
+        becomes(4, exponent, -mantissa, below);
+    }
+    becomes(4, 15, 1, 0x0000_7FFF);
+}
+
+/// The least step of an IEEE word is 2^-149; each power of two from 2^-125 on doubles it.
+#[test]
+fn nearest_ieee_words() {
+    for (bits, exponent, mantissa) in IEEE {
+        stays(5, exponent, mantissa, bits);
+    }
+    for (exponent, mantissa, bits) in [
+        // In steps of 2^-149: 1/2, a little more and a little less, 1/4, 3/4, 3/2, 5/2, 7/2.
+        (-150, 1, 0x0000_0000),
+        (-180, (1 << 30) + 1, 0x0000_0001),
+        (-180, (1 << 30) - 1, 0x0000_0000),
+        (-151, 1, 0x0000_0000),
+        (-151, 3, 0x0000_0001),
+        (-150, 3, 0x0000_0001),
+        (-150, 5, 0x0000_0002),
+        (-150, 7, 0x0000_0003),
+        (-280, 1, 0x0000_0000),
+        (-280, i32::MAX, 0x0000_0000),
+        // The same about the least normal number, 2^23: less 1/2 and 1/4, and more by 1/2 and 3/4.
+        (-150, 16_777_215, 0x007F_FFFF),
+        (-151, 33_554_431, 0x0080_0000),
+        (-150, 16_777_217, 0x0080_0000),
+        (-151, 33_554_435, 0x0080_0001),
+        // About 2^24, above which the step is 2: less 1/2 and 1/4, and more by 1, 3/2 and 3.
+        (-150, 33_554_431, 0x00FF_FFFF),
+        (-151, 67_108_863, 0x0100_0000),
+        (-149, 16_777_217, 0x0100_0000),
+        (-150, 33_554_435, 0x0100_0001),
+        (-149, 16_777_219, 0x0100_0001),
+        // Whole numbers: 2^24 + 1, 2^24 + 3, 2^25 - 1, 2^26 - 1, 2^31 - 1.
+        (0, 16_777_217, 0x4B80_0000),
+        (0, 16_777_219, 0x4B80_0001),
+        (0, 33_554_431, 0x4BFF_FFFF),
+        (0, 67_108_863, 0x4C80_0000),
+        (0, i32::MAX, 0x4F00_0000),
+        // Up to the largest finite number, and beyond it.
+        (103, 33_554_427, 0x7F7F_FFFD),
+        (103, 33_554_429, 0x7F7F_FFFE),
+        (102, 67_108_859, 0x7F7F_FFFF),
+        (103, 33_554_431, 0x7F7F_FFFF),
+        (102, 67_108_863, 0x7F7F_FFFF),
+        (128, 1, 0x7F7F_FFFF),
+        (104, 16_777_217, 0x7F7F_FFFF),
+        (127, 3, 0x7F7F_FFFF),
+        (200, 1, 0x7F7F_FFFF),
+        (251, i32::MAX, 0x7F7F_FFFF),
+    ] {
+        becomes_of_either_sign(5, exponent, mantissa, bits);
+    }
+}
+
+/// Numbers n, each with a power p, such that n × 2^p and (n + 1) × 2^p are values of the code and none
+/// is between them: the ends of every step of the code, and others.
+fn steps(code: u32) -> Vec<(i64, i16)> {
+    let mut row = numbers(u64::from(code));
+    let mut steps = Vec::new();
+    let mut put = |least: i64, most: i64, power: i16| {
+        let middle = (least + most) / 2;
+        for number in [least, least + 1, middle, middle + 1, most - 1, most] {
+            steps.push((number, power));
+        }
+        for number in row.by_ref().take(3) {
+            steps.push((least + i64::from(number) % (most - least + 1), power));
+        }
+    };
+    match code {
+        1 => {
+            for characteristic in 0..=126 {
+                put(0x10_0000, 0xFF_FFFF, 4 * characteristic - 280);
+            }
+            put(0x10_0000, 0xFF_FFFE, 228);
+        }
+        4 => {
+            put(0x4000, 0x7FFE, 0);
+            for gain in 1..255 {
+                put(0x4000, 0x7FFF, -gain);
+            }
+            put(0, 0x7FFF, -255);
+        }
+        5 => {
+            put(0, 0xFF_FFFF, -149);
+            for power in -148..104 {
+                put(0x80_0000, 0xFF_FFFF, power);
+            }
+            put(0x80_0000, 0xFF_FFFE, 104);
+        }
+        _ => {
+            let bits = 8 * width(code) - 1;
+            for length in 1..bits {
+                put(1 << length, (2 << length) - 2, 0);
+            }
+            put(0, 1, 0);
+        }
+    }
+    steps
+}
+
+/// Between two neighbouring values, up to the half and with it a sample becomes the one nearer zero,
+/// after it the other; of either sign, by parts as small as pairs have.
+#[test]
+fn between_neighbours() {
+    for code in CODES {
+        let (mut pairs, mut expected) = (Vec::new(), Vec::new());
+        for (number, power) in steps(code) {
+            let longest = number.leading_zeros() as i16 - 33;
+            let lengths = [1, 2, 3, longest].into_iter();
+            for parts in lengths.filter(|parts| (1..=longest).contains(parts)) {
+                let half = 1 << (parts - 1);
+                for part in [1, half - 1, half, half + 1, 2 * half - 1] {
+                    let whole = (number << parts) + part;
+                    let twos = whole.trailing_zeros() as i16;
+                    if !(1..2 * half).contains(&part) || power - parts + twos < LEAST_EXPONENT {
+                        continue;
+                    }
+                    let near = if part <= half { number } else { number + 1 };
+                    for sign in [1, -1] {
+                        pairs.push(Pair::of_value(sign * whole as i32, power - parts).bytes());
+                        let near = Pair::of_value(sign * near as i32, power);
+                        let word = write_pair(code, near.bytes()).expect("a value of the code");
+                        expected.push(u32::from_be_bytes(word));
+                    }
+                }
+            }
+        }
+        assert!(pairs.len() > 1_000, "code {code}: {}", pairs.len());
+        for (pairs, expected) in pairs.chunks(8_000).zip(expected.chunks(8_000)) {
+            let (words, changed) = near_words(code, pairs);
+            for ((pair, word), expected) in pairs.iter().zip(words).zip(expected) {
+                assert_eq!(word, *expected, "code {code}, {pair:02X?}: {word:08X}");
+            }
+            assert_eq!(changed, pairs.len() as u64, "code {code}");
+        }
+    }
+}
+
+/// Canonical pairs of either sign: a third of any exponent, the others about 1.
+fn some_pairs(seed: u64, count: usize) -> Vec<[u8; 6]> {
+    let mut row = numbers(seed);
+    let mut next = || row.next().expect("a row without an end");
+    let pairs = std::iter::repeat_with(|| {
+        let exponent = match next() % 3 {
+            0 => -280 + (next() % 532) as i16,
+            1 => -31 + (next() % 40) as i16,
+            _ => -(1 + (next() % 16) as i16),
+        };
+        let mantissa = (next() | 1) as i32 >> (next() % 31) | 1;
+        pair(exponent, mantissa)
+    });
+    pairs.take(count).collect()
+}
+
+/// The value of a pair times 2^60, where its exponent is from -60 to 30: then it is exact.
+fn value_times_2_60(bytes: [u8; 6]) -> Option<i128> {
+    let Pair { exponent, mantissa } = Pair::of_bytes(&bytes);
+    let power = u32::try_from(exponent + 60).ok()?;
+    (power <= 90).then(|| i128::from(mantissa) << power)
+}
+
+/// The whole number that a pair becomes under codes 3 and 8, by trying all words of the code. Below
+/// 2^-29 that is 0, and from 2^31 on the end.
+fn nearest_by_trying_all(least: i128, most: i128, bytes: [u8; 6]) -> i128 {
+    let Some(value) = value_times_2_60(bytes) else {
+        let Pair { exponent, mantissa } = Pair::of_bytes(&bytes);
+        return match (exponent < 0, mantissa < 0) {
+            (true, _) => 0,
+            (false, false) => most,
+            (false, true) => least,
+        };
+    };
+    let key = |number: i128| ((value - (number << 60)).abs(), number.abs());
+    let found = (least..=most).min_by_key(|&number| key(number));
+    let found = found.expect("the code has words");
+    let others = (least..=most).filter(|&number| key(number) == key(found));
+    assert_eq!(others.count(), 1);
+    found
+}
+
+/// No word of codes 3 and 8 is nearer, and none as near is nearer zero.
+#[test]
+fn every_word_of_codes_3_and_8_is_as_far() {
+    for (code, count) in [(3, 600), (8, 8_000)] {
+        let pairs = some_pairs(u64::from(code), count);
+        let (least, most) = if code == 3 {
+            (-32_768, 32_767)
+        } else {
+            (-128, 127)
+        };
+        let (words, _) = near_words(code, &pairs);
+        let mut seen = [0; 4];
+        for (&pair, word) in pairs.iter().zip(words) {
+            let number = nearest_by_trying_all(least, most, pair);
+            assert_eq!(word, whole_word(code, number as i64), "{pair:02X?}");
+            let kind = match number {
+                0 => 0,
+                _ if number == least => 1,
+                _ if number == most => 2,
+                _ => 3,
+            };
+            seen[kind] += 1;
+        }
+        assert!(seen.iter().all(|&count| count > 50), "{seen:?}");
+    }
+}
+
+/// What document 02 says of codes 2, 3 and 8: inside the range a value moves by at most a half, and two
+/// values come out no farther apart than they were, plus 1.
+#[test]
+fn whole_numbers_move_by_a_half_at_most() {
+    for (code, bits) in [(2, 31), (3, 15), (8, 7)] {
+        let mut pairs = some_pairs(31 + u64::from(code), 8_000);
+        pairs.retain(|&pair| value_times_2_60(pair).is_some());
+        assert!(pairs.len() > 4_000);
+        let (words, _) = near_words(code, &pairs);
+        let numbers = words.into_iter().map(|word| {
+            let whole = word as i32 >> (31 - bits);
+            i128::from(whole) << 60
+        });
+        let values = pairs
+            .iter()
+            .map(|&pair| value_times_2_60(pair).expect("kept above"));
+        let moved: Vec<(i128, i128)> = values.zip(numbers).collect();
+        for &(value, number) in &moved {
+            if (-(1i128 << bits) << 60..=((1 << bits) - 1) << 60).contains(&value) {
+                assert!(2 * (value - number).abs() <= 1 << 60, "code {code}");
+            }
+        }
+        for apart in 1..50 {
+            for (one, other) in moved.iter().zip(&moved[apart..]) {
+                let before = (one.0 - other.0).abs();
+                let after = (one.1 - other.1).abs();
+                assert!(after <= before + (1 << 60), "code {code}");
+            }
+        }
+    }
+}
+
+/// What it says of code 1: inside the range a value moves by at most half of the last fraction place of
+/// the written word. The host's 64-bit floats have these values and differences exactly.
+#[test]
+fn ibm_words_move_by_half_of_their_last_place_at_most() {
+    let power_of_two = |power: i32| f64::from_bits(((power + 1023) as u64) << 52);
+    let end = 16_777_215.0 * power_of_two(228);
+    let mut counts = [0; 3];
+    for seed in 1..4 {
+        let pairs = some_pairs(1_000 + seed, 8_000);
+        let (words, changed) = near_words(1, &pairs);
+        for (&pair, bits) in pairs.iter().zip(words) {
+            let value = value_of_pair(pair);
+            let read = read_word(1, word(bits)).expect("any word is taken");
+            assert!(!read.not_normal, "{bits:08X}");
+            let moved = (value_of_pair(read.pair) - value).abs();
+            if value.abs() > end {
+                assert_eq!(bits & 0x7FFF_FFFF, 0x7FFF_FFFF);
+                assert_eq!(bits >> 31 == 1, value < 0.0);
+                counts[2] += 1;
+                continue;
+            }
+            let last_place = power_of_two(4 * (bits >> 24 & 0x7F) as i32 - 280);
+            assert!(2.0 * moved <= last_place, "{pair:02X?}, {bits:08X}");
+            counts[usize::from(moved != 0.0)] += 1;
+        }
+        assert!(changed > 1_000);
+    }
+    assert!(counts.iter().all(|&count| count > 100), "{counts:?}");
+}
+
+/// The word of code 5 by the host: its 32-bit float of the value, or the next toward zero where that is
+/// as near; the largest finite one for an infinity; and plus zero for either zero. A 64-bit float has
+/// the value and both distances exactly.
+fn nearest_by_the_host(bytes: [u8; 6]) -> u32 {
+    let value = value_of_pair(bytes).abs();
+    let rounded = value as f32;
+    let bits = rounded.to_bits();
+    let size = if rounded.is_infinite() {
+        0x7F7F_FFFF
+    } else if f64::from(rounded) > value {
+        let below = f64::from(f32::from_bits(bits - 1));
+        bits - u32::from(value - below <= f64::from(rounded) - value)
+    } else {
+        bits
+    };
+    match size {
+        0 => 0,
+        _ if bytes[2] & 0x80 != 0 => size | 0x8000_0000,
+        _ => size,
+    }
+}
+
+/// Pairs of any kind, and those about the ends of code 5, with mantissas about its 24 bits.
+#[test]
+fn nearest_ieee_words_by_the_host() {
+    let mut pairs: Vec<[u8; 6]> = (5..9).flat_map(|seed| some_pairs(seed, 8_000)).collect();
+    let mut row = numbers(2_001);
+    let mut next = || row.next().expect("a row without an end");
+    for exponent in (-182..=-120).chain(70..=130) {
+        for length in [1, 2, 23, 24, 25, 26, 27, 30, 31] {
+            let least = 1 << (length - 1) | 1;
+            let most = ((1u32 << length) - 1) as i32;
+            for mantissa in [least, most, least | (next() as i32 & most), most - 2] {
+                let mantissa = mantissa.max(1);
+                pairs.push(pair(exponent, mantissa));
+                pairs.push(pair(exponent, -mantissa));
+            }
+        }
+    }
+    let mut zeros = 0;
+    for pairs in pairs.chunks(8_000) {
+        let (words, changed) = near_words(5, pairs);
+        let mut others = 0;
+        for (&pair, bits) in pairs.iter().zip(words) {
+            assert_eq!(bits, nearest_by_the_host(pair), "{pair:02X?}");
+            others += u64::from(write_pair(5, pair).is_err());
+            zeros += usize::from(bits == 0);
+        }
+        assert_eq!(changed, others);
+    }
+    assert!(zeros > 1_000);
+}
+
+/// The example's samples are 1 and -949/8: the nearest whole numbers are 1 and -119. Under the other
+/// codes nothing changes, and the reel is that of exact writing.
+#[test]
+fn example_is_written_nearest() {
+    for (code, words) in [
+        (2, &[0x00, 0x00, 0x00, 0x01, 0xFF, 0xFF, 0xFF, 0x89][..]),
+        (3, &[0x00, 0x01, 0xFF, 0x89]),
+        (8, &[0x01, 0x89]),
+        (1, &[0x41, 0x10, 0x00, 0x00, 0xC2, 0x76, 0xA0, 0x00]),
+        (4, &[0x00, 0x00, 0x00, 0x01, 0x00, 0x03, 0xFC, 0x4B]),
+        (5, &[0x3F, 0x80, 0x00, 0x00, 0xC2, 0xED, 0x40, 0x00]),
+    ] {
+        let mut reel = example();
+        reel.truncate(3840);
+        reel[3224..3226].copy_from_slice(&(code as u16).to_be_bytes());
+        reel[3600 + 68..3600 + 72].copy_from_slice(&[0xD8, 0xF0, 0xD8, 0xF0]);
+        reel[3600 + 114..3600 + 118].copy_from_slice(&[0x00, 0x02, 0x07, 0xD0]);
+        reel.extend(words);
+        let length = reel.len();
+        let written = NearestWritten {
+            traces: 1,
+            samples: 2,
+            length: length as u64,
+            changed: u64::from(matches!(code, 2 | 3 | 8)),
+        };
+        for room in [length, length + 1, 4000] {
+            let mut out = vec![0xA5; room];
+            assert_eq!(
+                write_nearest(&example_record(), code, &mut out),
+                Ok(written)
+            );
+            assert_eq!(out[..length], reel);
+            assert!(out[length..].iter().all(|&byte| byte == 0xA5));
+        }
+        for room in [0, 3600, length - 1] {
+            let mut out = vec![0xA5; room];
+            assert_eq!(
+                write_nearest(&example_record(), code, &mut out),
+                refused(10, length)
+            );
+            assert!(out.iter().all(|&byte| byte == 0xA5));
+        }
+    }
+}
+
+/// Three traces of three samples under code 3, of which the second of the first trace and the first and
+/// third of the last change. Reading the reel gives the record with the new values, and writing that
+/// again changes nothing.
+#[test]
+fn changed_samples_of_several_traces() {
+    let before = [
+        [pair(0, 1), pair(-1, 5), pair(15, -1)],
+        [pair(0, 0), pair(1, 1), pair(0, -7)],
+        [pair(-1, -1), pair(14, 1), pair(200, 3)],
+    ];
+    let after = [
+        [pair(0, 1), pair(1, 1), pair(15, -1)],
+        [pair(0, 0), pair(1, 1), pair(0, -7)],
+        [pair(0, 0), pair(14, 1), pair(0, 32_767)],
+    ];
+    let record = record_of(&before.each_ref().map(|trace| &trace[..]));
+    let rounded = record_of(&after.each_ref().map(|trace| &trace[..]));
+    let mut reel = [0xA5; 4338];
+    let mut written = NearestWritten {
+        traces: 3,
+        samples: 3,
+        length: 4338,
+        changed: 3,
+    };
+    assert_eq!(write_nearest(&record, 3, &mut reel), Ok(written));
+    assert_eq!(reel[3840..3846], [0x00, 0x01, 0x00, 0x02, 0x80, 0x00]);
+    assert_eq!(reel[4086..4092], [0x00, 0x00, 0x00, 0x02, 0xFF, 0xF9]);
+    assert_eq!(reel[4332..4338], [0x00, 0x00, 0x40, 0x00, 0x7F, 0xFF]);
+    let mut again = vec![0xA5; record.len()];
+    assert!(read_reel(&reel, &mut again).is_ok());
+    assert_eq!(again, rounded);
+
+    let mut exact = [0xA5; 4338];
+    assert_eq!(write_reel(&record, 3, &mut exact), refused(14, 3458));
+    assert!(write_reel(&rounded, 3, &mut exact).is_ok());
+    assert_eq!(exact, reel);
+    let mut nearest = [0xA5; 4338];
+    written.changed = 0;
+    assert_eq!(write_nearest(&rounded, 3, &mut nearest), Ok(written));
+    assert_eq!(nearest, reel);
+}
+
+/// Records of any pairs under each code: the count is that of the samples that exact writing doesn't
+/// take, and where it is 0 both give one reel. What was written comes back with the count 0.
+#[test]
+fn nearest_and_exact_writing() {
+    for code in CODES {
+        let mut none = 0;
+        for turn in 0..120 {
+            let mut pairs = some_pairs(100 * u64::from(code) + turn, 6);
+            if turn % 2 == 0 {
+                pairs.retain(|&pair| write_pair(code, pair).is_ok());
+                pairs.resize(6, pair(0, 0));
+            }
+            let record = record_of(&[&pairs[..3], &pairs[3..]]);
+            let misfits = pairs
+                .iter()
+                .filter(|&&pair| write_pair(code, pair).is_err())
+                .count();
+            let mut reel = vec![0xA5; 3600 + 2 * (240 + 3 * width(code))];
+            let mut exact = reel.clone();
+            let written = write_nearest(&record, code, &mut reel).expect("a valid record");
+            assert_eq!(written.changed, misfits as u64);
+            match write_reel(&record, code, &mut exact) {
+                Ok(_) => {
+                    assert_eq!((written.changed, &exact), (0, &reel));
+                    none += 1;
+                }
+                Err(cause) => assert!(cause.number == 14 && written.changed > 0),
+            }
+            let mut again = vec![0xA5; record.len()];
+            let read = read_reel(&reel, &mut again).expect("a written reel");
+            assert_eq!(read.not_normal, 0);
+            let mut second = vec![0xA5; reel.len()];
+            let written = write_nearest(&again, code, &mut second).expect("a record that was read");
+            assert_eq!((written.changed, &second), (0, &reel));
+            assert_eq!(again == record, misfits == 0);
+        }
+        assert!((60..120).contains(&none), "code {code}: {none}");
+    }
+}
+
+/// A record without traces, whose reel is its headers.
+#[test]
+fn nearest_writing_without_traces() {
+    let mut record = example_record();
+    record.drain(3266..3464);
+    record[3272] = 0;
+    for code in CODES {
+        let mut out = [0xA5; 3601];
+        let written = NearestWritten {
+            traces: 0,
+            samples: 2,
+            length: 3600,
+            changed: 0,
+        };
+        assert_eq!(write_nearest(&record, code, &mut out), Ok(written));
+        assert_eq!(out[3224..3226], [0x00, code as u8]);
+        assert_eq!(out[3600], 0xA5);
+        let short = write_nearest(&record, code, &mut out[..3599]);
+        assert_eq!(short, refused(10, 3600));
+    }
+}
+
+/// 11, then front to back 12 and 13, then 10; a sample that fits nothing is no cause. The record has
+/// every cause at first, and each is mended in turn.
+#[test]
+fn causes_of_nearest_writing_in_order() {
+    let even = pair(0, 2);
+    let wide = pair(251, 3);
+    let mut record = record_of(&[&[wide, wide], &[wide, even]]);
+    let right = record.clone();
+    record[0] = 0x02;
+    record[3 + 100] = 0x00;
+    record[3203 + 2] = 0x3D;
+    record[3206 + 16..3206 + 18].fill(0);
+    record[IN_RECORD + 114] = 0x01;
+    record[3449] = 0x05;
+    let last = record.len() - 1;
+    record[last] = 0x03;
+    record.push(0x00);
+
+    let mut out = [0xA5; 4400];
+    for code in [0, 6, 7, 9, 256, 257, 264, u32::MAX] {
+        assert_eq!(write_nearest(&record, code, &mut out), refused(11, 0));
+        assert_eq!(write_nearest(&right, code, &mut []), refused(11, 0));
+    }
+    for (number, place, mended) in [
+        (12, 0, 0..3),
+        (13, 103, 103..104),
+        (12, 3203, 3203..3206),
+        (13, 3222, 3222..3224),
+        (13, 3383, 3383..3385),
+        (12, 3449, 3449..3452),
+        (13, 3656, 3656..3662),
+        (12, 3662, 3662..3669),
+    ] {
+        for code in CODES {
+            for room in [0, 4400] {
+                let said = write_nearest(&record, code, &mut out[..room]);
+                assert_eq!(said, refused(number, place));
+            }
+        }
+        record[mended.clone()].copy_from_slice(&right[mended]);
+        if place == 3656 {
+            record[3656..3662].copy_from_slice(&pair(0, 1));
+        }
+    }
+    assert_eq!(write_nearest(&record, 1, &mut out), refused(12, 3669));
+    record.pop();
+    for code in CODES {
+        let length = 3600 + 2 * (240 + 2 * width(code));
+        for room in [0, 3600, length - 1] {
+            let said = write_nearest(&record, code, &mut out[..room]);
+            assert_eq!(said, refused(10, length));
+            assert_eq!(write_reel(&record, code, &mut []), refused(14, 3452));
+        }
+        assert!(out.iter().all(|&byte| byte == 0xA5));
+    }
+    for code in CODES {
+        let written = write_nearest(&record, code, &mut out).expect("a valid record");
+        assert_eq!(written.changed, 3);
+    }
+}
+
+/// The whole numbers that distances are compared by, against the host's of 128 bits and by the laws of
+/// sums, at every power.
+#[test]
+fn whole_numbers_of_many_digits() {
+    use nearest::Whole;
+    let mut row = numbers(576);
+    let mut next = || row.next().expect("a row without an end");
+    for _ in 0..2_000 {
+        let (a, b) = (u64::from(next()), u64::from(next()) << (next() % 20));
+        let (j, k) = (next() % 60, next() % 60);
+        let (first, second) = (u128::from(a) << j, u128::from(b) << k);
+        let (one, other) = (Whole::of(a, j), Whole::of(b, k));
+        assert_eq!(one.cmp(&other), first.cmp(&second));
+        let apart = |high: u32, number: u128| {
+            let (low, rest) = (number as u64, (number >> 64) as u64);
+            Whole::of(rest, high + 64).plus(Whole::of(low, high))
+        };
+        assert_eq!(one.plus(other), apart(0, first + second));
+        let power = next() % 70;
+        let most = 1 << 40;
+        let part = (first >> power).min(u128::from(most));
+        assert_eq!(one.over(power, most), part as u64);
+        let (high, difference) = (next() % 380, first.abs_diff(second));
+        let (one, other) = (Whole::of(a, j + high), Whole::of(b, k + high));
+        let (larger, smaller) = if one < other {
+            (other, one)
+        } else {
+            (one, other)
+        };
+        assert_eq!(larger.minus(smaller), apart(high, difference));
+        assert_eq!(larger.minus(smaller).plus(smaller), larger);
+        assert_eq!(one.over(power + high, most), part as u64);
+    }
+    for power in 0..512 {
+        let number = Whole::of(u64::MAX, power);
+        assert_eq!(number.over(power, u64::MAX), u64::MAX);
+        assert_eq!(number.over(power + 63, u64::MAX), 1);
+        let next = number.plus(Whole::of(1, power));
+        assert_eq!(next.over(power + 64, u64::MAX), 1);
+        assert_eq!(next.over(power, 1 << 40), 1 << 40);
+        assert!(number < next && next > Whole::of(1, power));
+        assert_eq!(next.minus(Whole::of(1, power)), number);
+    }
 }
