@@ -59,6 +59,12 @@
  * Writing gives under code 1 the normal word (below), under code 4 the word with the smallest gain, and under the others the only word of
  * the value, of the two zeros of code 5 00000000. A value that no word of the code has is refused by 14.
  *
+ * Nearest writing, a call of its own, refuses no sample: each becomes the nearest value of the code, and its word is the one that exact
+ * writing gives for that value. Beyond the code's range the nearest value is the end on that side, under code 5 the largest finite number of
+ * that sign. Of two values equally near, the one nearer zero is taken. What becomes zero is 00 throughout, also where it was negative.
+ * `changed` tells how many samples have another value on the reel than in the record. Where it is 0 the reel is that of exact writing and
+ * gives the record back; else it gives another record, nothing on the reel says so, and the record alone is exact. No other call rounds.
+ *
  * A record leaves out what carries no meaning in revision 0: bytes 3261 to 3600, and bytes 181 to 240 of each trace header. Reading
  * takes any bytes there and says nothing of them; writing sets them to 0. A caller who wants to know looks at the reel's bytes. A record
  * has no format code either, and of the spellings taken as one it has the meaning: a card byte 00 is a blank (40), a 0 in trace fields
@@ -99,12 +105,15 @@ extern "C" {
  *   2  `not_normal` at the end of aukpocket_reel_answer and aukpocket_sample_answer (0.3.0): what was compiled under 1 has to be compiled
  *      again
  *   3  codes 5 and 8 and number 19 (0.4.0): structures and arrays are as under 2, and what was compiled under 2 can be linked as it is, but
- *      it meets reels and an answer that there weren't */
-#define AUKPOCKET_VERSION 3
+ *      it meets reels and an answer that there weren't
+ *   4  aukpocket_write_nearest, and `changed` at the end of aukpocket_reel_answer (0.5.0): what was compiled under 3 or before has to be
+ *      compiled again */
+#define AUKPOCKET_VERSION 4
 
 /* What a call on a whole reel or record answers: the traces, the samples of each, and the length of what was written. Beside a listing
  * traces and samples are 0. Reading a reel of code 1 also counts its words that aren't normal, 0 to traces * samples; `not_normal` is 0
- * under the other codes, beside a refusal, 10 too, and in every other call. */
+ * under the other codes, beside a refusal, 10 too, and in every other call. Nearest writing counts the samples whose value changed, 0 to
+ * traces * samples; `changed` is 0 beside a refusal, 10 too, and in every other call. */
 struct aukpocket_reel_answer {
     uint64_t number;
     uint64_t traces;
@@ -112,6 +121,7 @@ struct aukpocket_reel_answer {
     uint64_t length;
     uint64_t beside;
     uint64_t not_normal;
+    uint64_t changed;
 };
 
 /* What looking up a field answers: its signed number. */
@@ -139,6 +149,12 @@ struct aukpocket_reel_answer aukpocket_read_reel(const uint8_t *reel, size_t ree
  * then 14, first sample first; then 10. */
 struct aukpocket_reel_answer aukpocket_write_reel(const uint8_t *record, size_t record_length, uint32_t code, uint8_t *reel,
                                                   size_t reel_length);
+
+/* Writes a record as a reel under a target code to the front of `reel`, each sample as the nearest value of the code, and counts the samples
+ * whose value changed. All else, the reel's length too, is as in aukpocket_write_reel. Refuses by 11, then by 12 and 13 as that call does,
+ * then by 10; never by 14. */
+struct aukpocket_reel_answer aukpocket_write_nearest(const uint8_t *record, size_t record_length, uint32_t code, uint8_t *reel,
+                                                     size_t reel_length);
 
 /* Looks up the assigned field that begins at a byte number: of the binary header (3201 to 3259) for trace 0, of that trace's header
  * (1 to 179) from 1 on. Fields 115 and 117 are filled in from the reel where they are 0; all others are the bare numbers of the reel, 3225

@@ -563,6 +563,14 @@ class Refusals(Case):
                 self.assertIn(f": refused by {said[1]}: ", sentence)
                 self.assertIn(f"place {said[2]}", sentence)
                 self.assertEqual(self.run_command("info", path).returncode, 0 if said[1] == 14 else 2)
+            # Nearest writing refuses what exact writing refuses, but for 14, and writes the same where that is taken.
+            if said[:2] == ("refused", 14):
+                self.assertEqual(self.run_command("write", path, target, output, "--nearest", "--force").returncode, 0)
+            elif said[0] == "refused":
+                self.assertEqual(self.trouble(2, "write", path, target, output, "--nearest", "--force"), sentence)
+            else:
+                self.fine("write", path, target, output, "--nearest", "--force")
+                self.assertEqual(output.read_bytes(), said[-1])
 
 
 def signed(data, place, width):
@@ -868,6 +876,328 @@ class NewerCodes(Case):
             self.fine("write", record, code, again, "--force")
             self.assertEqual(again.read_bytes(), reel, code)
         self.assertIn("code 8    holds it, as a reel of 4092 bytes\n", self.fine("info", record))
+
+
+# The values of each code: whole numbers from the least to the most, times each of these steps.
+VALUES = {
+    1: (1 - 2**24, 2**24 - 1, [Fraction(16) ** k for k in range(-70, 58)]), 2: (-(2**31), 2**31 - 1, [Fraction(1)]),
+    3: (-(2**15), 2**15 - 1, [Fraction(1)]), 4: (-(2**15), 2**15 - 1, [Fraction(1, 2**g) for g in range(256)]),
+    5: (1 - 2**24, 2**24 - 1, [Fraction(2) ** k for k in range(-149, 105)]), 8: (-(2**7), 2**7 - 1, [Fraction(1)]),
+}
+
+
+def range_of(code):
+    """The least and the greatest value of a code."""
+    least, most, steps = VALUES[code]
+    return least * max(steps), most * max(steps)
+
+
+def nearest(code, value):
+    """The nearest value of a code, of two equally near the one nearer zero: each step is tried, with the whole numbers about the value."""
+    least, most, steps = VALUES[code]
+    found = (min(max(number, least), most) * step for step in steps for number in (value // step, value // step + 1))
+    return min(found, key=lambda other: (abs(other - value), abs(other)))
+
+
+def power_of_ten(value, digits=10):
+    """That of the first digit of a value that is rounded to as many digits; 0 for zero."""
+    if value == 0:
+        return 0
+    size = abs(value)
+    power = len(str(size.numerator)) - len(str(size.denominator))
+    while 10**power > size if power >= 0 else 1 > size * 10**-power:
+        power -= 1
+    while size >= Fraction(10) ** (power + 1):
+        power += 1
+    return power + (round(size, digits - 1 - power) >= Fraction(10) ** (power + 1))
+
+
+def decimal(value, places):
+    """An exact decimal of as many places, at most, without zeros at their end."""
+    number = round(value * 10**places)
+    text = str(abs(number)).rjust(places + 1, "0")
+    text = (text[: len(text) - places] + "." + text[len(text) - places :]).rstrip("0").rstrip(".") if places else text
+    return "-" * (number < 0) + text
+
+
+def in_decimals(value, digits=6):
+    """A value as the command shows it, worked out exactly; half of the last place goes to the even digit."""
+    first = power_of_ten(value, max(digits, 10))
+    if -4 <= first < 10:
+        return decimal(value, max(digits - 1 - first, 0))
+    power = power_of_ten(value, digits)
+    return f"{decimal(value / Fraction(10) ** power, digits - 1)}e{power:+03}"
+
+
+def became(before, after):
+    """A value that became another, each with the digits that show it."""
+    digits = [min(max(power_of_ten(value) - power_of_ten(before - after) + 6, 6), 11) for value in (before, after)]
+    return f"{in_decimals(before, digits[0])} became {in_decimals(after, digits[1])}"
+
+
+def share(some, all_of_them):
+    """A share in hundredths of a percent, where it rounds neither to none nor to all."""
+    hundredths = int(Fraction(10_000 * some, all_of_them) + Fraction(1, 2))
+    return "100 %" if some == all_of_them else f"{hundredths // 100}.{hundredths % 100:02} %"
+
+
+class Nearest(Case):
+    """`write --nearest`. What a sample becomes, how far it moves, and what is said of it are worked out here by fractions."""
+
+    # Halves, exact ones, and some about and beyond the ends of every code, tiny and huge ones.
+    SOME = [Fraction(text) for text in (
+        "0", "1/2", "-1/2", "3/2", "-3/2", "5/2", "1", "-1", "7/4", "-9/4", "3/65536", "-1/8192", "100", "-118.625", "0.09375", "-5461/16384",
+        "126.5", "127", "127.5", "128", "-127.75", "-128", "-128.5", "-129", "255.75", "32766.5", "32766.75", "32767", "32767.25", "32768",
+        "-32767.75", "-32768", "-32768.25", "-32769", "65535.5", "16777215", "16777217", "-16777217", "33554431", "2147483647", "2147483648",
+        "-2147483647", "-2147483648", "-2147483650", "1073741823.5", "8388607.5", "-8388608.5", "4294967296",
+    )] + [number * Fraction(2) ** power for number, power in (
+        (1, -280), (-1, -280), (3, -280), (2**31 - 1, -280), (1, -255), (-3, -257), (1, -149), (1, -150), (-1, -150), (3, -151), (3, -150),
+        (2**24 - 1, -149), (2**25 - 1, -150), (2**24 - 1, 104), (2**25 - 1, 103), (1, 128), (-1, 128), (2**24 - 1, 228), (2**25 - 1, 227),
+        (1, 251), (3, 251), (-3, 251), (2**31 - 1, 251), (1 - 2**31, 251), (2**31 - 1, -20), (-1234567891, -12), (987654321, -40),
+        (2**31 - 1, 70),
+    )]
+
+    def record_of(self, traces):
+        """A record file of these values, and its bytes."""
+        record = make_record(n=len(traces[0]), traces=[list(map(pair_of, trace)) for trace in traces])
+        return self.file("a.record", record), record
+
+    def texts(self, path, traces, reel, after, code):
+        """What is said of a record of these values that became others, and the warning."""
+        t, n = len(traces), len(traces[0])
+        s = "s" * (t * n > 1)
+        changes = [(i, k, value, other) for i, (trace, others) in enumerate(zip(traces, after), 1)
+                   for k, (value, other) in enumerate(zip(trace, others), 1) if value != other]
+        said = (f"{path}: {t} trace{'s' * (t > 1)} of {n} sample{'s' * (n > 1)}; {reel}: its reel in code {code} by nearest values, "
+                f"{3600 + t * trace_size(code, n)} bytes; ")
+        if not changes:
+            return f"{said}none of {t * n} sample{s} changed: the reel is exact, nothing was rounded\n", ""
+        i, k, value, other = max(changes, key=lambda change: abs(change[2] - change[3]))  # the first of equal ones
+        largest = max((value for trace in traces for value in trace), key=abs)
+        said += (f"{len(changes)} of {t * n} sample{s} changed ({share(len(changes), t * n)})\nthe largest change is "
+                 f"{in_decimals(abs(value - other))} (trace {i}, sample {k}: {became(value, other)}), beside a largest sample of "
+                 f"{in_decimals(largest)}; keep {path}, which {reel} doesn't give back\n")
+        least, most = range_of(code)
+        beyond = [change for change in changes if not least <= change[2] <= most]
+        if not beyond:
+            return said, ""
+        i, k, value, other = beyond[0]
+        what, it = (f"{len(beyond)} samples lie", "the first") if len(beyond) > 1 else ("1 sample lies", "it")
+        return said, (f"aukpocket: warning: {reel}: {what} beyond the range of code {code} ({in_decimals(least)} to {in_decimals(most)}) and "
+                      f"became its end; {it} is trace {i}, sample {k}: {became(value, other)}\n")
+
+    def near(self, traces, code):
+        """Writes a record of these values, and holds all that is said and written to what they become."""
+        path, record = self.record_of(traces)
+        reel, again, second = (self.folder / name for name in ("a.sgy", "again", "second"))
+        after = [[nearest(code, value) for value in trace] for trace in traces]
+        said, warned = self.texts(path, traces, reel, after, code)
+        self.assertEqual(self.fine("write", path, code, reel, "--nearest", "--force", warned=warned), said)
+        # The reel is that of exact writing, of a record with the new values; it gives that record back, and nothing changes any more.
+        rounded = make_record(n=len(after[0]), traces=[list(map(pair_of, trace)) for trace in after])
+        written = reel.read_bytes()
+        self.assertEqual(written, records.reel_of(rounded, code))
+        self.fine("read", reel, again, "--force")
+        self.assertEqual(again.read_bytes(), rounded)
+        self.assertEqual(self.fine("write", again, code, second, "--nearest", "--force"), self.texts(again, after, second, after, code)[0])
+        self.assertEqual(second.read_bytes(), written)
+        self.fine("write", again, code, second, "--force")
+        self.assertEqual(second.read_bytes(), written)
+        self.assertEqual(path.read_bytes(), record)
+
+    def test_the_fractions_of_this_test(self):
+        """What nearest values and shown numbers are, by hand."""
+        for code, value, other in (
+            (2, "5/2", "2"), (2, "-5/2", "-2"), (2, "7/4", "2"), (8, "127.25", "127"), (8, "-1000", "-128"), (3, "32766.75", "32767"),
+            (4, "1.00001", "1"), (4, "16383.75", "16383.5"), (4, "16383.875", "16384"), (1, "16777217", "16777216"), (1, "8388607.5", "8388607"),
+            (1, "0.1", "1677722/16777216"), (1, "-1048575.96875", "-1048575.9375"), (5, "16777217", "16777216"), (5, "16777219", "16777218"),
+            (5, "-16777219", "-16777218"),
+        ):
+            self.assertEqual(nearest(code, Fraction(value)), Fraction(other), (code, value))
+        self.assertEqual([nearest(5, number * Fraction(2) ** power) for number, power in ((1, 128), (-1, 200), (1, -150), (3, -150))],
+                         [*range_of(5)[::-1], 0, Fraction(2) ** -149])
+        self.assertEqual(range_of(5)[1], Fraction(struct.unpack(">f", bytes.fromhex("7F7FFFFF"))[0]))
+        self.assertEqual([range_of(code) for code in (2, 3, 4, 8)], [(-(2**31), 2**31 - 1), (-32768, 32767), (-32768, 32767), (-128, 127)])
+        self.assertEqual(range_of(1)[0], Fraction(v_of_word(1, b"\xff\xff\xff\xff"), 16**70))
+        for value, text in (
+            ("0", "0"), ("-0.5", "-0.5"), ("32811.5", "32811.5"), ("1234.4999", "1234.5"), ("123456.5", "123456"), ("123457.5", "123458"),
+            ("-8388607.5", "-8388608"), ("9999999999", "9999999999"), ("9999999999.75", "1e+10"), ("12345650000", "1.23456e+10"),
+            ("12345750000", "1.23458e+10"), ("0.0001", "0.0001"), ("0.0001234567", "0.000123457"), ("0.00009999994", "9.99999e-05"),
+            ("-0.00009999996", "-1e-04"),
+        ):
+            self.assertEqual(in_decimals(Fraction(value)), text)
+        self.assertEqual(became(Fraction("2147483648"), Fraction("2147483647")), "2147483648 became 2147483647")
+        self.assertEqual(became(Fraction("1234.4999084"), Fraction(1234)), "1234.499908 became 1234")
+
+    def test_each_code(self):
+        """Halves, exact values, those beyond either end, tiny and huge ones, in every code."""
+        rnd = random.Random(5)
+        third = len(self.SOME) // 3
+        for code in CODES:
+            self.near([self.SOME[i * third : (i + 1) * third] for i in range(3)], code)
+            for t, n in ((1, 2), (2, 5), (4, 7)):
+                values = [rnd.getrandbits(31) * rnd.choice((1, -1)) * Fraction(2) ** -rnd.randint(0, 40) for _ in range(t * n - 2)]
+                values += range_of(code)
+                self.near([values[i * n : (i + 1) * n] for i in range(t)], code)
+
+    def test_each_value_alone(self):
+        for value in self.SOME:
+            for code in CODES:
+                self.near([[value]], code)
+
+    def test_what_it_says(self):
+        """Whole texts, by hand."""
+        def said(code, *traces, warned=""):
+            path, _ = self.record_of([list(map(Fraction, trace)) for trace in traces])
+            reel = self.folder / "a.sgy"
+            text = self.fine("write", path, code, reel, "--nearest", "--force", warned=warned and f"aukpocket: warning: {reel}: {warned}\n")
+            return text.replace(str(path), "RECORD").replace(str(reel), "REEL")
+
+        self.assertEqual(said(3, ("1/2", "7", "-9/4"), ("1234.4375", "-2.5", "0")), (
+            "RECORD: 2 traces of 3 samples; REEL: its reel in code 3 by nearest values, 4092 bytes; 4 of 6 samples changed (66.67 %)\n"
+            "the largest change is 0.5 (trace 1, sample 1: 0.5 became 0), beside a largest sample of 1234.44; keep RECORD, which REEL "
+            "doesn't give back\n"))
+        self.assertEqual(said(3, ("1234.4375",)), (
+            "RECORD: 1 trace of 1 sample; REEL: its reel in code 3 by nearest values, 3842 bytes; 1 of 1 sample changed (100 %)\n"
+            "the largest change is 0.4375 (trace 1, sample 1: 1234.4375 became 1234), beside a largest sample of 1234.44; keep RECORD, which "
+            "REEL doesn't give back\n"))
+        self.assertEqual(said(8, ("3", "-4"), ("5", "6")), (
+            "RECORD: 2 traces of 2 samples; REEL: its reel in code 8 by nearest values, 4084 bytes; none of 4 samples changed: the reel is "
+            "exact, nothing was rounded\n"))
+        beyond = "lie beyond the range of code 3 (-32768 to 32767) and became its end; the first is trace 1, sample 2: 32767.5 became 32767"
+        self.assertEqual(said(3, ("1", "32767.5", "32766.5"), ("-40000", "100000", "-32768"), warned=f"3 samples {beyond}"), (
+            "RECORD: 2 traces of 3 samples; REEL: its reel in code 3 by nearest values, 4092 bytes; 4 of 6 samples changed (66.67 %)\n"
+            "the largest change is 67233 (trace 2, sample 2: 100000 became 32767), beside a largest sample of 100000; keep RECORD, which "
+            "REEL doesn't give back\n"))
+        one = "1 sample lies beyond the range of code 2 (-2147483648 to 2147483647) and became its end; it is trace 1, sample 1: "
+        self.assertIn("the largest change is 1 (trace 1, sample 1: 2147483648 became 2147483647), beside a largest sample of 2147483648;", said(
+            2, ("2147483648", "1"), warned=f"{one}2147483648 became 2147483647"))
+        ieee = "1 sample lies beyond the range of code 5 (-3.40282e+38 to 3.40282e+38) and became its end; it is trace 1, sample 1: "
+        self.assertIn("the largest change is 2.02824e+31 (trace 1, sample 1: -3.4028236692e+38 became -3.4028234664e+38), beside a largest", said(
+            5, (-(2**128),), warned=f"{ieee}-3.4028236692e+38 became -3.4028234664e+38"))
+        path = self.file("empty.record", make_record(2000, 7))
+        self.assertTrue(self.fine("write", path, 3, self.folder / "empty.sgy", "--nearest").endswith(
+            "3600 bytes; none of 0 samples changed: the reel is exact, nothing was rounded\n"))
+
+    def test_the_largest_change(self):
+        """Wherever it is; of equal ones the first; of those that a floating-point number doesn't tell apart the larger."""
+        for i in range(3):
+            for k in range(4):
+                traces = [[Fraction(1, 4)] * 4 for _ in range(3)]
+                traces[i][k] = Fraction(-3, 8)
+                self.near(traces, 2)
+        self.near([[Fraction(1, 4), Fraction(-1, 2)], [Fraction(3, 2), Fraction(-5, 2)]], 3)
+        huge = Fraction(2) ** 100
+        for traces in ([[-huge, huge, huge]], [[huge, -huge, huge]], [[Fraction(1, 2), huge, huge * 2]]):
+            self.near(traces, 8)
+
+    def test_exact(self):
+        """What a code holds is written as ever, and the reel is said to be exact."""
+        rnd = random.Random(55)
+        for code in CODES:
+            reel = random_reel(rnd, code, 6, 4)
+            path, record = self.file("a.record", reels.record_of(reel)), self.folder / "b.record"
+            ours, theirs = self.folder / "exact.sgy", self.folder / "nearest.sgy"
+            self.fine("write", path, code, ours, "--force")
+            said = self.fine("write", path, code, theirs, "--nearest", "--force")
+            self.assertEqual(said, (
+                f"{path}: 4 traces of 6 samples; {theirs}: its reel in code {code} by nearest values, {ours.stat().st_size} bytes; none of 24 "
+                "samples changed: the reel is exact, nothing was rounded\n"))
+            self.assertEqual(theirs.read_bytes(), ours.read_bytes())
+            self.fine("read", theirs, record, "--force")
+            self.assertEqual(record.read_bytes(), path.read_bytes())
+
+    def test_the_rest_of_the_record(self):
+        """Cards, header numbers and scalars are those of exact writing, whatever becomes of the samples."""
+        record = reels.record_of(SAMPLE.read_bytes())
+        path, reel, again = self.file("a.record", record), self.folder / "a.sgy", self.folder / "b.record"
+        for code in (2, 3, 8):
+            self.run_command("write", path, code, reel, "--nearest", "--force")
+            self.fine("read", reel, again, "--force")
+            back = again.read_bytes()
+            self.assertEqual(len(back), len(record))
+            self.assertEqual(back[: place_of_trace(1, 240)], record[: place_of_trace(1, 240)])
+            for i in range(1, 7):
+                self.assertEqual(back[place_of_trace(i, 240) : place_of_pair(i, 240, 1)], record[place_of_trace(i, 240) : place_of_pair(i, 240, 1)])
+            self.assertNotEqual(back, record)
+            self.assertEqual(self.fine("look", reel, 0, "code"), f"{code}\n")
+            # `verify` says of such a reel that the record isn't its own.
+            self.assertIn("isn't the record of", self.trouble(3, "verify", reel, path, stdout=None))
+
+    def test_refused(self):
+        """The causes of writing but for 14, in the same words; no file is made."""
+        half = pair_of(Fraction(1, 2))
+        good = make_record(n=2, traces=[[half, half]] * 2)
+        faults = [(with_bytes(good, place_of_card(7), b"\0"), 3, 13), (good[:-1], 3, 12), (good + b"x", 8, 12), (b"", 2, 12),
+                  (with_bytes(good, place_of_pair(2, 2, 2), pair_bytes(1, 6)), 3, 13), (SAMPLE.read_bytes(), 5, 12)]
+        faults += [(good, code, 11) for code in NO_CODES] + [(good[:-1], 6, 11)]
+        for record, code, number in faults:
+            path = self.file("bad.record", record)
+            said = self.trouble(2, "write", path, code, self.folder / "none", "--nearest")
+            self.assertIn(f"refused by {number}: ", said)
+            self.assertEqual(said, self.trouble(2, "write", path, code, self.folder / "none"))
+            self.assertNotIn("--nearest", said)
+            self.assertEqual(self.names(), ["bad.record"])
+
+    def test_nothing_is_rounded_unasked(self):
+        """Without the option what doesn't fit is refused by 14, and what there is is said; elsewhere it isn't."""
+        path, record = self.record_of([[Fraction(1), Fraction(1, 2)]])
+        hint = "; --nearest rounds such samples to the nearest value of the code"
+        for code in (2, 3, 8):
+            for force in ((), ("--force",)):
+                said = self.trouble(2, "write", path, code, self.folder / "none", *force)
+                self.assertEqual(said, (
+                    f"{path}: refused by 14: a sample, 1 * 2^-1, doesn't fit code {code} (place {place_of_pair(1, 2, 2)}: trace 1, sample 2){hint}"))
+            self.assertEqual(self.names(), ["a.record"])
+        reel = self.file("a.sgy", records.reel_of(record, 1))
+        said = self.fine("verify", reel)
+        self.assertIn("refused by 14: ", said)
+        self.assertNotIn("--nearest", said + self.fine("info", path))
+
+    def test_the_option(self):
+        """It stands anywhere behind the command's name, beside --force, and for `write` alone."""
+        path, _ = self.record_of([[Fraction(3, 2)]])
+        reel = self.folder / "a.sgy"
+        self.assertIn("there is no option `--near`", self.trouble(1, "write", path, 3, reel, "--near"))
+        for words in (
+            ("--nearest", path, 3, reel), (path, "--nearest", 3, reel, "--force"), ("--force", path, 3, "--nearest", reel),
+            (path, 3, reel, "--nearest", "--force", "--nearest"), ("--nearest", "--force", "--", path, 3, reel),
+        ):
+            self.assertIn("1 of 1 sample changed (100 %)\n", self.fine("write", *words))
+        self.trouble(2, "write", path, 3, self.folder / "none")
+        for words in (("read", reel, "x"), ("verify", reel), ("info", reel), ("look", reel, 0, "code"), ("cards", path), ("check",)):
+            self.assertIn("there is no option `--nearest`", self.trouble(1, *words, "--nearest", cwd=self.folder))
+        # Behind `--` it is a name.
+        self.fine("write", "--nearest", "--", path.name, 3, "--nearest", cwd=self.folder)
+        self.assertEqual(self.names(), ["--nearest", "a.record", "a.sgy"])
+
+    def test_an_existing_file_is_kept(self):
+        path, record = self.record_of([[Fraction(3, 2)]])
+        old = self.file("old", b"old")
+        self.assertIn("is there already and is kept; --force", self.trouble(1, "write", path, 3, old, "--nearest"))
+        self.assertEqual(old.read_bytes(), b"old")
+        self.assertIn("is an input, which is never replaced", self.trouble(1, "write", path, 3, path, "--nearest", "--force"))
+        self.assertEqual(path.read_bytes(), record)
+        said = self.trouble(1, "write", path, 3, self.folder / "new", "--nearest", preexec_fn=limited(resource.RLIMIT_FSIZE, 3841))
+        self.assertIn("new: can't be written: File too large", said)
+        self.assertEqual(self.names(), ["a.record", "old"])
+        self.fine("write", path, 3, old, "--nearest", "--force")
+        self.assertEqual(old.read_bytes(), records.reel_of(make_record(n=1, traces=[[pair_of(Fraction(1))]]), 3))
+
+    def test_where_it_is_explained(self):
+        said = self.fine("write", "--help")
+        for part in ("  --nearest   write each sample as the nearest value of the code", "keep the\nrecord, which alone is exact"):
+            self.assertIn(part, said)
+        for path, heading in (("docs/aukpocket.1", "\n.SH NEAREST WRITING\n"), ("README.md", "\n## Nearest writing\n")):
+            self.assertIn(heading, (TOP / path).read_text(encoding="utf-8"), path)
+        page = (TOP / "README.md").read_text(encoding="utf-8").split("\n## Nearest writing\n")[1].split("\n## ")[0]
+        rows = dict(re.findall(r"^\| (\d) \| [^|]+ \| ([^|]+) \|$", page, re.M))
+        self.assertEqual(set(rows), set(map(str, CODES)))
+        for code in (2, 3, 4, 8):
+            self.assertEqual(rows[str(code)], "{:,} or {:,}".format(*map(int, range_of(code))))
+        for code, base, power in ((1, 16, 57), (5, 2, 104)):
+            self.assertTrue(rows[str(code)].endswith(f"(2^24 - 1) × {base}^{power} in size"), rows[str(code)])
+            self.assertEqual(range_of(code), ((1 - 2**24) * base**power, (2**24 - 1) * base**power))
 
 
 class Verify(Case):
@@ -1809,6 +2139,10 @@ class Large(Case):
             f"making the record of {small}, 48 MB", f"writing {new}, 48 MB")))
         self.assertEqual(new.read_bytes(), output.read_bytes())
         new.unlink()
+        self.assertEqual(self.terminal("write", output, 3, new, "--nearest"), "".join(f"aukpocket: {what}\n" for what in (
+            f"loading {output}, 48 MB", f"making the reel of {output} in code 3, 16 MB", "reading the reel in code 3 again, 16 MB",
+            f"writing {new}, 16 MB")))
+        new.unlink()
         said = self.terminal("verify", self.reel, output)
         self.assertTrue(said.endswith(f"aukpocket: summing {self.reel}, 32 MB\naukpocket: comparing {output}, 48 MB\n"), said)
         listing, new = self.file("listing", b"\n" * 40), self.folder / "new"
@@ -1858,6 +2192,16 @@ class Large(Case):
         with open(self.reel, "rb") as file:
             said = self.trouble(1, "check", stdin=file, preexec_fn=limit)
         self.assertIn("standard input: too large for the memory", said)
+        # Nearest writing has a second record in memory too, and without it nothing is written.
+        record = self.folder / "record"
+        self.fine("read", self.reel, record)
+        limit = limited(resource.RLIMIT_AS, 80 * MEGABYTE)
+        said = self.trouble(1, "write", record, 8, output, "--nearest", preexec_fn=limit)
+        self.assertEqual(said, f"{record}: a second record: too large for the memory that this run may have: 48 MB are needed")
+        self.assertFalse(output.exists())
+        self.fine("write", record, 8, output, preexec_fn=limit)
+        output.unlink()
+        record.unlink()
         huge = self.file("huge.sgy", SAMPLE.read_bytes())
         try:
             os.truncate(huge, 10**12)
@@ -1882,6 +2226,7 @@ WRONG_LIBRARY = r"""
 #include <string.h>
 struct aukpocket_reel_answer proved_read_reel(const uint8_t *, size_t, uint8_t *, size_t);
 struct aukpocket_reel_answer proved_write_reel(const uint8_t *, size_t, uint32_t, uint8_t *, size_t);
+struct aukpocket_reel_answer proved_write_nearest(const uint8_t *, size_t, uint32_t, uint8_t *, size_t);
 struct aukpocket_reel_answer proved_list_cards(const uint8_t *, size_t, uint8_t *, size_t);
 static int wrong(const char *way) { return getenv("WRONG") != NULL && strcmp(getenv("WRONG"), way) == 0; }
 static int reads;
@@ -1905,6 +2250,10 @@ struct aukpocket_reel_answer aukpocket_read_reel(const uint8_t *reel, size_t ree
         answer.not_normal = answer.traces * answer.samples + 1;
     if (wrong("counted") && answer.number != 0)
         answer.not_normal = 1;
+    if (wrong("normal again") && reads == 1)
+        answer.not_normal = 3;
+    if (wrong("read changed"))
+        answer.changed = 1;
     return answer;
 }
 struct aukpocket_reel_answer aukpocket_list_cards(const uint8_t *record, size_t record_length, uint8_t *listing, size_t length)
@@ -1914,11 +2263,13 @@ struct aukpocket_reel_answer aukpocket_list_cards(const uint8_t *record, size_t 
         answer.traces += 1;
     if (wrong("listed"))
         answer.not_normal = 1;
+    if (wrong("listed changed"))
+        answer.changed = 1;
     return answer;
 }
 struct aukpocket_reel_answer aukpocket_write_reel(const uint8_t *record, size_t record_length, uint32_t code, uint8_t *reel, size_t length)
 {
-    struct aukpocket_reel_answer unfit = {14, 0, 0, 0, 3452, 0}, invalid = {13, 0, 0, 0, 3, 0}, answer;
+    struct aukpocket_reel_answer unfit = {14, 0, 0, 0, 3452, 0, 0}, invalid = {13, 0, 0, 0, 3, 0, 0}, answer;
     if (wrong("own") && code == 1)
         return unfit;
     if (wrong("valid") && code == 4)
@@ -1926,6 +2277,34 @@ struct aukpocket_reel_answer aukpocket_write_reel(const uint8_t *record, size_t 
     answer = proved_write_reel(record, record_length, code, reel, length);
     if (wrong("written"))
         answer.not_normal = 1;
+    if (wrong("written changed"))
+        answer.changed = 1;
+    return answer;
+}
+struct aukpocket_reel_answer aukpocket_write_nearest(const uint8_t *record, size_t record_length, uint32_t code, uint8_t *reel, size_t length)
+{
+    struct aukpocket_reel_answer unfit = {14, 0, 0, 0, 3452, 0, 0}, answer;
+    if (wrong("nearest unfit"))
+        return unfit;
+    answer = proved_write_nearest(record, record_length, code, reel, length);
+    if (wrong("nearest refused") && answer.number != 0)
+        answer.changed = 1;
+    if (answer.number != 0)
+        return answer;
+    if (wrong("nearest fewer"))
+        answer.changed -= 1;
+    if (wrong("nearest many"))
+        answer.changed = answer.traces * answer.samples + 1;
+    if (wrong("nearest normal"))
+        answer.not_normal = 1;
+    if (wrong("nearest sample"))
+        reel[answer.length - 1] ^= 0x01;
+    if (wrong("nearest header"))
+        reel[3603] ^= 0x01;
+    if (wrong("nearest card"))
+        reel[0] ^= 0x01;
+    if (wrong("nearest code"))
+        reel[3225] = 9;
     return answer;
 }
 """
@@ -1936,7 +2315,7 @@ class Wrong(Built):
 
     def test_verify_finds_a_difference(self):
         library, command = self.folder / "libaukpocket.a", self.folder / "command"
-        names = [f"--redefine-sym=aukpocket_{call}=proved_{call}" for call in ("read_reel", "write_reel", "list_cards")]
+        names = [f"--redefine-sym=aukpocket_{call}=proved_{call}" for call in ("read_reel", "write_reel", "write_nearest", "list_cards")]
         self.built("objcopy", *names, ARCHIVE, library)
         wrong = self.file("wrong.c", WRONG_LIBRARY.encode())
         self.built("cc", "-I", TOP / "include", "-c", wrong, "-o", self.folder / "wrong.o")
@@ -1970,10 +2349,33 @@ class Wrong(Built):
             ("counted", ("read", cut, none), "the library tells of counts beside a refusal"),
             ("listed", ("cards", record), "the library tells of 1 words that aren't normal where 0 were read"),
             ("written", ("write", record, "1", none), "the library tells of 1 words that aren't normal where 0 were read"),
+            ("read changed", ("read", SAMPLE, none), "the library tells of 1 samples that changed where 0 were written by nearest values"),
+            ("listed changed", ("cards", record), "the library tells of 1 samples that changed where 0 were written by nearest values"),
+            ("written changed", ("write", record, "1", none), "the library tells of 1 samples that changed where 0 were written by nearest values"),
+            ("nearest unfit", ("write", record, "3", none, "--nearest"), "the library refuses nearest writing by 14"),
+            ("nearest refused", ("write", record, "6", none, "--nearest"), "the library tells of counts beside a refusal"),
+            ("nearest many", ("write", record, "3", none, "--nearest"),
+             "the library tells of 1441 samples that changed where 1440 were written by nearest values"),
+            ("nearest normal", ("write", record, "3", none, "--nearest"), "the library tells of 1 words that aren't normal where 0 were read"),
         ):
             run = subprocess.run([command, *words], capture_output=True, text=True, env={"WRONG": way}, timeout=SECONDS)
             self.assertNotIn(run.returncode, (0, 2))
             self.assertIn(said, run.stderr)
+            self.assertFalse(none.exists())
+        # A reel by nearest values that isn't what was counted never gets its name.
+        for way, code, said in (
+            ("nearest fewer", 3, "342 samples changed, and 341 were counted"), ("nearest sample", 3, "343 samples changed, and 342 were counted"),
+            ("nearest header", 5, "the records differ in more than samples"), ("nearest card", 3, "the records differ in more than samples"),
+            ("nearest code", 8, "refused by 2: the format code is 9, not 1, 2, 3, 4, 5 or 8 (place 3224: binary header, field 3225, code)"),
+            ("normal again", 1, "3 of its words aren't normal"), ("none", 3, None),
+        ):
+            run = subprocess.run([command, "write", record, str(code), none, "--nearest"], capture_output=True, text=True, env={"WRONG": way},
+                                 timeout=SECONDS)
+            if said is None:
+                self.assertEqual((run.returncode, run.stderr, none.exists()), (0, "", True))
+                continue
+            self.assertEqual((run.returncode, run.stdout, run.stderr), (3, "", (
+                f"aukpocket: {record}: came back otherwise in code {code}: {said}; nothing was written; report this\n")))
             self.assertFalse(none.exists())
 
     def test_a_missing_library(self):
@@ -2135,9 +2537,29 @@ int main(void)
     written = aukpocket_write_reel(record, 3471, 1, again, 3848);
     if (written.number != 0 || written.length != 3848 || written.not_normal != 0 || memcmp(reel, again, 3848) != 0)
         return 2;
+    if (read.changed != 0 || written.changed != 0)
+        return 34;
     written = aukpocket_write_reel(record, 3471, 2, again, 3848);
-    if (written.number != 14 || written.traces != 0 || written.beside != 3458 || written.not_normal != 0)
+    if (written.number != 14 || written.traces != 0 || written.beside != 3458 || written.not_normal != 0 || written.changed != 0)
         return 3;
+    written = aukpocket_write_nearest(record, 3471, 1, again, 3848);
+    if (written.number != 0 || written.length != 3848 || written.changed != 0 || memcmp(reel, again, 3848) != 0)
+        return 35;
+    again[3844] = 0xEE;
+    written = aukpocket_write_nearest(record, 3471, 3, again, 3848);
+    if (written.number != 0 || written.traces != 1 || written.samples != 2 || written.length != 3844 || written.beside != 0)
+        return 36;
+    if (written.not_normal != 0 || written.changed != 1 || again[3225] != 3 || memcmp("\0\1\377\211\356", again + 3840, 5) != 0)
+        return 37; /* 1, and -949 * 2^-3 became -119 */
+    written = aukpocket_write_nearest(record, 3471, 3, again, 3843);
+    if (written.number != 10 || written.traces != 0 || written.length != 0 || written.beside != 3844 || written.changed != 0)
+        return 38;
+    written = aukpocket_write_nearest(record, 3470, 6, again, 0);
+    if (written.number != 11 || written.beside != 0 || written.changed != 0)
+        return 39;
+    written = aukpocket_write_nearest(record, 3470, 8, again, 0);
+    if (written.number != 12 || written.beside != 3464 || written.changed != 0)
+        return 40;
     field = aukpocket_look_up(reel, 3848, 1, 117);
     none = aukpocket_look_up(reel, 3848, ((size_t)1 << 32) + 1, 117);
     if (field.number != 0 || field.value != 2000 || none.number != 15 || none.value != 0)
@@ -2155,7 +2577,7 @@ int main(void)
     listed = aukpocket_list_cards(record, 3471, listing, 3241);
     if (listed.number != 0 || listed.traces != 0 || listed.samples != 0 || listed.length != 3240 || listed.beside != 0)
         return 8;
-    if (listed.not_normal != 0)
+    if (listed.not_normal != 0 || listed.changed != 0)
         return 23;
     if (listing[3238] != 0x20 || listing[3239] != 0x0A || listing[3240] != 0xEE)
         return 9;
@@ -2163,6 +2585,8 @@ int main(void)
     taken = aukpocket_take_cards(record, 3471, (const unsigned char *)listing, 3240, out, 3472);
     if (taken.number != 0 || taken.traces != 1 || taken.samples != 2 || taken.length != 3471 || taken.beside != 0 || taken.not_normal != 0)
         return 10;
+    if (taken.changed != 0)
+        return 41;
     record[83] = 0xC1;
     if (memcmp(record, out, 3471) != 0 || out[3471] != 0xEE)
         return 11;
@@ -2277,8 +2701,8 @@ class Examples(Built):
 
     def test_the_header(self):
         """The sizes that cli/src/library.rs and the examples count on, in C and in C++. With other sizes the version is another."""
-        sizes = (("reel", 48, {"length": 24, "not_normal": 40}), ("field", 16, {"value": 4}), ("sample", 24, {"not_normal": 16}))
-        source = '#include "aukpocket.h"\n#if AUKPOCKET_VERSION != 3\n#error another version\n#endif\n'
+        sizes = (("reel", 56, {"length": 24, "not_normal": 40, "changed": 48}), ("field", 16, {"value": 4}), ("sample", 24, {"not_normal": 16}))
+        source = '#include "aukpocket.h"\n#if AUKPOCKET_VERSION != 4\n#error another version\n#endif\n'
         for kind, size, places in sizes:
             answer = f"struct aukpocket_{kind}_answer"
             source += f"typedef char {kind}_size[sizeof({answer}) == {size} ? 1 : -1];\n"

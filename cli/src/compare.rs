@@ -1,7 +1,7 @@
 //! A record on disk against the record of its reel.
 
 use crate::cards;
-use crate::layout::{number, Shape, BINARY, FIRST_PAIR, FIRST_TRACE, SAMPLES, TAG};
+use crate::layout::{number, Shape, BINARY, FIRST_PAIR, FIRST_TRACE, PAIR, SAMPLES, TAG};
 use crate::refusals::{field, pair_value};
 use crate::scalars;
 use crate::sha256::Sum;
@@ -16,9 +16,6 @@ const PIECE: usize = 1 << 20;
 /// What is kept of a file from its first difference on: as many bytes as the groups of a trace header have, with their scalars. No other
 /// part of a record is as long.
 const KEPT: usize = scalars::GROUPS.end - scalars::GROUPS.start;
-
-/// The bytes of a sample.
-const PAIR: usize = 6;
 
 /// What a file turned out to be beside the bytes that it should have.
 pub struct Compared {

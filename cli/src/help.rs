@@ -9,7 +9,9 @@ pub fn all() -> String {
 aukpocket: SEG-Y revision 0 reels and their canonical records
 
   aukpocket read REEL RECORD [--force]         make the record of a reel
-  aukpocket write RECORD CODE REEL [--force]   write a record as a reel in code {}
+  aukpocket write RECORD CODE REEL [--nearest] [--force]
+                                               write a record as a reel in code {},
+                                               exactly, or by the nearest values of the code
   aukpocket look REEL TRACE BYTE               print one header field, by byte number or name
   aukpocket info FILE [--cards COUNT]          say what a file is and what it holds
   aukpocket cards RECORD                       print the cards, 40 lines of 80 columns
@@ -26,7 +28,7 @@ Exit status:
   0  fine
   1  wrong words on the command line, or trouble with a file or memory
   2  refused: a sentence on standard error has the number of the cause, what is wrong and where
-  3  verify found a difference
+  3  verify found a difference, or write --nearest did, which must never happen
 
 A record leaves out what carries no meaning in revision 0: bytes 3261 to 3600, and bytes 181 to 240 of
 each trace header. read, info and verify count those that aren't 0 and warn of them on standard error;
@@ -93,16 +95,29 @@ every sample. Two reels have the same record exactly when they mean the same.
 pub fn write() -> String {
     format!(
         "\
-aukpocket write RECORD CODE REEL [--force]
+aukpocket write RECORD CODE REEL [--nearest] [--force]
 
 Writes the record as a reel in a format code:
 
 {}
-A code that can't hold some sample exactly is refused by 14. Reading the written reel gives the record
-again, byte for byte. Elevations and coordinates, and their scalars, are written as they stand in the
-record: the same values as on the reel that it was made of, perhaps by other numbers. Nearly every record
-made before scalars counted is refused by 13; see EARLIER RECORDS in aukpocket(1), or README.md.
-{OUTPUT}{STATUS}",
+A code that can't hold some sample exactly is refused by 14: without --nearest nothing is rounded. Reading
+the written reel gives the record again, byte for byte. Elevations and coordinates, and their scalars, are
+written as they stand in the record: the same values as on the reel that it was made of, perhaps by other
+numbers. Nearly every record made before scalars counted is refused by 13; see EARLIER RECORDS in
+aukpocket(1), or README.md.
+
+  --nearest   write each sample as the nearest value of the code: of two equally near the one nearer zero;
+              beyond the code's range its end, in code 5 the largest finite number
+
+Nothing is refused by 14 then. It says how many samples changed, of how many, and the largest change, where it
+is and how large the largest sample is. A warning says how many samples lie beyond the code's range and became
+its end. Where a sample changed, the written reel gives another record, and nothing on it says so: keep the
+record, which alone is exact. To tell what changed, the written reel is read again before it gets its name: the
+record, the reel and a second record have to fit in memory.
+{OUTPUT}
+Exit status: 0 fine, 1 wrong words or trouble with a file or memory, 2 refused, 3 what was read again isn't
+what nearest writing counted, which must never happen.
+",
         codes::list()
     )
 }

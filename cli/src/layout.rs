@@ -21,6 +21,9 @@ pub const FIRST_TRACE: usize = BINARY + TAG + 60;
 pub const SAMPLES: usize = TAG + 180;
 pub const FIRST_PAIR: usize = SAMPLES + TAG;
 
+/// The bytes of a pair, which is a sample of a record.
+pub const PAIR: usize = 6;
+
 /// The two-byte number at a place, 0 beyond the end.
 pub fn number(bytes: &[u8], place: usize) -> u16 {
     match place.checked_add(2).and_then(|end| bytes.get(place..end)) {
@@ -63,7 +66,7 @@ impl Shape {
     /// Of a record, which ends with seven bytes for the count of its traces.
     pub fn of_record(record: &[u8]) -> Shape {
         let samples = number(record, binary_place(3221));
-        let sample_length = 6;
+        let sample_length = PAIR;
         let trace_length = FIRST_PAIR + sample_length * usize::from(samples);
         let traces = record.len().saturating_sub(FIRST_TRACE + 7) / trace_length;
         Shape {

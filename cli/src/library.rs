@@ -14,6 +14,7 @@ mod c {
         pub length: u64,
         pub beside: u64,
         pub not_normal: u64,
+        pub changed: u64,
     }
 
     #[repr(C)]
@@ -31,7 +32,7 @@ mod c {
     }
 
     // The sizes that a C compiler gives these structures. tests/command.py holds the header to the same.
-    const _: () = assert!(size_of::<ReelAnswer>() == 48);
+    const _: () = assert!(size_of::<ReelAnswer>() == 56);
     const _: () = assert!(size_of::<FieldAnswer>() == 16);
     const _: () = assert!(size_of::<SampleAnswer>() == 24);
     const _: () = assert!(size_of::<usize>() == 8);
@@ -44,6 +45,13 @@ mod c {
             record_length: usize,
         ) -> ReelAnswer;
         pub fn aukpocket_write_reel(
+            record: *const u8,
+            record_length: usize,
+            code: u32,
+            reel: *mut u8,
+            reel_length: usize,
+        ) -> ReelAnswer;
+        pub fn aukpocket_write_nearest(
             record: *const u8,
             record_length: usize,
             code: u32,
@@ -90,6 +98,16 @@ pub struct ReelRead {
     pub samples: u64,
     pub length: usize,
     pub not_normal: u64,
+}
+
+/// A record that was written by nearest values: as above, and how many of its samples have another value on the reel. Where that is 0 the
+/// reel is exact.
+#[derive(Clone, Copy, Debug, PartialEq, Eq)]
+pub struct NearestWritten {
+    pub traces: u64,
+    pub samples: u64,
+    pub length: usize,
+    pub changed: u64,
 }
 
 /// A word that was read: its canonical pair, and whether it is an IBM word that isn't normal.
@@ -190,6 +208,17 @@ pub fn write_reel(record: &[u8], code: u32, reel: &mut [u8]) -> Result<Taken, Re
     taken(answer, room)
 }
 
+/// Writes a record as a reel under a target code to the front of the output, each sample as the nearest value of the code, and counts those
+/// that changed.
+pub fn write_nearest(record: &[u8], code: u32, reel: &mut [u8]) -> Result<NearestWritten, Refusal> {
+    let room = reel.len();
+    // SAFETY: each pointer is a slice's own, with its length.
+    let answer = unsafe {
+        c::aukpocket_write_nearest(record.as_ptr(), record.len(), code, reel.as_mut_ptr(), room)
+    };
+    nearest_written(answer, room)
+}
+
 /// Looks up the field that begins at a byte number, counted from 1: of the binary header for trace 0, else of that trace's header.
 pub fn look_up(reel: &[u8], trace: usize, byte_number: u32) -> Result<i32, Refusal> {
     // SAFETY: the pointer is the slice's own, with its length.
@@ -262,9 +291,16 @@ pub fn write_pair(code: u32, pair: [u8; 6]) -> Result<[u8; 4], Refusal> {
     Ok(word)
 }
 
+/// What an answer says where the call was taken: the counts that every call on a reel or record gives, and those of one call alone.
+struct Answered {
+    taken: Taken,
+    not_normal: u64,
+    changed: u64,
+}
+
 /// What an answer says, for an output of that room. Each member is named, so that none is dropped unnoticed. A length beyond the room would
-/// tell of bytes that aren't there, a count beyond the samples of words: another library was linked.
-fn reel_read(answer: c::ReelAnswer, room: usize) -> Result<ReelRead, Refusal> {
+/// tell of bytes that aren't there: another library was linked.
+fn answered(answer: c::ReelAnswer, room: usize) -> Result<Answered, Refusal> {
     let c::ReelAnswer {
         number,
         traces,
@@ -272,10 +308,11 @@ fn reel_read(answer: c::ReelAnswer, room: usize) -> Result<ReelRead, Refusal> {
         length,
         beside,
         not_normal,
+        changed,
     } = answer;
     if number != 0 {
         assert!(
-            (traces, samples, length, not_normal) == (0, 0, 0, 0),
+            (traces, samples, length, not_normal, changed) == (0, 0, 0, 0, 0),
             "the library tells of counts beside a refusal"
         );
         return Err(refusal(number, beside));
@@ -286,29 +323,66 @@ fn reel_read(answer: c::ReelAnswer, room: usize) -> Result<ReelRead, Refusal> {
         length <= room,
         "the library tells of {length} bytes in an output of {room}"
     );
-    check_not_normal(not_normal, traces.saturating_mul(samples));
-    Ok(ReelRead {
+    let taken = Taken {
         traces,
         samples,
         length,
+    };
+    Ok(Answered {
+        taken,
+        not_normal,
+        changed,
+    })
+}
+
+/// What the answer of reading a reel says.
+fn reel_read(answer: c::ReelAnswer, room: usize) -> Result<ReelRead, Refusal> {
+    let Answered {
+        taken,
+        not_normal,
+        changed,
+    } = answered(answer, room)?;
+    check_not_normal(not_normal, taken.traces.saturating_mul(taken.samples));
+    check_changed(changed, 0);
+    Ok(ReelRead {
+        traces: taken.traces,
+        samples: taken.samples,
+        length: taken.length,
         not_normal,
     })
 }
 
-/// What the answer of a call that reads no words says.
-fn taken(answer: c::ReelAnswer, room: usize) -> Result<Taken, Refusal> {
-    let ReelRead {
-        traces,
-        samples,
-        length,
+/// What the answer of nearest writing says, which takes every sample.
+fn nearest_written(answer: c::ReelAnswer, room: usize) -> Result<NearestWritten, Refusal> {
+    assert!(
+        answer.number != 14,
+        "the library refuses nearest writing by 14"
+    );
+    let Answered {
+        taken,
         not_normal,
-    } = reel_read(answer, room)?;
+        changed,
+    } = answered(answer, room)?;
     check_not_normal(not_normal, 0);
-    Ok(Taken {
-        traces,
-        samples,
-        length,
+    check_changed(changed, taken.traces.saturating_mul(taken.samples));
+    Ok(NearestWritten {
+        traces: taken.traces,
+        samples: taken.samples,
+        length: taken.length,
+        changed,
     })
+}
+
+/// What the answer of a call that reads no words and rounds no samples says.
+fn taken(answer: c::ReelAnswer, room: usize) -> Result<Taken, Refusal> {
+    let Answered {
+        taken,
+        not_normal,
+        changed,
+    } = answered(answer, room)?;
+    check_not_normal(not_normal, 0);
+    check_changed(changed, 0);
+    Ok(taken)
 }
 
 /// How many words that aren't normal the answer of a single-sample call tells of, which reads that many words.
@@ -335,6 +409,14 @@ fn check_not_normal(not_normal: u64, words: u64) {
     assert!(
         not_normal <= words,
         "the library tells of {not_normal} words that aren't normal where {words} were read"
+    );
+}
+
+/// Ends the run where a call that writes that many samples by nearest values tells of more that changed.
+fn check_changed(changed: u64, samples: u64) {
+    assert!(
+        changed <= samples,
+        "the library tells of {changed} samples that changed where {samples} were written by nearest values"
     );
 }
 
@@ -405,6 +487,39 @@ mod tests {
         assert_eq!((refused.number, refused.beside), (12, 0));
         let refused = write_reel(&[], 257, &mut []).unwrap_err();
         assert_eq!((refused.number, refused.beside), (11, 0));
+    }
+
+    /// Samples that become the nearest value, and those that have it already: the reel, the count, and what is left of the output.
+    #[test]
+    fn nearest() {
+        let mut record = vec![0; 3471];
+        read_reel(&example(), &mut record).unwrap();
+        for (code, samples, changed) in [
+            (1, &[0x41, 0x10, 0, 0, 0xC2, 0x76, 0xA0, 0][..], 0),
+            (2, &[0, 0, 0, 1, 0xFF, 0xFF, 0xFF, 0x89], 1),
+            (3, &[0, 1, 0xFF, 0x89], 1),
+            (4, &[0, 0, 0, 1, 0, 3, 0xFC, 0x4B], 0),
+            (5, &[0x3F, 0x80, 0, 0, 0xC2, 0xED, 0x40, 0], 0),
+            (8, &[1, 0x89], 1),
+        ] {
+            let mut reel = vec![0xEE; 3848 + 5];
+            let written = write_nearest(&record, code, &mut reel).unwrap();
+            let length = 3840 + samples.len();
+            let counts = (written.traces, written.samples, written.length);
+            assert_eq!(counts, (1, 2, length), "{code}");
+            assert_eq!(written.changed, changed, "{code}");
+            assert_eq!(reel[3840..length], *samples, "{code}");
+            assert!(reel[length..].iter().all(|&byte| byte == 0xEE));
+            let refused = write_nearest(&record, code, &mut reel[..length - 1]).unwrap_err();
+            assert_eq!((refused.number, refused.beside), (10, length as u64));
+        }
+        // Exact writing refuses what nearest writing rounds; both refuse a wrong code and a wrong record.
+        assert_eq!(write_reel(&record, 2, &mut []).unwrap_err().number, 14);
+        record[3] = 0;
+        for (code, expected) in [(6, (11, 0)), (2, (13, 3))] {
+            let refused = write_nearest(&record, code, &mut []).unwrap_err();
+            assert_eq!((refused.number, refused.beside), expected);
+        }
     }
 
     #[test]
@@ -611,13 +726,14 @@ mod tests {
     /// Counts that no call gives are never handed on.
     #[test]
     fn counts_that_are_wrong() {
-        let reel = |number, not_normal| c::ReelAnswer {
+        let reel = |number, not_normal, changed| c::ReelAnswer {
             number,
             traces: 3 * u64::from(number == 0),
             samples: 2 * u64::from(number == 0),
             length: 9 * u64::from(number == 0),
             beside: 7 * u64::from(number != 0),
             not_normal,
+            changed,
         };
         let sample = |number, not_normal| c::SampleAnswer {
             number,
@@ -625,17 +741,28 @@ mod tests {
             not_normal,
         };
         let read_fails = |answer| catch_unwind(|| reel_read(answer, 9)).is_err();
+        let nearest_fails = |answer| catch_unwind(|| nearest_written(answer, 9)).is_err();
         let taken_fails = |answer| catch_unwind(|| taken(answer, 9)).is_err();
         let sample_fails =
             |answer, words| catch_unwind(|| sample_not_normal(answer, words)).is_err();
-        assert_eq!(reel_read(reel(0, 6), 9).unwrap().not_normal, 6);
-        assert!(read_fails(reel(0, 7)));
-        assert!(read_fails(reel(5, 1)));
-        assert_eq!(reel_read(reel(19, 0), 9).unwrap_err().number, 19);
-        assert!(read_fails(reel(20, 0)));
-        assert_eq!(taken(reel(0, 0), 9).unwrap().traces, 3);
-        assert!(taken_fails(reel(0, 1)));
-        assert!(taken_fails(reel(14, 1)));
+        assert_eq!(reel_read(reel(0, 6, 0), 9).unwrap().not_normal, 6);
+        assert!(read_fails(reel(0, 7, 0)));
+        assert!(read_fails(reel(0, 6, 1)));
+        assert!(read_fails(reel(5, 1, 0)));
+        assert!(read_fails(reel(5, 0, 1)));
+        assert_eq!(reel_read(reel(19, 0, 0), 9).unwrap_err().number, 19);
+        assert!(read_fails(reel(20, 0, 0)));
+        assert_eq!(nearest_written(reel(0, 0, 6), 9).unwrap().changed, 6);
+        assert!(nearest_fails(reel(0, 0, 7)));
+        assert!(nearest_fails(reel(0, 1, 6)));
+        assert!(nearest_fails(reel(13, 0, 1)));
+        assert_eq!(nearest_written(reel(13, 0, 0), 9).unwrap_err().number, 13);
+        assert!(nearest_fails(reel(14, 0, 0)));
+        assert_eq!(taken(reel(0, 0, 0), 9).unwrap().traces, 3);
+        assert!(taken_fails(reel(0, 1, 0)));
+        assert!(taken_fails(reel(0, 0, 1)));
+        assert!(taken_fails(reel(14, 1, 0)));
+        assert!(taken_fails(reel(14, 0, 1)));
         assert_eq!(sample_not_normal(sample(0, 1), 1), Ok(1));
         assert!(sample_fails(sample(0, 2), 1));
         assert!(sample_fails(sample(0, 1), 0));

@@ -12,19 +12,22 @@ mod left_out;
 mod listing;
 mod not_normal;
 mod refusals;
+mod rounding;
 mod scalars;
 mod sha256;
 mod system;
 mod trouble;
 
 use aukpocket::{
-    list_cards, look_up, read_reel, take_cards, write_reel, ReelRead, Refusal, Taken, CODES,
+    list_cards, look_up, read_reel, take_cards, write_nearest, write_reel, NearestWritten,
+    ReelRead, Refusal, Taken, CODES,
 };
 use files::{step, Target};
 use kinds::{is_record, is_reel, record_fault, reel_fault};
 use layout::Shape;
 use listing::Encoding;
 use not_normal::NotNormal;
+use rounding::Rounding;
 use std::env;
 use std::ffi::{OsStr, OsString};
 use std::fmt::Write as _;
@@ -42,8 +45,40 @@ const FIRST_CARDS: usize = 5;
 struct Words {
     words: Vec<OsString>,
     force: bool,
+    writing: Writing,
     cards: usize,
     encoding: Option<Encoding>,
+}
+
+/// How the samples of a record are written.
+#[derive(Clone, Copy, PartialEq, Eq)]
+enum Writing {
+    /// Each as the value that it is, or not at all.
+    Exact,
+    /// Each as the nearest value of the code.
+    Nearest,
+}
+
+impl Writing {
+    /// Writes a record as a reel. Exact writing changes no sample.
+    fn write(self, record: &[u8], code: u32, reel: &mut [u8]) -> Result<NearestWritten, Refusal> {
+        match self {
+            Writing::Nearest => write_nearest(record, code, reel),
+            Writing::Exact => {
+                let Taken {
+                    traces,
+                    samples,
+                    length,
+                } = write_reel(record, code, reel)?;
+                Ok(NearestWritten {
+                    traces,
+                    samples,
+                    length,
+                    changed: 0,
+                })
+            }
+        }
+    }
 }
 
 impl Words {
@@ -96,7 +131,7 @@ static COMMANDS: [Command; 7] = [
         name: "write",
         words: &["RECORD", "CODE", "REEL"],
         optional: &[],
-        options: &["--force"],
+        options: &["--nearest", "--force"],
         help: help::write,
         run: write,
     },
@@ -198,6 +233,7 @@ fn take_words(command: &Command, arguments: &[OsString]) -> Result<Option<Words>
     let mut taken = Words {
         words: Vec::new(),
         force: false,
+        writing: Writing::Exact,
         cards: FIRST_CARDS,
         encoding: None,
     };
@@ -213,6 +249,7 @@ fn take_words(command: &Command, arguments: &[OsString]) -> Result<Option<Words>
                 return Err(wrong(format!("there is no option `{option}`")));
             }
             Some("--force") if options => taken.force = true,
+            Some("--nearest") if options => taken.writing = Writing::Nearest,
             Some("--utf8") if options => taken.set_encoding(Encoding::Utf8).map_err(wrong)?,
             Some("--latin1") if options => taken.set_encoding(Encoding::Latin1).map_err(wrong)?,
             Some("--cards") if options => {
@@ -326,8 +363,9 @@ fn record_of(reel: &[u8], name: &str) -> Result<(Vec<u8>, ReelRead), Trouble> {
 fn reel_of(
     record: &[u8],
     code: u32,
+    writing: Writing,
     name: &str,
-) -> Result<Result<(Vec<u8>, Taken), Refusal>, Trouble> {
+) -> Result<Result<(Vec<u8>, NearestWritten), Refusal>, Trouble> {
     let mut room = Shape::of_record(record).reel_length(code);
     loop {
         step(
@@ -335,15 +373,30 @@ fn reel_of(
             room,
         );
         let mut reel = files::buffer(room, format_args!("{name}: its reel"))?;
-        match write_reel(record, code, &mut reel) {
-            Ok(taken) => {
-                reel.truncate(taken.length);
-                return Ok(Ok((reel, taken)));
+        match writing.write(record, code, &mut reel) {
+            Ok(written) => {
+                reel.truncate(written.length);
+                return Ok(Ok((reel, written)));
             }
             Err(Refusal { number: 10, beside }) if beside > room => room = beside,
             Err(refusal) => return Ok(Err(refusal)),
         }
     }
+}
+
+/// The record of a reel that was written from one of that length, and what reading answers; or the refusal, in the inner result.
+fn read_again(
+    reel: &[u8],
+    code: u32,
+    length: usize,
+    name: &str,
+) -> Result<Result<(Vec<u8>, ReelRead), Refusal>, Trouble> {
+    let mut back = files::buffer(length as u64, format_args!("{name}: a second record"))?;
+    step(
+        format_args!("reading the reel in code {code} again"),
+        reel.len() as u64,
+    );
+    Ok(read_reel(reel, &mut back).map(|read| (back, read)))
 }
 
 fn read(words: &Words) -> Result<(), Trouble> {
@@ -369,15 +422,64 @@ fn write(words: &Words) -> Result<(), Trouble> {
     let target = Target::new(to, words.force, &[from])?;
     let record = files::load(from)?;
     let name = from.display().to_string();
-    let (reel, taken) = reel_of(&record, code, &name)?
-        .map_err(|refusal| Trouble::refused(&name, refusals::of_record(&record, code, refusal)))?;
+    let (reel, written) = reel_of(&record, code, words.writing, &name)?
+        .map_err(|refusal| Trouble::refused(&name, refusals::of_writing(&record, code, refusal)))?;
+    let rounding = match words.writing {
+        Writing::Exact => None,
+        Writing::Nearest => Some(rounding_of(&record, &reel, code, written, &name)?),
+    };
     target.put(&reel)?;
-    tell(&format!(
-        "{name}: {}; {}: its reel in code {code}, {} bytes\n",
-        extent(taken.traces, taken.samples),
-        to.display(),
-        taken.length
-    ))
+    let to = to.display().to_string();
+    let extent = extent(written.traces, written.samples);
+    let length = written.length;
+    let Some(rounding) = rounding else {
+        return tell(&format!(
+            "{name}: {extent}; {to}: its reel in code {code}, {length} bytes\n"
+        ));
+    };
+    if let Some(sentence) = rounding.beyond() {
+        warn(&to, &sentence);
+    }
+    let mut text = format!(
+        "{name}: {extent}; {to}: its reel in code {code} by nearest values, {length} bytes; {}\n",
+        rounding.count()
+    );
+    if let Some(largest) = rounding.largest() {
+        let _ = writeln!(text, "{largest}; keep {name}, which {to} doesn't give back");
+    }
+    tell(&text)
+}
+
+/// What nearest writing did to the samples. The written reel is read again, which gives its exact values, and they are compared with the
+/// record's: so the record, the reel and a second record are in memory together. What is found has to be what was counted. This is done
+/// before the reel has its name: one that isn't what it should be never gets it.
+fn rounding_of(
+    record: &[u8],
+    reel: &[u8],
+    code: u32,
+    written: NearestWritten,
+    name: &str,
+) -> Result<Rounding, Trouble> {
+    let differs = |what: String| {
+        Trouble::differs(format!(
+            "{name}: came back otherwise in code {code}: {what}; nothing was written; report this"
+        ))
+    };
+    let (back, read) = read_again(reel, code, record.len(), name)?
+        .map_err(|refusal| differs(refusals::of_reel(reel, refusal)))?;
+    if read.not_normal != 0 {
+        let count = read.not_normal;
+        return Err(differs(format!("{count} of its words aren't normal")));
+    }
+    let rounding = Rounding::of(record, &back, code)
+        .ok_or_else(|| differs("the records differ in more than samples".to_string()))?;
+    match rounding.changed() {
+        changed if changed == written.changed => Ok(rounding),
+        changed => Err(differs(format!(
+            "{changed} samples changed, and {} were counted",
+            written.changed
+        ))),
+    }
 }
 
 fn look(words: &Words) -> Result<(), Trouble> {
@@ -805,7 +907,7 @@ fn again(record: &[u8], read: ReelRead, code: u32, name: &str) -> Result<Again, 
         not_normal: 0,
         ..read
     };
-    let (reel, written) = match reel_of(record, code, name)? {
+    let (reel, written) = match reel_of(record, code, Writing::Exact, name)? {
         Ok(made) => made,
         Err(refusal) if refusal.number == 14 => {
             return Ok(Again::Refused(refusals::of_record(record, code, refusal)));
@@ -814,21 +916,16 @@ fn again(record: &[u8], read: ReelRead, code: u32, name: &str) -> Result<Again, 
             return Ok(Again::Differs(refusals::of_record(record, code, refusal)));
         }
     };
-    let mut back = files::buffer(record.len() as u64, format_args!("{name}: a second record"))?;
-    step(
-        format_args!("reading the reel in code {code} again"),
-        reel.len() as u64,
-    );
-    Ok(match read_reel(&reel, &mut back) {
+    Ok(match read_again(&reel, code, record.len(), name)? {
         Err(refusal) => Again::Differs(refusals::of_reel(&reel, refusal)),
-        Ok(ReelRead { not_normal, .. }) if not_normal != 0 => Again::Differs(format!(
+        Ok((_, ReelRead { not_normal, .. })) if not_normal != 0 => Again::Differs(format!(
             "{not_normal} words of the written reel aren't normal"
         )),
-        Ok(found) if found != expected || written.traces != expected.traces => {
+        Ok((_, found)) if found != expected || written.traces != expected.traces => {
             Again::Differs("the counts of the record differ".to_string())
         }
-        Ok(_) if record == back => Again::Same(written.length),
-        Ok(_) => {
+        Ok((back, _)) if record == back => Again::Same(written.length),
+        Ok((back, _)) => {
             let same = record.iter().zip(&back).take_while(|(a, b)| a == b);
             Again::Differs(format!("the records differ from place {} on", same.count()))
         }

@@ -53,7 +53,7 @@ impl fmt::Display for NotNormal {
 }
 
 /// Some of a whole, in hundredths of a percent, rounded. What rounds to none or to all and isn't is said to be under or over.
-fn share(some: u64, all: u64) -> String {
+pub fn share(some: u64, all: u64) -> String {
     match (some * 10_000 + all / 2) / all {
         _ if some == all => "100 %".to_string(),
         0 => "under 0.01 %".to_string(),

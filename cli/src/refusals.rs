@@ -147,6 +147,15 @@ fn as_record(record: &[u8], code: u32, refusal: Refusal) -> String {
     sentence(refusal, &what)
 }
 
+/// The refusal of `write`: a record's, and beside 14 what else there is.
+pub fn of_writing(record: &[u8], code: u32, refusal: Refusal) -> String {
+    let hint = match refusal.number {
+        14 => "; --nearest rounds such samples to the nearest value of the code",
+        _ => "",
+    };
+    format!("{}{hint}", of_record(record, code, refusal))
+}
+
 /// A listing's refusal, by 17. Each of its lines has 80 columns or more.
 pub fn of_listing(listing: &Edited, refusal: Refusal) -> String {
     let lines = &listing.lines;

@@ -14,9 +14,9 @@ import sys
 
 
 class ReelAnswer(ctypes.Structure):
-    """As the header has it since AUKPOCKET_VERSION 2. A call writes all six members: with fewer here it would write beyond them."""
+    """As the header has it since AUKPOCKET_VERSION 4. A call writes all seven members: with fewer here it would write beyond them."""
 
-    _fields_ = [(name, ctypes.c_uint64) for name in ("number", "traces", "samples", "length", "beside", "not_normal")]
+    _fields_ = [(name, ctypes.c_uint64) for name in ("number", "traces", "samples", "length", "beside", "not_normal", "changed")]
 
 
 def load_library(path):
