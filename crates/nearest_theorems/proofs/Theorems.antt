@@ -2,8 +2,8 @@
 --
 -- Document 02, CR 5: "Beside exact writing, add writing where each sample becomes the nearest value of the target code". Its clauses on whole
 -- records stand over the theorems that say them, and demand 1's over those that say it of this call. What the nearest value of a code is,
--- "Every other word of that code that has a value is at least as far away" and the sentences after it, is said of single values by the
--- theorems on formats.
+-- "Every other word of that code that has a value is at least as far away" and the sentences after it, is said of single values:
+-- `NearestTheorems` of `format_theorems`.
 --
 -- The theorems are over the outcome that the contract of the call gives, `nearestOutcome`. "A record or a written reel is the output's first
 -- bytes, as many as the length returned" (document 01).
