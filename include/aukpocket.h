@@ -56,14 +56,15 @@
  * Codes 5 and 8 are those of revision 1 of SEG-Y. They are taken on every reel and by the code alone: nothing else of revision 1 is looked
  * at or written, and a reel of earlier days whose code 5 means 36-bit words is judged as one of IEEE words.
  *
- * Writing gives under code 1 the normal word (below), under code 4 the word with the smallest gain, and under the others the only word of
- * the value, of the two zeros of code 5 00000000. A value that no word of the code has is refused by 14.
+ * Exact writing gives under code 1 the normal word (below), under code 4 the word with the smallest gain, and under the others the only
+ * word of the value, of the two zeros of code 5 00000000. A value that no word of the code has is refused by 14.
  *
- * Nearest writing, a call of its own, refuses no sample: each becomes the nearest value of the code, and its word is the one that exact
- * writing gives for that value. Beyond the code's range the nearest value is the end on that side, under code 5 the largest finite number of
- * that sign. Of two values equally near, the one nearer zero is taken. What becomes zero is 00 throughout, also where it was negative.
- * `changed` tells how many samples have another value on the reel than in the record. Where it is 0 the reel is that of exact writing and
- * gives the record back; else it gives another record, nothing on the reel says so, and the record alone is exact. No other call rounds.
+ * Nearest writing, a call of its own, refuses no value, so 14 doesn't occur: each becomes the nearest value of the code, and its word is
+ * the one that exact writing gives for that value. Beyond the code's range the nearest value is the end on that side, under code 5 the
+ * largest finite number of that sign. Of two values equally near, the one nearer zero is taken. What becomes zero is 00 throughout, also
+ * where it was negative. `changed` tells how many samples have another value on the reel than in the record. Where the call is taken and
+ * `changed` is 0, the reel is that of exact writing and gives the record back; else it gives another record, nothing on the reel says so,
+ * and the record alone is exact. No other call rounds.
  *
  * A record leaves out what carries no meaning in revision 0: bytes 3261 to 3600, and bytes 181 to 240 of each trace header. Reading
  * takes any bytes there and says nothing of them; writing sets them to 0. A caller who wants to know looks at the reel's bytes. A record

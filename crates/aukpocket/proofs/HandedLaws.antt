@@ -18,7 +18,7 @@ use Rattle.aukpocket.specs.declared.SampleAnswer.{SampleAnswer}
 pub reel-handed : (r : ReelAnswer) (answer : Answer) (out : List ℕ) (o : Outcome) → handed r ≡ reelAnswer (saidBy answer) → outcome answer out ≡ o → reelIn r out ≡ reelHanded o
 reel-handed r answer out o p q = ap (λ (a : Handed ReelAnswer). record { answer = a; bytes = out }) p ∙ ap reelHanded q
 
--- of a call with a count, by what is made of what it says: `countedAnswer` or `nearestAnswer`
+-- of a call with a count, by what is made of what it says: `readAnswer` or `nearestAnswer`
 pub counted-handed : (f : Said → Handed ReelAnswer) (r : ReelAnswer) (answer : Counted) (out : List ℕ) (o : Outcome) → handed r ≡ f (countedBy answer) → countedOutcome answer out ≡ o
     → _≡_ {A = ReelHanded} (reelIn r out) (record { answer = f (o .said); bytes = o .bytes })
 counted-handed f r answer out o p q =

@@ -23,7 +23,7 @@ takenAnswer t n l c d = record { number = 0; traces = t; samples = n; length = l
 abbrev pub refusedAnswer : ℕ → ℕ → ReelAnswer
 refusedAnswer number beside = record { number = number; traces = 0; samples = 0; length = 0; beside = beside; «not_normal» = 0; changed = 0 }
 
--- What a call that gives a reel or a record says, in numbers: number 0 and T, N and the length where it is taken; else the number of the
+-- What exact writing says, and taking cards back, in numbers: number 0 and T, N and the length where it is taken; else the number of the
 -- cause and what stands beside it in the table. The other members are 0.
 abbrev pub reelAnswer : Said → Handed ReelAnswer
 reelAnswer (taken []) = lost
@@ -34,14 +34,14 @@ reelAnswer (taken (t ∷ n ∷ l ∷ more ∷ rest)) = lost
 reelAnswer (refused number beside) = handed (refusedAnswer number beside)
 
 -- What reading a reel says, in numbers: number 0, T, N, the length and the count of its words that are not normal.
-abbrev pub countedAnswer : Said → Handed ReelAnswer
-countedAnswer (taken []) = lost
-countedAnswer (taken (t ∷ [])) = lost
-countedAnswer (taken (t ∷ n ∷ [])) = lost
-countedAnswer (taken (t ∷ n ∷ l ∷ [])) = lost
-countedAnswer (taken (t ∷ n ∷ l ∷ c ∷ [])) = handed (takenAnswer t n l c 0)
-countedAnswer (taken (t ∷ n ∷ l ∷ c ∷ more ∷ rest)) = lost
-countedAnswer (refused number beside) = handed (refusedAnswer number beside)
+abbrev pub readAnswer : Said → Handed ReelAnswer
+readAnswer (taken []) = lost
+readAnswer (taken (t ∷ [])) = lost
+readAnswer (taken (t ∷ n ∷ [])) = lost
+readAnswer (taken (t ∷ n ∷ l ∷ [])) = lost
+readAnswer (taken (t ∷ n ∷ l ∷ c ∷ [])) = handed (takenAnswer t n l c 0)
+readAnswer (taken (t ∷ n ∷ l ∷ c ∷ more ∷ rest)) = lost
+readAnswer (refused number beside) = handed (refusedAnswer number beside)
 
 -- What nearest writing says, in numbers: number 0, T, N, the length and the count of samples whose value changed.
 abbrev pub nearestAnswer : Said → Handed ReelAnswer
@@ -64,8 +64,8 @@ reelIn answer out = record { answer = handed answer; bytes = out }
 abbrev pub reelHanded : Outcome → ReelHanded
 reelHanded o = record { answer = reelAnswer (o .said); bytes = o .bytes }
 
-abbrev pub countedHanded : Outcome → ReelHanded
-countedHanded o = record { answer = countedAnswer (o .said); bytes = o .bytes }
+abbrev pub readHanded : Outcome → ReelHanded
+readHanded o = record { answer = readAnswer (o .said); bytes = o .bytes }
 
 abbrev pub nearestHanded : Outcome → ReelHanded
 nearestHanded o = record { answer = nearestAnswer (o .said); bytes = o .bytes }

@@ -10,7 +10,7 @@ ghost use Rattle.write_reel.specs.Nearest.{nearestOutcome};
 ghost use Rattle.look_up.specs.LookUp.{lookUpOutcome};
 ghost use Rattle.code_page.specs.Page.{latin};
 ghost use Rattle.listing.specs.Calls as calls;
-ghost use Rattle.aukpocket.specs.Interface.{handed, takenAnswer, refusedAnswer, reelAnswer, reelIn, reelHanded, countedAnswer, countedHanded, nearestAnswer, nearestHanded, listingAnswer, listingHanded, fieldHanded, sampleAnswer, wordAnswer, sampleIn, sampleHanded, wordHanded};
+ghost use Rattle.aukpocket.specs.Interface.{handed, takenAnswer, refusedAnswer, reelAnswer, reelIn, reelHanded, readAnswer, readHanded, nearestAnswer, nearestHanded, listingAnswer, listingHanded, fieldHanded, sampleAnswer, wordAnswer, sampleIn, sampleHanded, wordHanded};
 use listing::Listed;
 use numbers::ByteNo;
 use numbers::Place;
@@ -102,8 +102,8 @@ fn reel_answer(answer: Answer) -> ReelAnswer
 }
 
 // An answer of reading with its count, in numbers.
-fn counted_answer(answer: Counted) -> ReelAnswer
-    ensures { λ r. ⌜ handed r ≡ countedAnswer (countedBy answer) ⌝ }
+fn read_answer(answer: Counted) -> ReelAnswer
+    ensures { λ r. ⌜ handed r ≡ readAnswer (countedBy answer) ⌝ }
 {
     match answer {
         Counted::Taken {
@@ -134,9 +134,9 @@ fn nearest_answer(answer: Counted) -> ReelAnswer
 // Reads a reel into the front of a record buffer.
 #[no_mangle]
 pub extern "C" fn aukpocket_read_reel(reel: &[u8], out: &mut [u8]) -> ReelAnswer
-    ensures { λ r. ⌜ reelIn r (now (out .exit)) ≡ countedHanded (readOutcome (now (reel .entry)) (now (out .entry))) ⌝ }
+    ensures { λ r. ⌜ reelIn r (now (out .exit)) ≡ readHanded (readOutcome (now (reel .entry)) (now (out .entry))) ⌝ }
 {
-    counted_answer(read_reel::read_reel(reel, out))
+    read_answer(read_reel::read_reel(reel, out))
 }
 
 // Writes a record under a target code as a reel, into the front of a reel buffer.

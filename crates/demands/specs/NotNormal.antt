@@ -21,7 +21,7 @@ unfoldable pub wordsChanged : List ℕ → List ℕ → ℕ → ℕ → ℕ
 wordsChanged s₁ s₂ n t =
     sum (walk (λ at. sum (walk (λ p. pick (eqb (number (bytesAt s₁ p 4)) (number (bytesAt s₂ p 4))) 0 1) 4 n (at + 240))) (240 + n * 4) t 3600)
 
--- The count that reading a reel says, and that reading a word says: 0 beside a refusal.
+-- The count that reading a reel or nearest writing says, and that reading a word says: 0 beside a refusal.
 abbrev pub countSaid : Said → ℕ
 countSaid (taken []) = 0
 countSaid (taken (t ∷ [])) = 0

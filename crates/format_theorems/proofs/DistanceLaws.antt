@@ -17,7 +17,7 @@ use Rattle.formats.specs.Nearest.{nearestMultiple, reaching, rangeEnd, nearestM
 use Rattle.formats.specs.declared.Format.{Format}
 use Rattle.formats.proofs.PlacedLaws.{serves-value}
 use Rattle.formats.proofs.RoundLaws.{dist, multiple-close, multiple-above}
-use Rattle.formats.proofs.NearestLaws.{Rounds, Among, step, step-fits, reaching-low, reaching-least, under-limit, nearest-magnitude, nearest-among, value-among}
+use Rattle.formats.proofs.NearestLaws.{ShortDigits, OfFormat, step, step-fits, reaching-low, reaching-least, under-limit, nearest-magnitude, nearest-among, value-among}
 
 -- a number below another isn't at least as large
 clash : {a b : ℕ} → a < b → b ≤ a → ⊥
@@ -70,7 +70,7 @@ of-sign v s e = sym (signed-back v) ∙ ap (λ (b : Bool). signMagnitude b (natA
 
 -- ## The nearest value of a format
 
-module _ (x : Format) (ok : Rounds x) where
+module _ (x : Format) (ok : ShortDigits x) where
   -- the distance from the nearest value, by magnitudes
   own-distance : (v : ℤ) → distance v (nearestIn x v) ≡ dist (natAbs v) (nearestMagnitude x (isNegative v) (natAbs v))
   own-distance v =
@@ -78,7 +78,7 @@ module _ (x : Format) (ok : Rounds x) where
       ∙ distance-same (isNegative v) (natAbs v) (nearestMagnitude x (isNegative v) (natAbs v))
 
   -- zero is a magnitude of either sign
-  zero-among : (s : Bool) → Among x ok s 0
+  zero-among : (s : Bool) → OfFormat x ok s 0
   zero-among s = record { c = 0; f = 0; below = ok .some; fits = under-limit x ok s 0 (pow-pos (x .fraction)); is = sym (zero-mul (unit x 0)) }
 
   -- LAW. No value of the format is nearer. One that is as near is the nearest value itself, or farther from zero.
@@ -113,7 +113,7 @@ module _ (x : Format) (ok : Rounds x) where
       same : isNegative w ≡ s → Claim
       same q =
           let d : distance v w ≡ dist a b = ap₂ distance mine (of-sign w s q) ∙ distance-same s a b in
-          let k = nearest-magnitude x ok s a b (subst (λ (z : Bool). Among x ok z b) q (value-among x ok w e)) in
+          let k = nearest-magnitude x ok s a b (subst (λ (z : Bool). OfFormat x ok z b) q (value-among x ok w e)) in
           let it : b ≡ n → w ≡ nearestIn x v = λ z. of-sign w s q ∙ ap (signMagnitude s) z in
           let tie : (n ≤ b) ⊎ (b ≡ n) → (w ≡ nearestIn x v) ⊎ (natAbs (nearestIn x v) < b) =
           ⊎-elim (λ (j : n ≤ b). ⊎-elim (λ (i : n < b). inr (omega (arith, size, i))) (λ (i : b ≤ n). inl (it (omega arith))) (below-or n b)) (λ (j : b ≡ n). inl (it j)) in
@@ -164,7 +164,7 @@ inside : (x : Format) (s : Bool) (a : ℕ) → a ≤ rangeEnd x s
     → (nearestMagnitude x s a ≡ nearestMultiple (unit x (reaching x a)) a) ⊎ (nearestMagnitude x s a ≡ a)
 inside x s a h = ⊎-elim (λ (l : a < rangeEnd x s). inl (inner x s a l)) (λ (l : rangeEnd x s ≤ a). inr (beyond x s a l ∙ omega arith)) (below-or a (rangeEnd x s))
 
-module _ (x : Format) (ok : Rounds x) where
+module _ (x : Format) (ok : ShortDigits x) where
   -- LAW. Inside the range the nearest value is at most half of the last place away of the least characteristic that reaches the value.
   pub within-half : (v : ℤ) → natAbs v ≤ rangeEnd x (isNegative v) → 2 * distance v (nearestIn x v) ≤ unit x (reaching x (natAbs v))
   within-half v h =
@@ -235,7 +235,7 @@ module _ (x : Format) (ok : Rounds x) where
     pub some-reaches : (c : ℕ) × (r ≤ c) × (c < x .characteristics) × (fitsAt x (nearestIn x v) c ≡ true)
     some-reaches = ⊎-elim low high (below-or (t .c) r)
       where
-        t : Among x ok s n
+        t : OfFormat x ok s n
         t = nearest-among x ok s (natAbs v)
 
         served-by : (f c : ℕ) → f < limit x s → n ≡ f * unit x c → fitsAt x (nearestIn x v) c ≡ true
@@ -281,7 +281,7 @@ close-opposite : (u end last a b n m : ℕ) → Close u end a n → Close u last
 close-opposite u end last a b n m p q = omega (arith, p .up, q .up)
 
 -- a format of one characteristic
-module _ (x : Format) (ok : Rounds x) (one : x .characteristics ≡ 1) where
+module _ (x : Format) (ok : ShortDigits x) (one : x .characteristics ≡ 1) where
   -- it has one last place
   pub one-unit : (a : ℕ) → unit x (reaching x a) ≡ 2 ^ x .base
   one-unit a =

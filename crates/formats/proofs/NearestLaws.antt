@@ -25,7 +25,7 @@ use Rattle.formats.proofs.CodeLaws.{Code, ibm, whole32, whole16, gain, 
 use Rattle.formats.proofs.RoundLaws.{dist, enclosed, by-side, multiple-nearest}
 
 -- a format whose digits are no longer than its fraction
-pub record Rounds (x : Format) : Type 0 where
+pub record ShortDigits (x : Format) : Type 0 where
   pub small : x .digit ≤ x .fraction
   pub steps : 0 < x .digit
   pub some : 0 < x .characteristics
@@ -34,7 +34,7 @@ pub record Rounds (x : Format) : Type 0 where
 multiple-apart : (k q u : ℕ) → (k * u ≤ q * u) ⊎ (suc q * u ≤ k * u)
 multiple-apart k q u = ⊎-elim (λ (h : q < k). inr (mul-le-mul-right u h)) (λ (h : k ≤ q). inl (mul-le-mul-right u h)) (below-or q k)
 
-module _ (x : Format) (ok : Rounds x) where
+module _ (x : Format) (ok : ShortDigits x) where
   -- ## Characteristics
 
   -- a larger last place is a whole number of a smaller one
@@ -112,7 +112,7 @@ module _ (x : Format) (ok : Rounds x) where
   -- ## Magnitudes
 
   -- a magnitude of the format with sign s
-  pub record Among (s : Bool) (b : ℕ) : Type 0 where
+  pub record OfFormat (s : Bool) (b : ℕ) : Type 0 where
     pub c : ℕ
     pub f : ℕ
     pub below : c < x .characteristics
@@ -132,7 +132,7 @@ module _ (x : Format) (ok : Rounds x) where
       go false l = omega arith
 
   -- it is needed beside the last characteristic alone
-  narrow : (s : Bool) (b : ℕ) → Among s b → (t : Among s b) × ((t .f < 2 ^ x .fraction) ⊎ (x .characteristics - 1 ≤ t .c))
+  narrow : (s : Bool) (b : ℕ) → OfFormat s b → (t : OfFormat s b) × ((t .f < 2 ^ x .fraction) ⊎ (x .characteristics - 1 ≤ t .c))
   narrow s b t =
       ⊎-elim (λ (k : t .f < 2 ^ x .fraction). (t, inl k))
       (λ (k : 2 ^ x .fraction ≤ t .f).
@@ -151,7 +151,7 @@ module _ (x : Format) (ok : Rounds x) where
       (below-or (t .f) (2 ^ x .fraction))
 
   -- no magnitude is beyond the end
-  pub under-end : (s : Bool) (b : ℕ) → Among s b → b ≤ rangeEnd x s
+  pub under-end : (s : Bool) (b : ℕ) → OfFormat s b → b ≤ rangeEnd x s
   under-end s b t =
       let k : t .c ≤ x .characteristics - 1 = omega (arith, t .below) in
       let z : x .digit * t .c ≤ x .digit * (x .characteristics - 1) = mul-le-mul-left (x .digit) k in
@@ -161,7 +161,7 @@ module _ (x : Format) (ok : Rounds x) where
       (mul-le-mul-left (limit x s - 1) (pow-mono (let j : x .base + x .digit * t .c ≤ x .base + x .digit * (x .characteristics - 1) = omega (arith, z) in j))))
 
   -- LAW. No magnitude of the format is nearer; of two equally near it is the one nearer zero.
-  pub nearest-magnitude : (s : Bool) (a b : ℕ) → Among s b → let n = nearestMagnitude x s a in
+  pub nearest-magnitude : (s : Bool) (a b : ℕ) → OfFormat s b → let n = nearestMagnitude x s a in
       (dist a n ≤ dist a b) × ((dist a n ≡ dist a b) → (n ≤ b) ⊎ (b ≡ n))
   nearest-magnitude s a b t = go (ltb a (rangeEnd x s)) refl
     where
@@ -183,7 +183,7 @@ module _ (x : Format) (ok : Rounds x) where
       go false e = far (rangeEnd x s) (ltb-false a (rangeEnd x s) e) (under-end s b t)
 
   -- LAW. The nearest magnitude is one of the format's.
-  pub nearest-among : (s : Bool) (a : ℕ) → Among s (nearestMagnitude x s a)
+  pub nearest-among : (s : Bool) (a : ℕ) → OfFormat s (nearestMagnitude x s a)
   nearest-among s a = go (ltb a (rangeEnd x s)) refl
     where
       c : ℕ
@@ -199,7 +199,7 @@ module _ (x : Format) (ok : Rounds x) where
       in-range = omega (arith, reaching-low a, ok .some)
 
       -- the quotient is a fraction, and so is the next number, or it is the first of the next characteristic
-      early : q < 2 ^ x .fraction → suc c < x .characteristics → (y : ℕ) → y ≤ suc q → Among s (y * u)
+      early : q < 2 ^ x .fraction → suc c < x .characteristics → (y : ℕ) → y ≤ suc q → OfFormat s (y * u)
       early h l y o =
           ⊎-elim (λ (k : y < 2 ^ x .fraction). record { c = c; f = y; below = in-range; fits = under-limit s y k; is = refl })
           (λ (k : 2 ^ x .fraction ≤ y).
@@ -208,14 +208,14 @@ module _ (x : Format) (ok : Rounds x) where
           (below-or y (2 ^ x .fraction))
 
       -- beside the last characteristic the end is not passed
-      late : q < limit x s - 1 → (y : ℕ) → y ≤ suc q → Among s (y * u)
+      late : q < limit x s - 1 → (y : ℕ) → y ≤ suc q → OfFormat s (y * u)
       late h y o = record { c = c; f = y; below = in-range; fits = omega arith; is = refl }
 
       -- the nearest multiple is one of the two
-      either : ((y : ℕ) → y ≤ suc q → Among s (y * u)) → Among s (nearestMultiple u a)
-      either f = by-side (Among s) u a (λ h. f (suc q) (omega arith)) (λ h. f q (omega arith))
+      either : ((y : ℕ) → y ≤ suc q → OfFormat s (y * u)) → OfFormat s (nearestMultiple u a)
+      either f = by-side (OfFormat s) u a (λ h. f (suc q) (omega arith)) (λ h. f q (omega arith))
 
-      go : (b : Bool) → ltb a (rangeEnd x s) ≡ b → Among s (pick b (nearestMultiple u a) (rangeEnd x s))
+      go : (b : Bool) → ltb a (rangeEnd x s) ≡ b → OfFormat s (pick b (nearestMultiple u a) (rangeEnd x s))
       go true e =
           either
           (⊎-elim
@@ -238,7 +238,7 @@ module _ (x : Format) (ok : Rounds x) where
       (subst (λ (b : ℕ). fitsAt x (signMagnitude s b) (t .c) ≡ true) (sym (t .is)) (serves-value x s (t .f) (t .c) (t .fits)))
 
   -- the magnitude of a value of the format
-  pub value-among : (v : ℤ) → inFormat x v ≡ true → Among (isNegative v) (natAbs v)
+  pub value-among : (v : ℤ) → inFormat x v ≡ true → OfFormat (isNegative v) (natAbs v)
   value-among v e =
       let p = placed-is x v _ _ (placed-some x v e) in
       record { c = _; f = _; below = p .below; fits = p .fits; is = p .is }
@@ -257,10 +257,10 @@ module _ (x : Format) (ok : Rounds x) where
 
 -- ## The codes
 
-pub code-rounds : (code : ℕ) → isCode code ≡ true → Rounds (formatOf code)
+pub code-rounds : (code : ℕ) → isCode code ≡ true → ShortDigits (formatOf code)
 code-rounds code h = go code (code-is code h)
   where
-    go : (code : ℕ) → Code code → Rounds (formatOf code)
+    go : (code : ℕ) → Code code → ShortDigits (formatOf code)
     go code ibm = record { small = omega arith; steps = omega arith; some = omega arith }
     go code whole32 = record { small = omega arith; steps = omega arith; some = omega arith }
     go code whole16 = record { small = omega arith; steps = omega arith; some = omega arith }

@@ -23,7 +23,7 @@ use Rattle.formats.proofs.FitLaws.{place, places-rise, placed-at, place
 use Rattle.formats.proofs.PlacedLaws.{placed-in, placed-none}
 use Rattle.formats.proofs.DifferLaws.{same-differs, other-differs}
 use Rattle.formats.proofs.RoundLaws.{multiple-above, multiple-below}
-use Rattle.formats.proofs.NearestLaws.{Rounds, step, step-fits, under-limit, nearest-self, nearest-other}
+use Rattle.formats.proofs.NearestLaws.{ShortDigits, step, step-fits, under-limit, nearest-self, nearest-other}
 
 -- ## Changes
 
@@ -43,7 +43,7 @@ module _ (x : Format) (s : Bool) (a : ℕ) (some : 0 < a) where
 
 -- ## Steps
 
-module _ (x : Format) (ok : Rounds x) (s : Bool) (o k : ℕ) (odd : o % 2 ≡ 1) (n : ℕ) (length : Length (pick (x .more && s) 1 0) o n) (c : ℕ) (low : Lowest (n + k) (x .fraction + x .base) (x .digit) c) where
+module _ (x : Format) (ok : ShortDigits x) (s : Bool) (o k : ℕ) (odd : o % 2 ≡ 1) (n : ℕ) (length : Length (pick (x .more && s) 1 0) o n) (c : ℕ) (low : Lowest (n + k) (x .fraction + x .base) (x .digit) c) where
   some : 0 < o * 2 ^ k
   some = mul-pos (let z : 0 < o = omega (arith, odd) in z) (pow-pos k)
 
@@ -75,11 +75,11 @@ module _ (x : Format) (ok : Rounds x) (s : Bool) (o k : ℕ) (odd : o % 2 ≡ 1)
           let m : 2 ^ n * 2 ^ k < 2 * o * 2 ^ k = mul-lt-mul-of-pos-right (let z : 2 ^ n < 2 * o = omega arith in z) (pow-pos k) in
           rw e (let z : 2 ^ x .fraction * u < o * 2 ^ k = omega (arith, m, twice (x .characteristics - 1) h, mul-assoc 2 o (2 ^ k)) in z)
 
-  pub nearest-end : x .characteristics - 1 < c → nearestMagnitude x s (o * 2 ^ k) ≡ rangeEnd x s
-  nearest-end h = rw (le-ltb (o * 2 ^ k) (rangeEnd x s) (let l = past-end h in omega arith))
+  pub magnitude-end : x .characteristics - 1 < c → nearestMagnitude x s (o * 2 ^ k) ≡ rangeEnd x s
+  magnitude-end h = rw (le-ltb (o * 2 ^ k) (rangeEnd x s) (let l = past-end h in omega arith))
 
   pub changes-end : x .characteristics - 1 < c → changesIn x (signMagnitude s (o * 2 ^ k)) ≡ 1
-  changes-end h = changes-so x s (o * 2 ^ k) some (λ e. none (nearest-end h) e (past-end h))
+  changes-end h = changes-so x s (o * 2 ^ k) some (λ e. none (magnitude-end h) e (past-end h))
     where
       none : {a n r : ℕ} → n ≡ r → n ≡ a → r < a → ⊥
       none e f h = omega arith
@@ -89,11 +89,11 @@ module _ (x : Format) (ok : Rounds x) (s : Bool) (o k : ℕ) (odd : o % 2 ≡ 1)
     own : nearestIn x (signMagnitude s (o * 2 ^ k)) ≡ signMagnitude s (o * 2 ^ k)
     own = nearest-self x ok (signMagnitude s (o * 2 ^ k)) (placed-in x (signMagnitude s (o * 2 ^ k)) _ _ (placed-at x s o k odd n length c low h l))
 
-    pub nearest-exact : nearestMagnitude x s (o * 2 ^ k) ≡ o * 2 ^ k
-    nearest-exact = sym (abs-signed s (nearestMagnitude x s (o * 2 ^ k))) ∙ ap natAbs (sym (nearest-signed x s (o * 2 ^ k) some) ∙ own) ∙ abs-signed s (o * 2 ^ k)
+    pub magnitude-own : nearestMagnitude x s (o * 2 ^ k) ≡ o * 2 ^ k
+    magnitude-own = sym (abs-signed s (nearestMagnitude x s (o * 2 ^ k))) ∙ ap natAbs (sym (nearest-signed x s (o * 2 ^ k) some) ∙ own) ∙ abs-signed s (o * 2 ^ k)
 
     pub changes-exact : changesIn x (signMagnitude s (o * 2 ^ k)) ≡ 0
-    changes-exact = changes-not x s (o * 2 ^ k) some nearest-exact
+    changes-exact = changes-not x s (o * 2 ^ k) some magnitude-own
 
   -- where it is above, the value is none of the format's, and is rounded
   module _ (h : k < place x c) where
@@ -171,8 +171,8 @@ module _ (x : Format) (ok : Rounds x) (s : Bool) (o k : ℕ) (odd : o % 2 ≡ 1)
               let q : 2 ^ (x .fraction - x .digit) * unit x c ≤ o * 2 ^ k = subst (λ (y : ℕ). 2 ^ (x .fraction - x .digit) * unit x y ≤ o * 2 ^ k) e (le-trans (le-of-eq (sym (step x ok (c - 1)))) p) in
               le-trans (le-div-iff-mul-le (pow-pos (place x c)) .1 q) low-f
 
-      pub nearest-early : c < x .characteristics - 1 → nearestMagnitude x s (o * 2 ^ k) ≡ f * unit x c
-      nearest-early m = rw (lt-ltb (o * 2 ^ k) (rangeEnd x s) inside, reaching-is (omega arith)) (sym is)
+      pub magnitude-inner : c < x .characteristics - 1 → nearestMagnitude x s (o * 2 ^ k) ≡ f * unit x c
+      magnitude-inner m = rw (lt-ltb (o * 2 ^ k) (rangeEnd x s) inside, reaching-is (omega arith)) (sym is)
         where
           few : 2 ^ (x .fraction - x .digit) ≤ limit x s - 1
           few = omega (arith, step-fits x ok)
@@ -180,8 +180,8 @@ module _ (x : Format) (ok : Rounds x) (s : Bool) (o k : ℕ) (odd : o % 2 ≡ 1)
           inside : o * 2 ^ k < rangeEnd x s
           inside = lt-of-lt-of-le reached (le-trans (le-of-eq (step x ok c)) (mul-le-mul few (pow-mono (places-rise x (suc c) (x .characteristics - 1) m))))
 
-      pub nearest-late : c ≡ x .characteristics - 1 → nearestMagnitude x s (o * 2 ^ k) ≡ min f (limit x s - 1) * unit x c
-      nearest-late m =
+      pub magnitude-last : c ≡ x .characteristics - 1 → nearestMagnitude x s (o * 2 ^ k) ≡ min f (limit x s - 1) * unit x c
+      magnitude-last m =
           ⊎-elim
           (λ (l : o * 2 ^ k < rangeEnd x s).
           let q : quotient < most = div-lt-iff-lt-mul (pow-pos (place x c)) .1 (subst (λ (y : ℕ). o * 2 ^ k < most * unit x y) (sym m) l) in

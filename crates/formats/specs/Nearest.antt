@@ -15,11 +15,12 @@ use Rattle.formats.specs.declared.Format.{Format}
 abbrev pub nearestMultiple : ℕ → ℕ → ℕ
 nearestMultiple u a = (a / u + pick (ltb u (2 * (a % u))) 1 0) * u
 
--- The least characteristic whose fractions reach a magnitude, or the last one.
+-- The least characteristic whose fractions reach a magnitude, or the last one: under code 1 the least C with the magnitude below
+-- 16 ^ (C - 64), under code 4 that of the largest gain whose d reaches it.
 abbrev pub reaching : Format → ℕ → ℕ
 reaching x a = first (λ c. ltb a (2 ^ x .fraction * unit x c)) (x .characteristics - 1) 0
 
--- The end of the range, of each sign: the largest fraction beside the last characteristic.
+-- The end of the range, of each sign: the largest fraction beside the last characteristic, as 32,767 and 32,768 under code 3.
 abbrev pub rangeEnd : Format → Bool → ℕ
 rangeEnd x s = (limit x s - 1) * unit x (x .characteristics - 1)
 
@@ -32,7 +33,7 @@ nearestMagnitude x s a = pick (ltb a (rangeEnd x s)) (nearestMultiple (unit x (r
 abbrev pub nearestIn : Format → ℤ → ℤ
 nearestIn x v = signMagnitude (isNegative v) (nearestMagnitude x (isNegative v) (natAbs v))
 
--- The nearest value of a code.
+-- The nearest value of a code; of a number that is no code it is 0.
 abbrev pub nearestValue : ℕ → ℤ → ℤ
 nearestValue code v = nearestIn (formatOf code) v
 

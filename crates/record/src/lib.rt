@@ -30,7 +30,7 @@ pub enum Answer {
     },
 }
 
-// The same with a count: reading a reel counts its words that are not normal.
+// The same with a count: reading a reel counts its words that are not normal, nearest writing the samples whose value changed.
 pub enum Counted {
     Taken {
         traces: usize,

@@ -28,9 +28,9 @@ use Rattle.formats.specs.declared.Written.the-variants.{Word}
 use Rattle.formats.proofs.FitLaws.{place, fraction-at}
 use Rattle.formats.proofs.PlacedLaws.{serves-value, placed-normal, placed-only, placed-is, Place}
 use Rattle.formats.proofs.Powers.{parted}
-use Rattle.formats.proofs.NearestLaws.{Rounds, step, step-fits, under-limit}
+use Rattle.formats.proofs.NearestLaws.{ShortDigits, step, step-fits, under-limit}
 use Rattle.formats.proofs.FitLaws as fits
-use Rattle.formats.proofs.NearestSteps.{nearest-signed, nearest-end, changes-end, nearest-exact, changes-exact, changes-rounded, rounded-few, rounded-large, nearest-early, nearest-late}
+use Rattle.formats.proofs.NearestSteps.{nearest-signed, magnitude-end, changes-end, magnitude-own, changes-exact, changes-rounded, rounded-few, rounded-large, magnitude-inner, magnitude-last}
 use Rattle.value.specs.Parts.{NearPlace}
 use Rattle.value.specs.Writing.{roundedBy}
 use Rattle.value.specs.declared.Rounded.{Rounded}
@@ -38,7 +38,7 @@ use Rattle.value.specs.declared.RoundedPlace.{RoundedPlace}
 
 -- ## How it is found
 
-module _ (x : Format) (ok : Rounds x) (s : Bool) (o k : ℕ) (odd : o % 2 ≡ 1) (n : ℕ) (length : Length (pick (x .more && s) 1 0) o n) (c : ℕ) (low : Lowest (n + k) (x .fraction + x .base) (x .digit) c) where
+module _ (x : Format) (ok : ShortDigits x) (s : Bool) (o k : ℕ) (odd : o % 2 ≡ 1) (n : ℕ) (length : Length (pick (x .more && s) 1 0) o n) (c : ℕ) (low : Lowest (n + k) (x .fraction + x .base) (x .digit) c) where
   some-limit : 0 < limit x s
   some-limit = omega (arith, pow-pos (x .fraction))
 
@@ -50,7 +50,7 @@ module _ (x : Format) (ok : Rounds x) (s : Bool) (o k : ℕ) (odd : o % 2 ≡ 1)
   pub near-end : x .characteristics - 1 < c → (f : ℕ) → f ≡ limit x s - 1 → NearPlace x s (o * 2 ^ k) (record { c = x .characteristics - 1; f = f; changed = 1 })
   near-end h f e =
       record {
-        is = ap (λ (y : ℕ). y * unit x (x .characteristics - 1)) e ∙ sym (nearest-end x ok s o k odd n length c low h);
+        is = ap (λ (y : ℕ). y * unit x (x .characteristics - 1)) e ∙ sym (magnitude-end x ok s o k odd n length c low h);
         below = omega (arith, ok .some);
         fits = omega (arith, e, some-limit);
         normal = inr (omega (arith, e, most-large));
@@ -61,7 +61,7 @@ module _ (x : Format) (ok : Rounds x) (s : Bool) (o k : ℕ) (odd : o % 2 ≡ 1)
   pub near-exact : c < x .characteristics → place x c ≤ k → (f : ℕ) → f ≡ o * 2 ^ (k - place x c) → NearPlace x s (o * 2 ^ k) (record { c = c; f = f; changed = 0 })
   near-exact h l f e =
       record {
-        is = ap (λ (y : ℕ). y * unit x c) e ∙ sym (parted o k (place x c) l) ∙ sym (nearest-exact x ok s o k odd n length c low h l);
+        is = ap (λ (y : ℕ). y * unit x c) e ∙ sym (parted o k (place x c) l) ∙ sym (magnitude-own x ok s o k odd n length c low h l);
         below = h;
         fits = subst (λ (y : ℕ). y < limit x s) (sym e) (fraction-at x s o k odd n length c l (omega (arith, low .enough)));
         normal = subst (λ (y : ℕ). (c ≡ 0) ⊎ (2 ^ (x .fraction - x .digit) ≤ y)) (sym e) (placed-normal x (signMagnitude s (o * 2 ^ k)) c (o * 2 ^ (k - place x c)) (ok .small) (placed-is x (signMagnitude s (o * 2 ^ k)) c (o * 2 ^ (k - place x c)) (fits.placed-at x s o k odd n length c low h l)));
@@ -77,10 +77,10 @@ module _ (x : Format) (ok : Rounds x) (s : Bool) (o k : ℕ) (odd : o % 2 ≡ 1)
     large = rounded-large x ok s o k odd n length c low h f is
 
     -- beside the last characteristic, no more than the largest fraction
-    pub near-late : c ≡ x .characteristics - 1 → (g : ℕ) → g ≡ min f (limit x s - 1) → NearPlace x s (o * 2 ^ k) (record { c = c; f = g; changed = 1 })
-    near-late m g e =
+    pub near-last : c ≡ x .characteristics - 1 → (g : ℕ) → g ≡ min f (limit x s - 1) → NearPlace x s (o * 2 ^ k) (record { c = c; f = g; changed = 1 })
+    near-last m g e =
         record {
-          is = ap (λ (y : ℕ). y * unit x c) e ∙ sym (nearest-late x ok s o k odd n length c low h f is m);
+          is = ap (λ (y : ℕ). y * unit x c) e ∙ sym (magnitude-last x ok s o k odd n length c low h f is m);
           below = omega (arith, ok .some);
           fits = omega (arith, e, some-limit);
           normal = ⊎-elim (λ (z : c ≡ 0). inl z) (λ (z : 2 ^ (x .fraction - x .digit) ≤ f). inr (omega (arith, e, most-large))) large;
@@ -90,7 +90,7 @@ module _ (x : Format) (ok : Rounds x) (s : Bool) (o k : ℕ) (odd : o % 2 ≡ 1)
     -- beside another, the first number of the next, or this fraction
     module _ (m : c < x .characteristics - 1) where
       is-near : f * unit x c ≡ nearestMagnitude x s (o * 2 ^ k)
-      is-near = sym (nearest-early x ok s o k odd n length c low h f is m)
+      is-near = sym (magnitude-inner x ok s o k odd n length c low h f is m)
 
       pub near-next : f ≡ 2 ^ x .fraction → (g : ℕ) → g ≡ 2 ^ (x .fraction - x .digit) → NearPlace x s (o * 2 ^ k) (record { c = c + 1; f = g; changed = 1 })
       near-next e g d =
@@ -103,8 +103,8 @@ module _ (x : Format) (ok : Rounds x) (s : Bool) (o k : ℕ) (odd : o % 2 ≡ 1)
             changes = changed;
           }
 
-      pub near-early : (f ≡ 2 ^ x .fraction → ⊥) → NearPlace x s (o * 2 ^ k) (record { c = c; f = f; changed = 1 })
-      near-early e =
+      pub near-inner : (f ≡ 2 ^ x .fraction → ⊥) → NearPlace x s (o * 2 ^ k) (record { c = c; f = f; changed = 1 })
+      near-inner e =
           record {
             is = is-near;
             below = omega arith;
@@ -119,8 +119,8 @@ module _ (x : Format) (ok : Rounds x) (s : Bool) (o k : ℕ) (odd : o % 2 ≡ 1)
 -- ## Its word
 
 -- what is handed over of a word and a change
-pub rounded-is : (word : ℤ → Written) (x : Format) (v : ℤ) (b g : ℕ) → b ≡ wordBits (word (nearestIn x v)) → g ≡ changesIn x v → _≡_ {A = Rounded} (record { bits = b; changed = g }) (roundedBy word x v)
-rounded-is word x v b g e d = ap₂ (λ (i j : ℕ). record { bits = i; changed = j }) e d
+pub as-rounded : (word : ℤ → Written) (x : Format) (v : ℤ) (b g : ℕ) → b ≡ wordBits (word (nearestIn x v)) → g ≡ changesIn x v → _≡_ {A = Rounded} (record { bits = b; changed = g }) (roundedBy word x v)
+as-rounded word x v b g e d = ap₂ (λ (i j : ℕ). record { bits = i; changed = j }) e d
 
 module _ (x : Format) (s : Bool) (a : ℕ) (some : 0 < a) (r : RoundedPlace) (near : NearPlace x s a r) where
   -- the nearest value by its place

@@ -17,7 +17,7 @@ use Rattle.value.specs.declared.Rounded.{Rounded}
 abbrev pub writePair : ℕ → Pair → Written
 writePair code p = pick (isCode code) (pick (isCanonical p) (wordOf code (valueOf p)) (Refused 13)) (Refused 11)
 
--- The word of the nearest value of a format, as bits, and 1 where that is another value; by the word of each value.
+-- The word of the nearest value of a format, as bits, and 1 where that is another value; `word` gives the word of a value.
 abbrev pub roundedBy : (ℤ → Written) → Format → ℤ → Rounded
 roundedBy word x v = record { bits = wordBits (word (nearestIn x v)); changed = changesIn x v }
 

@@ -446,9 +446,9 @@ fn most(x: Format, neg: bool) -> u32
 }
 
 // The place of the nearest value of a format to V = ± o × 2^k, for an odd o. The least characteristic that reaches V is found by bit lengths,
-// as in `place`. Beyond the last one V is beyond the range, and the end is taken. Where the last place isn't above V's last 1, V is one of the
-// format's. Else V is rounded to a whole number of last places, which may be the first number of the next characteristic, or, beside the last,
-// beyond the end.
+// as in `place`. Beyond the last one V is beyond the range, and the end is taken. Where the last place isn't above the lowest 1 of V in binary,
+// V is one of the format's. Else V is rounded to a whole number of last places, which may be the first number of the next characteristic, or,
+// beside the last, beyond the end.
 fn near_place(x: Format, neg: bool, o: u32, k: u32) -> RoundedPlace
     requires { ⌜ Sound x × (x .digit ≤ x .fraction) × (o % 2 ≡ 1) × (k ≤ denominatorPower + highestExponent) × (o < 2 ^ (mantissaBits - 1)) ⌝ }
     ensures { λ r. ⌜ NearPlace x neg (o * 2 ^ k) r ⌝ }
@@ -464,11 +464,8 @@ fn near_place(x: Format, neg: bool, o: u32, k: u32) -> RoundedPlace
     }
     let last = last_place(x, c);
     if last <= k {
-        return RoundedPlace {
-            c,
-            f: shifted_up(o, k - last),
-            changed: 0,
-        };
+        let f = shifted_up(o, k - last);
+        return RoundedPlace { c, f, changed: 0 };
     }
     let f = rounded_whole(o, last - k);
     if c == end {

@@ -17,7 +17,7 @@ use Rattle.write_samples.specs.Nearest.{nearestWords, pairsChanged}
 use Rattle.write_samples.proofs.WordLaws.{size-samples}
 use Rattle.write_samples.proofs.NearestLaws.{size-nearest, pairs-most}
 use Rattle.record.specs.Form.{toPairs, heldStride}
-use Rattle.write_reel.specs.Copied.{zerosFor, reelHeaderCopied, samplesCopied, countCopied, reelTraceCopied, traceChanged, tracesChanged, partsCopied, reelCopied}
+use Rattle.write_reel.specs.Copied.{zerosFor, reelHeaderCopied, samplesCopied, samplesChangedAt, reelTraceCopied, traceChangedAt, tracesChangedAt, partsCopied, reelCopied}
 
 -- unassigned bytes in a slice of k bytes
 pub zeroed : (out : List ℕ) (k : ℕ) {ys : List ℕ} → ys ≡ zerosFor out → length out ≡ k → ys ≡ replicate k 0
@@ -39,12 +39,12 @@ size-bytes-header size s at k h = size-header size (bytesAt s at k) (omega (arit
 
 -- samples to the nearest, and exactly
 module _ (s : List ℕ) (code n at : ℕ) where
-  pub copied-near : (near : Bool) → near ≡ true → (pairsChanged s code n at ≡ countCopied near s code n at) × (nearestWords s code n at ≡ samplesCopied near s code n at)
-  unfolding samplesCopied countCopied
+  pub copied-near : (near : Bool) → near ≡ true → (pairsChanged s code n at ≡ samplesChangedAt near s code n at) × (nearestWords s code n at ≡ samplesCopied near s code n at)
+  unfolding samplesCopied samplesChangedAt
   copied-near near e = (sym (ap (λ (b : Bool). pick b (pairsChanged s code n at) 0) e), sym (ap (λ (b : Bool). pick b (nearestWords s code n at) (sampleWords s code n at)) e))
 
-  pub copied-exact : (near : Bool) → near ≡ false → (0 ≡ countCopied near s code n at) × (sampleWords s code n at ≡ samplesCopied near s code n at)
-  unfolding samplesCopied countCopied
+  pub copied-exact : (near : Bool) → near ≡ false → (0 ≡ samplesChangedAt near s code n at) × (sampleWords s code n at ≡ samplesCopied near s code n at)
+  unfolding samplesCopied samplesChangedAt
   copied-exact near e = (sym (ap (λ (b : Bool). pick b (pairsChanged s code n at) 0) e), sym (ap (λ (b : Bool). pick b (nearestWords s code n at) (sampleWords s code n at)) e))
 
 module _ (near : Bool) (s : List ℕ) (code n : ℕ) where
@@ -74,18 +74,18 @@ module _ (near : Bool) (s : List ℕ) (code n : ℕ) where
   -- ## The count
 
   -- no more of a trace than it has samples
-  pub trace-most : (at : ℕ) → traceChanged near s code n at ≤ n
-  unfolding traceChanged countCopied
+  pub trace-most : (at : ℕ) → traceChangedAt near s code n at ≤ n
+  unfolding traceChangedAt samplesChangedAt
   trace-most at = go near
     where
       go : (near : Bool) → pick near (pairsChanged s code n (at + toPairs)) 0 ≤ n
       go true = pairs-most s code n (at + toPairs)
       go false = omega arith
 
-  pub traces-none : (t at : ℕ) → t ≤ 0 → tracesChanged near s code n t at ≡ 0
-  unfolding tracesChanged
-  traces-none t at h = sum-none (traceChanged near s code n) (heldStride n) t at h
+  pub traces-none : (t at : ℕ) → t ≤ 0 → tracesChangedAt near s code n t at ≡ 0
+  unfolding tracesChangedAt
+  traces-none t at h = sum-none (traceChangedAt near s code n) (heldStride n) t at h
 
-  pub traces-more : (t at : ℕ) → 0 < t → tracesChanged near s code n t at ≡ traceChanged near s code n at + tracesChanged near s code n (t - 1) (at + heldStride n)
-  unfolding tracesChanged
-  traces-more t at h = sum-more (traceChanged near s code n) (heldStride n) t at h
+  pub traces-more : (t at : ℕ) → 0 < t → tracesChangedAt near s code n t at ≡ traceChangedAt near s code n at + tracesChangedAt near s code n (t - 1) (at + heldStride n)
+  unfolding tracesChangedAt
+  traces-more t at h = sum-more (traceChangedAt near s code n) (heldStride n) t at h

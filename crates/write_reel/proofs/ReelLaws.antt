@@ -31,7 +31,7 @@ use Rattle.write_reel.specs.Reel.{sampleWritten, binaryHeader, traceWrit
 use Rattle.write_reel.specs.Nearest.{nearestTrace, nearestMeaning, traceChanges, meaningChanges}
 use Rattle.write_samples.specs.Samples.{wordBytes, writtenAt, sampleWords}
 use Rattle.write_samples.specs.Nearest.{nearestAt, roundedBytes, nearestWords, pairsChanged}
-use Rattle.write_reel.specs.Copied.{reelHeaderCopied, samplesCopied, countCopied, reelTraceCopied, traceChanged, tracesChanged, partsCopied, reelCopied}
+use Rattle.write_reel.specs.Copied.{reelHeaderCopied, samplesCopied, samplesChangedAt, reelTraceCopied, traceChangedAt, tracesChangedAt, partsCopied, reelCopied}
 use Rattle.write_reel.proofs.CopiedLaws.{header-bytes}
 
 -- ## Samples
@@ -96,8 +96,8 @@ module _ (s : List ℕ) (b : Bytes s) (code n i : ℕ) (h : isCode code ≡ true
   trace-is false at e = joined false at _ e (samples-walk s code h pairLength n (at + toPairs) (pairs-fine at e))
   trace-is true at e = joined true at _ e (nearest-walk s code h pairLength n (at + toPairs) (pairs-fine at e))
 
-  trace-changes : (at : ℕ) → traceForm s n i at ≡ Fine → traceChanges code (heldTrace s n at) ≡ traceChanged true s code n at
-  unfolding heldTrace traceChanged countCopied pairsChanged
+  trace-changes : (at : ℕ) → traceForm s n i at ≡ Fine → traceChanges code (heldTrace s n at) ≡ traceChangedAt true s code n at
+  unfolding heldTrace traceChangedAt samplesChangedAt pairsChanged
   trace-changes at e = changes-walk s code h pairLength n (at + toPairs) (pairs-fine at e)
 
   -- along a walk over traces that are all of the right form
@@ -111,7 +111,7 @@ module _ (s : List ℕ) (b : Bytes s) (code n i : ℕ) (h : isCode code ≡ true
     traces-walk near (suc k) at e = let t = trace-fine k at e in ap₂ (λ (x y : List ℕ). x ++ y) (trace-is near at (t .0)) (traces-walk near k (at + w) (t .1))
 
     counts-walk : (k at : ℕ) → firstOf (walk (traceForm s n i) w k at) ≡ Fine
-        → sum (map (traceChanges code) (walk (heldTrace s n) w k at)) ≡ sum (walk (traceChanged true s code n) w k at)
+        → sum (map (traceChanges code) (walk (heldTrace s n) w k at)) ≡ sum (walk (traceChangedAt true s code n) w k at)
     counts-walk zero at e = refl
     counts-walk (suc k) at e = let t = trace-fine k at e in ap₂ (λ (x y : ℕ). x + y) (trace-changes at (t .0)) (counts-walk k (at + w) (t .1))
 
@@ -155,6 +155,6 @@ module _ (s : List ℕ) (b : Bytes s) (code : ℕ) (h : isCode code ≡ true) (e
   pub nearest-reel-is : reelOf code (nearestMeaning code (heldBy s)) ≡ reelCopied true s code (heldSamples s) (heldCount s (heldSamples s))
   nearest-reel-is = of-traces true (map (nearestTrace code) (heldBy s .traces)) refl
 
-  pub count-is : meaningChanges code (heldBy s) ≡ tracesChanged true s code (heldSamples s) (heldCount s (heldSamples s)) tracesPlace
-  unfolding heldBy tracesChanged
+  pub count-is : meaningChanges code (heldBy s) ≡ tracesChangedAt true s code (heldSamples s) (heldCount s (heldSamples s)) tracesPlace
+  unfolding heldBy tracesChangedAt
   count-is = counts-walk s b code (heldSamples s) (heldInterval s) h (heldStride (heldSamples s)) (heldCount s (heldSamples s)) tracesPlace (traces-fine s e)

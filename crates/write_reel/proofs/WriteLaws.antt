@@ -33,7 +33,7 @@ use Rattle.fit.proofs.FitLaws.{target-form}
 use Rattle.write_reel.specs.Reel.{reelOf, reelLength}
 use Rattle.write_reel.specs.Writing.{reelLengthOf, writeCauses, writeEnd, writeOutcome}
 use Rattle.write_reel.specs.Nearest.{nearestMeaning, meaningChanges, nearestCauses, nearestEnd, nearestOutcome}
-use Rattle.write_reel.specs.Copied.{tracesChanged, reelCopied, copiedOutcome}
+use Rattle.write_reel.specs.Copied.{tracesChangedAt, reelCopied, copiedOutcome}
 use Rattle.write_reel.proofs.ReelLaws.{reel-is, nearest-reel-is, count-is}
 
 -- what the code asks of its numbers
@@ -74,7 +74,7 @@ module _ (near : Bool) (s : List ℕ) (code n t : ℕ) (out : List ℕ) (k : ℕ
   short-end l = rw (q, lt-ltb (length out) (reelLength code t n) (subst (λ (x : ℕ). length out < x) q l))
 
   -- or holds it
-  pub taken-end : (c : ℕ) (ys : List ℕ) → c ≡ tracesChanged near s code n t tracesPlace → ys ≡ reelCopied near s code n t → k ≤ length out
+  pub taken-end : (c : ℕ) (ys : List ℕ) → c ≡ tracesChangedAt near s code n t tracesPlace → ys ≡ reelCopied near s code n t → k ≤ length out
       → countedOutcome (counted.Taken t n k c) (ys ++ drop k out) ≡ copiedOutcome near s code n t out
   taken-end c ys d e l = rw (q, d, e, le-ltb (length out) (reelLength code t n) (subst (λ (x : ℕ). x ≤ length out) q l))
 
@@ -116,7 +116,7 @@ module _ (s : List ℕ) (code : ℕ) (out : List ℕ) where
         reel = let f = own-form n t o in reel-is s b code (f .0) (f .1 .fine) ∙ ap₂ (λ (x y : ℕ). reelCopied false s code x y) (o .n-is) (o .t-is)
 
         go : (x : Bool) → ltb (length out) size ≡ x
-            → withoutCount (pick x (record { said = refused 10 size; bytes = out }) (record { said = taken (t ∷ n ∷ size ∷ tracesChanged false s code n t tracesPlace ∷ []); bytes = reelCopied false s code n t ++ drop size out })) ≡ writeOutcome s code out
+            → withoutCount (pick x (record { said = refused 10 size; bytes = out }) (record { said = taken (t ∷ n ∷ size ∷ tracesChangedAt false s code n t tracesPlace ∷ []); bytes = reelCopied false s code n t ++ drop size out })) ≡ writeOutcome s code out
         go true e = rw (o .fine, size-is, e)
         go false e =
             let fine : writeCauses s code (length out) ≡ check.Fine = rw (o .fine, size-is, e) in
@@ -137,8 +137,8 @@ module _ (s : List ℕ) (code : ℕ) (out : List ℕ) where
   abbrev too-short : Check
   too-short = refuseIf (ltb (length out) (reelLengthOf s code)) 10 (reelLengthOf s code)
 
-  pub nearest-refused : (number : ℕ) (place : Place) → before ≡ check.Refused number place → countedOutcome (counted.Refused number place) out ≡ nearestOutcome s code out
-  nearest-refused number place e = sym (ap (nearestEnd s code out) (causes too-short ∙ ap (λ (c : Check). then c too-short) e))
+  pub nearest-call-refused : (number : ℕ) (place : Place) → before ≡ check.Refused number place → countedOutcome (counted.Refused number place) out ≡ nearestOutcome s code out
+  nearest-call-refused number place e = sym (ap (nearestEnd s code out) (causes too-short ∙ ap (λ (c : Check). then c too-short) e))
 
   pub own-valid : (n t : ℕ) → Own s before n t → (isCode code ≡ true) × Own s (formCauses s) n t
   own-valid n t o =
@@ -152,8 +152,8 @@ module _ (s : List ℕ) (code : ℕ) (out : List ℕ) where
     near-size-is : reelLengthOf s code ≡ near-size
     near-size-is = ap₂ (reelLength code) (o .t-is) (o .n-is)
 
-    pub nearest-end : copiedOutcome true s code n t out ≡ nearestOutcome s code out
-    nearest-end = go (ltb (length out) near-size) refl
+    pub nearest-call-end : copiedOutcome true s code n t out ≡ nearestOutcome s code out
+    nearest-call-end = go (ltb (length out) near-size) refl
       where
         made : ℕ → ℕ → ℕ → ℕ → List ℕ → Outcome
         made x y k c r = record { said = taken (x ∷ y ∷ k ∷ c ∷ []); bytes = r ++ drop k out }
@@ -164,8 +164,8 @@ module _ (s : List ℕ) (code : ℕ) (out : List ℕ) where
         reel : reelOf code (nearestMeaning code (heldBy s)) ≡ reelCopied true s code n t
         reel = nearest-reel-is s b code (valid .0) (valid .1 .fine) ∙ ap₂ (λ (x y : ℕ). reelCopied true s code x y) (o .n-is) (o .t-is)
 
-        count : meaningChanges code (heldBy s) ≡ tracesChanged true s code n t tracesPlace
-        count = count-is s b code (valid .0) (valid .1 .fine) ∙ ap₂ (λ (x y : ℕ). tracesChanged true s code x y tracesPlace) (o .n-is) (o .t-is)
+        count : meaningChanges code (heldBy s) ≡ tracesChangedAt true s code n t tracesPlace
+        count = count-is s b code (valid .0) (valid .1 .fine) ∙ ap₂ (λ (x y : ℕ). tracesChangedAt true s code x y tracesPlace) (o .n-is) (o .t-is)
 
         told : (x : Bool) → ltb (length out) near-size ≡ x → nearestCauses s code (length out) ≡ refuseIf x 10 near-size
         told x e =
@@ -173,10 +173,10 @@ module _ (s : List ℕ) (code : ℕ) (out : List ℕ) where
             ∙ ap (λ (k : ℕ). refuseIf (ltb (length out) k) 10 k) near-size-is ∙ ap (λ (y : Bool). refuseIf y 10 near-size) e
 
         go : (x : Bool) → ltb (length out) near-size ≡ x
-            → pick x (record { said = refused 10 near-size; bytes = out }) (made t n near-size (tracesChanged true s code n t tracesPlace) (reelCopied true s code n t)) ≡ nearestOutcome s code out
+            → pick x (record { said = refused 10 near-size; bytes = out }) (made t n near-size (tracesChangedAt true s code n t tracesPlace) (reelCopied true s code n t)) ≡ nearestOutcome s code out
         go true e = sym (ap (nearestEnd s code out) (told true e))
         go false e =
             sym (ap (nearestEnd s code out) (told false e)
             ∙ ap₂ (λ (x y : ℕ). made x y (reelLengthOf s code) (meaningChanges code (heldBy s)) (reelOf code (nearestMeaning code (heldBy s)))) (o .t-is) (o .n-is)
             ∙ ap₂ (λ (x y : ℕ). made t n x y (reelOf code (nearestMeaning code (heldBy s)))) near-size-is count
-            ∙ ap (made t n near-size (tracesChanged true s code n t tracesPlace)) reel)
+            ∙ ap (made t n near-size (tracesChangedAt true s code n t tracesPlace)) reel)

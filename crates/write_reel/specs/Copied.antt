@@ -29,8 +29,8 @@ unfoldable pub samplesCopied : Bool → List ℕ → ℕ → ℕ → ℕ → Lis
 samplesCopied near s code n at = pick near (nearestWords s code n at) (sampleWords s code n at)
 
 -- and how many have another value than their pairs.
-unfoldable pub countCopied : Bool → List ℕ → ℕ → ℕ → ℕ → ℕ
-countCopied near s code n at = pick near (pairsChanged s code n at) 0
+unfoldable pub samplesChangedAt : Bool → List ℕ → ℕ → ℕ → ℕ → ℕ
+samplesChangedAt near s code n at = pick near (pairsChanged s code n at) 0
 
 -- The trace whose tag 03 stands at the place `at`;
 unfoldable pub reelTraceCopied : Bool → List ℕ → ℕ → ℕ → ℕ → List ℕ
@@ -38,11 +38,11 @@ reelTraceCopied near s code n at =
     reelHeaderCopied traceHeader (bytesAt s (at + fieldHead) headerSize) ++ samplesCopied near s code n (at + toPairs)
 
 -- and how many of its samples changed, and of t traces from a place on.
-unfoldable pub traceChanged : Bool → List ℕ → ℕ → ℕ → ℕ → ℕ
-traceChanged near s code n at = countCopied near s code n (at + toPairs)
+unfoldable pub traceChangedAt : Bool → List ℕ → ℕ → ℕ → ℕ → ℕ
+traceChangedAt near s code n at = samplesChangedAt near s code n (at + toPairs)
 
-unfoldable pub tracesChanged : Bool → List ℕ → ℕ → ℕ → ℕ → ℕ → ℕ
-tracesChanged near s code n t at = sum (walk (traceChanged near s code n) (heldStride n) t at)
+unfoldable pub tracesChangedAt : Bool → List ℕ → ℕ → ℕ → ℕ → ℕ → ℕ
+tracesChangedAt near s code n t at = sum (walk (traceChangedAt near s code n) (heldStride n) t at)
 
 -- The reel of t traces of n samples, but for its format code, which a record has as 0.
 unfoldable pub partsCopied : Bool → List ℕ → ℕ → ℕ → ℕ → List ℕ
@@ -61,6 +61,6 @@ copiedOutcome near s code n t out =
     pick (ltb (length out) (reelLength code t n))
     (record { said = refused 10 (reelLength code t n); bytes = out })
     (record {
-      said = taken (t ∷ n ∷ reelLength code t n ∷ tracesChanged near s code n t tracesPlace ∷ []);
+      said = taken (t ∷ n ∷ reelLength code t n ∷ tracesChangedAt near s code n t tracesPlace ∷ []);
       bytes = reelCopied near s code n t ++ drop (reelLength code t n) out;
     })

@@ -1,6 +1,5 @@
-// Writing a record as a reel, exactly or to the nearest. Two passes: `fit::judge_fit`, or `record::judge_record`, looks for a cause against
-// the record, and in exact writing against its samples; then the reel is written. Each function that writes is lent exactly the bytes that it
-// writes.
+// Writing a record as a reel, exactly or to the nearest. Two passes: in exact writing `fit::judge_fit` looks for a cause, 14 among them, in
+// nearest writing `record::judge_record`; then the reel is written. Each function that writes is lent exactly the bytes that it writes.
 ghost use mathlib.Core.Path.{_≡_};
 ghost use mathlib.Core.Bool.{true, not};
 ghost use mathlib.Core.List.{map};
@@ -18,7 +17,7 @@ ghost use Rattle.fit.specs.Target.{fitJudged};
 ghost use Rattle.record.specs.Answer.{outcome, countedOutcome};
 ghost use Rattle.write_reel.specs.Writing.{writeOutcome};
 ghost use Rattle.write_reel.specs.Nearest.{nearestOutcome};
-ghost use Rattle.write_reel.specs.Copied.{zerosFor, reelHeaderCopied, samplesCopied, countCopied, reelTraceCopied, traceChanged, tracesChanged, reelCopied, copiedOutcome};
+ghost use Rattle.write_reel.specs.Copied.{zerosFor, reelHeaderCopied, samplesCopied, samplesChangedAt, reelTraceCopied, traceChangedAt, tracesChangedAt, reelCopied, copiedOutcome};
 use numbers::ByteNo;
 use numbers::Check;
 use numbers::Place;
@@ -58,7 +57,7 @@ fn put_samples(
     out: &mut [u8],
 ) -> usize
     requires { ⌜ (isCode code ≡ true) × (start + n * 6 ≤ length (now «record»)) × (length (now out) ≡ n * sampleBytes code) ⌝ }
-    ensures { λ r. ⌜ (r ≡ countCopied near (now («record» .entry)) code n start) × (now (out .exit) ≡ samplesCopied near (now («record» .entry)) code n start) ⌝ }
+    ensures { λ r. ⌜ (r ≡ samplesChangedAt near (now («record» .entry)) code n start) × (now (out .exit) ≡ samplesCopied near (now («record» .entry)) code n start) ⌝ }
 {
     if near {
         return write_samples::write_nearest(record, code, n, Place(start), out);
@@ -70,7 +69,7 @@ fn put_samples(
 // A trace: its 71 fields, the unassigned bytes of its header, and its samples; and how many of these changed.
 fn put_trace(record: &[u8], near: bool, code: u32, n: usize, at: usize, out: &mut [u8]) -> usize
     requires { ⌜ (isCode code ≡ true) × (at + heldStride n ≤ length (now «record»)) × (length (now out) ≡ stride n (sampleBytes code)) ⌝ }
-    ensures { λ r. ⌜ (r ≡ traceChanged near (now («record» .entry)) code n at) × (now (out .exit) ≡ reelTraceCopied near (now («record» .entry)) code n at) ⌝ }
+    ensures { λ r. ⌜ (r ≡ traceChangedAt near (now («record» .entry)) code n at) × (now (out .exit) ≡ reelTraceCopied near (now («record» .entry)) code n at) ⌝ }
 {
     let e = out.len();
     put_header(&record[at + 3..at + 183], &mut out[0..240]);
@@ -89,7 +88,7 @@ fn put_traces(
     out: &mut [u8],
 ) -> usize
     requires { ⌜ (isCode code ≡ true) × (w ≡ stride n (sampleBytes code)) × (m ≡ heldStride n) × (tracesPlace + t * m ≤ length (now «record»)) × (length (now out) ≡ t * w) ⌝ }
-    ensures { λ r. ⌜ (r ≡ tracesChanged near (now («record» .entry)) code n t tracesPlace) × (now (out .exit) ≡ flat (map (reelTraceCopied near (now («record» .entry)) code n) (walk (λ p. p) (heldStride n) t tracesPlace))) ⌝ }
+    ensures { λ r. ⌜ (r ≡ tracesChangedAt near (now («record» .entry)) code n t tracesPlace) × (now (out .exit) ≡ flat (map (reelTraceCopied near (now («record» .entry)) code n) (walk (λ p. p) (heldStride n) t tracesPlace))) ⌝ }
 {
     let mut at = 3266;
     let mut o = 0;
@@ -125,7 +124,7 @@ fn put_reel(
     out: &mut [u8],
 ) -> usize
     requires { ⌜ (isCode code ≡ true) × (w ≡ stride n (sampleBytes code)) × (n ≤ mostSamples) × (tracesPlace + t * heldStride n ≤ length (now «record»)) × (length (now out) ≡ firstTrace + t * w) ⌝ }
-    ensures { λ r. ⌜ (r ≡ tracesChanged near (now («record» .entry)) code n t tracesPlace) × (now (out .exit) ≡ reelCopied near (now («record» .entry)) code n t) ⌝ }
+    ensures { λ r. ⌜ (r ≡ tracesChangedAt near (now («record» .entry)) code n t tracesPlace) × (now (out .exit) ≡ reelCopied near (now («record» .entry)) code n t) ⌝ }
 {
     let e = out.len();
     slices::copy(&record[3..3203], &mut out[0..3200]);
@@ -191,7 +190,7 @@ pub fn write_reel(record: &[u8], code: u32, reel: &mut [u8]) -> Answer
 }
 
 // Whether the code is one of the codes and the record valid, by the causes 11, 12 and 13, and its N and T where none applies.
-fn judge_writable(record: &[u8], code: u32) -> Judged
+fn judge_target_and_form(record: &[u8], code: u32) -> Judged
     ensures { λ r. ⌜ r ≡ recordFound (now («record» .entry)) (then (refuseIf (not (isCode code)) 11 0) (formCauses (now («record» .entry)))) ⌝ }
 {
     let c = reel::check_code(code as usize, 11, Place(0));
@@ -206,7 +205,7 @@ fn judge_writable(record: &[u8], code: u32) -> Judged
 pub fn write_nearest(record: &[u8], code: u32, reel: &mut [u8]) -> Counted
     ensures { λ r. ⌜ countedOutcome r (now (reel .exit)) ≡ nearestOutcome (now («record» .entry)) code (now (reel .entry)) ⌝ }
 {
-    let c = judge_writable(record, code);
+    let c = judge_target_and_form(record, code);
     match c {
         Judged::Refused { number, place } => Counted::Refused { number, place },
         Judged::Fine { samples, traces } => put_checked(record, true, code, samples, traces, reel),

@@ -18,9 +18,9 @@ use Rattle.value.specs.Writing.{nearestPair}
 use Rattle.value.specs.declared.Pair.{Pair}
 use Rattle.value.specs.declared.Rounded.{Rounded}
 use Rattle.value.proofs.PairBytes.{pair-fetched}
-use Rattle.write_samples.specs.Samples.{thereAndFit}
+use Rattle.write_samples.specs.Samples.{thereAndAsLong}
 use Rattle.write_samples.proofs.WordLaws.{as-given}
-use Rattle.write_samples.specs.Nearest.{nearestAt, roundedBytes, nearestWords, pairsChanged, nearestWritten, nearestCounted}
+use Rattle.write_samples.specs.Nearest.{nearestAt, roundedBytes, nearestWords, pairsChanged, nearestSamplesWritten, nearestSamplesCounted}
 
 -- ## Words
 
@@ -77,14 +77,14 @@ module _ (s : List ℕ) (code : ℕ) where
 -- ## The call
 
 module _ (s : List ℕ) (code n at : ℕ) (out : List ℕ) where
-  pub nearest-kept : thereAndFit s code n at out ≡ false → (0 ≡ nearestCounted s code n at out) × (out ≡ nearestWritten s code n at out)
-  unfolding nearestWritten nearestCounted
+  pub nearest-kept : thereAndAsLong s code n at out ≡ false → (0 ≡ nearestSamplesCounted s code n at out) × (out ≡ nearestSamplesWritten s code n at out)
+  unfolding nearestSamplesWritten nearestSamplesCounted
   nearest-kept e = (sym (ap (λ (b : Bool). pick b (pairsChanged s code n at) 0) e), sym (ap (λ (b : Bool). pick b (nearestWords s code n at) out) e))
 
-  pub nearest-put : thereAndFit s code n at out ≡ true → (nearestCounted s code n at out ≡ pairsChanged s code n at) × (nearestWritten s code n at out ≡ nearestWords s code n at)
-  unfolding nearestWritten nearestCounted
+  pub nearest-put : thereAndAsLong s code n at out ≡ true → (nearestSamplesCounted s code n at out ≡ pairsChanged s code n at) × (nearestSamplesWritten s code n at out ≡ nearestWords s code n at)
+  unfolding nearestSamplesWritten nearestSamplesCounted
   nearest-put e = (ap (λ (b : Bool). pick b (pairsChanged s code n at) 0) e, ap (λ (b : Bool). pick b (nearestWords s code n at) out) e)
 
   -- of pairs that are there, into an output as long as their words
-  pub as-nearest : isCode code ≡ true → at + n * 6 ≤ length s → length out ≡ n * sampleBytes code → (nearestCounted s code n at out ≡ pairsChanged s code n at) × (nearestWritten s code n at out ≡ nearestWords s code n at)
+  pub as-nearest : isCode code ≡ true → at + n * 6 ≤ length s → length out ≡ n * sampleBytes code → (nearestSamplesCounted s code n at out ≡ pairsChanged s code n at) × (nearestSamplesWritten s code n at out ≡ nearestWords s code n at)
   as-nearest i w o = nearest-put (as-given s code n at out i w o)

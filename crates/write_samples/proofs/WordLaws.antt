@@ -4,7 +4,7 @@ use mathlib.Core.Bool.{Bool, true, false, _&&_}
 use mathlib.Core.List.{List, []}
 use Prim.Native.Nat.{ℕ, _+_, _*_, _≤_, _<_}
 use native.Mathlib.Omega.{arith}
-use borrow.Author.Tests.{leb-true, le-leb, eq-eqb}
+use borrow.Author.Tests.{leb-true, le-leb, eqb-true, eq-eqb}
 use lib.Dec.{leb, eqb}
 use lib.ListN.{length}
 use Rattle.numbers.specs.Walk.{pick, walk, bytesAt, copyOf}
@@ -21,7 +21,7 @@ use Rattle.value.specs.declared.Pair.{Pair}
 use Rattle.formats.specs.declared.Written.{Written}
 use Rattle.formats.proofs.CodeLaws.{Code, code-is, ibm, whole32, whole16, gain, ieee, whole8}
 use Rattle.value.proofs.PairBytes.{pair-fetched}
-use Rattle.write_samples.specs.Samples.{wordBytes, writtenAt, pairCheck, pairsThere, thereAndFit, samplesChecked, sampleWords, samplesWritten}
+use Rattle.write_samples.specs.Samples.{wordBytes, writtenAt, pairCheck, pairsThere, thereAndAsLong, samplesChecked, sampleWords, samplesWritten}
 
 -- ## The code
 
@@ -117,23 +117,21 @@ module _ (s : List ℕ) (code n at : ℕ) where
 
   -- pairs that are there and fit are written, and others leave the output as it was
   module _ (out : List ℕ) where
-    pub missing : pairsThere s code n at ≡ false → thereAndFit s code n at out ≡ false
-    missing e = ap (λ (b : Bool). b && eqb (length out) (n * sampleBytes code)) e
+    -- what it is for them to be so
+    pub they-are-as-long : thereAndAsLong s code n at out ≡ true → (isCode code ≡ true) × (at + n * 6 ≤ length s) × (length out ≡ n * sampleBytes code)
+    they-are-as-long e =
+        let b = and-true (pairsThere s code n at) (eqb (length out) (n * sampleBytes code)) e in
+        let t = they-are-there (b .0) in
+        (t .0, t .1, eqb-true (length out) (n * sampleBytes code) (b .1))
 
-    pub unfit : pairsThere s code n at ≡ true → eqb (length out) (n * sampleBytes code) ≡ false → thereAndFit s code n at out ≡ false
-    unfit e f = ap (λ (b : Bool). b && eqb (length out) (n * sampleBytes code)) e ∙ f
+    pub as-given : isCode code ≡ true → at + n * 6 ≤ length s → length out ≡ n * sampleBytes code → thereAndAsLong s code n at out ≡ true
+    as-given i w o = ap (λ (b : Bool). b && eqb (length out) (n * sampleBytes code)) (there i w) ∙ eq-eqb (length out) (n * sampleBytes code) o
 
-    pub both-fit : pairsThere s code n at ≡ true → eqb (length out) (n * sampleBytes code) ≡ true → thereAndFit s code n at out ≡ true
-    both-fit e f = ap (λ (b : Bool). b && eqb (length out) (n * sampleBytes code)) e ∙ f
-
-    pub as-given : isCode code ≡ true → at + n * 6 ≤ length s → length out ≡ n * sampleBytes code → thereAndFit s code n at out ≡ true
-    as-given i w o = both-fit (there i w) (eq-eqb (length out) (n * sampleBytes code) o)
-
-    pub samples-kept : thereAndFit s code n at out ≡ false → samplesWritten s code n at out ≡ out
+    pub samples-kept : thereAndAsLong s code n at out ≡ false → samplesWritten s code n at out ≡ out
     unfolding samplesWritten
     samples-kept e = ap (λ (b : Bool). pick b (sampleWords s code n at) out) e
 
-    pub samples-put : thereAndFit s code n at out ≡ true → samplesWritten s code n at out ≡ sampleWords s code n at
+    pub samples-put : thereAndAsLong s code n at out ≡ true → samplesWritten s code n at out ≡ sampleWords s code n at
     unfolding samplesWritten
     samples-put e = ap (λ (b : Bool). pick b (sampleWords s code n at) out) e
 

@@ -7,7 +7,7 @@ use Rattle.formats.specs.Codes.{sampleBytes}
 use Rattle.value.specs.Pair.{pairLength, pairIn}
 use Rattle.value.specs.Writing.{nearestPair}
 use Rattle.value.specs.declared.Rounded.{Rounded}
-use Rattle.write_samples.specs.Samples.{thereAndFit}
+use Rattle.write_samples.specs.Samples.{thereAndAsLong}
 
 -- What nearest writing makes of the pair at a place.
 abbrev pub nearestAt : List ℕ → ℕ → ℕ → Rounded
@@ -25,10 +25,11 @@ nearestWords s code n at = flat (map (roundedBytes code) (walk (nearestAt s code
 unfoldable pub pairsChanged : List ℕ → ℕ → ℕ → ℕ → ℕ
 pairsChanged s code n at = sum (walk (λ p. nearestAt s code p .changed) pairLength n at)
 
--- An output after n samples were written into it to the nearest: their words, or what it was where they don't fit;
-unfoldable pub nearestWritten : List ℕ → ℕ → ℕ → ℕ → List ℕ → List ℕ
-nearestWritten s code n at out = pick (thereAndFit s code n at out) (nearestWords s code n at) out
+-- An output after n samples were written into it to the nearest: their words, or what it was where the pairs aren't all there or it has
+-- another length;
+unfoldable pub nearestSamplesWritten : List ℕ → ℕ → ℕ → ℕ → List ℕ → List ℕ
+nearestSamplesWritten s code n at out = pick (thereAndAsLong s code n at out) (nearestWords s code n at) out
 
--- and the count, 0 where they don't fit.
-unfoldable pub nearestCounted : List ℕ → ℕ → ℕ → ℕ → List ℕ → ℕ
-nearestCounted s code n at out = pick (thereAndFit s code n at out) (pairsChanged s code n at) 0
+-- and the count, 0 in that case.
+unfoldable pub nearestSamplesCounted : List ℕ → ℕ → ℕ → ℕ → List ℕ → ℕ
+nearestSamplesCounted s code n at out = pick (thereAndAsLong s code n at out) (pairsChanged s code n at) 0

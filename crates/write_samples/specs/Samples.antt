@@ -53,9 +53,9 @@ unfoldable pub sampleWords : List ℕ → ℕ → ℕ → ℕ → List ℕ
 sampleWords s code n at = flat (map (wordBytes code) (walk (writtenAt s code) pairLength n at))
 
 -- The pairs are there, and an output is as long as their words.
-abbrev pub thereAndFit : List ℕ → ℕ → ℕ → ℕ → List ℕ → Bool
-thereAndFit s code n at out = pairsThere s code n at && eqb (length out) (n * sampleBytes code)
+abbrev pub thereAndAsLong : List ℕ → ℕ → ℕ → ℕ → List ℕ → Bool
+thereAndAsLong s code n at out = pairsThere s code n at && eqb (length out) (n * sampleBytes code)
 
--- An output after n samples were written into it: their words, or what it was where they don't fit.
+-- An output after n samples were written into it: their words, or what it was where the pairs aren't all there or it has another length.
 unfoldable pub samplesWritten : List ℕ → ℕ → ℕ → ℕ → List ℕ → List ℕ
-samplesWritten s code n at out = pick (thereAndFit s code n at out) (sampleWords s code n at) out
+samplesWritten s code n at out = pick (thereAndAsLong s code n at out) (sampleWords s code n at) out

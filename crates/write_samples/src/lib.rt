@@ -3,7 +3,7 @@
 ghost use mathlib.Core.Path.{_≡_};
 ghost use mathlib.Core.Bool.{true, _&&_};
 ghost use Prim.Native.Nat.{_+_, _*_, _≤_, _<_};
-ghost use lib.Dec.{leb};
+ghost use lib.Dec.{leb, eqb};
 ghost use lib.ListN.{length};
 ghost use Rattle.numbers.specs.Walk.{walk, bytesAt};
 ghost use Rattle.numbers.specs.BigEndian.{number, bytesOf};
@@ -13,7 +13,7 @@ ghost use Rattle.formats.specs.Codes.{isCode, sampleBytes};
 ghost use Rattle.value.specs.Writing.{writePair, nearestPair};
 ghost use Rattle.formats.specs.Words.{wordBits};
 ghost use Rattle.write_samples.specs.Samples.{pairRefused, pairCheck, wordBytes, sampleWords, samplesChecked, samplesWritten};
-ghost use Rattle.write_samples.specs.Nearest.{roundedBytes, nearestWords, pairsChanged, nearestWritten, nearestCounted};
+ghost use Rattle.write_samples.specs.Nearest.{roundedBytes, nearestWords, pairsChanged, nearestSamplesWritten, nearestSamplesCounted};
 use formats::Written;
 use numbers::Check;
 use numbers::Place;
@@ -222,6 +222,16 @@ fn are_there(bytes: usize, code: u32, n: usize, start: usize) -> bool
     slices::are_within(bytes, n, 6, start)
 }
 
+// The same, and the n words make up so many bytes of an output.
+fn are_as_long(bytes: usize, room: usize, code: u32, n: usize, start: usize) -> bool
+    ensures { λ r. ⌜ r ≡ ((isCode code && leb (start + n * 6) bytes) && eqb room (n * sampleBytes code)) ⌝ }
+{
+    if !are_there(bytes, code, n, start) {
+        return false;
+    }
+    slices::make_up(room, n, formats::width_of(code as usize))
+}
+
 // Whether a trace's samples can be written under a code: 11 where the code is none; 12 where n pairs from a place on aren't all there;
 // else the cause 13 or 14 against the first pair that has one.
 pub fn check_samples(record: &[u8], code: u32, n: usize, start: Place) -> Check
@@ -249,10 +259,7 @@ pub fn write_samples(record: &[u8], code: u32, n: usize, start: Place, out: &mut
     ensures { λ _. ⌜ now (out .exit) ≡ samplesWritten (now («record» .entry)) code n (placeNo start) (now (out .entry)) ⌝ }
 {
     let at = start.0;
-    if !are_there(record.len(), code, n, at) {
-        return;
-    }
-    if !slices::make_up(out.len(), n, formats::width_of(code as usize)) {
+    if !are_as_long(record.len(), out.len(), code, n, at) {
         return;
     }
     put_samples(record, code, n, at, out);
@@ -327,13 +334,10 @@ fn put_nearest(record: &[u8], code: u32, n: usize, start: usize, out: &mut [u8])
 // The samples of a trace to the nearest: the words of n pairs from a place on, and how many have another value than their pairs. Where the
 // code is none, the pairs aren't all there or the output isn't as long as n words, it is left as it was, and the count is 0.
 pub fn write_nearest(record: &[u8], code: u32, n: usize, start: Place, out: &mut [u8]) -> usize
-    ensures { λ r. ⌜ (r ≡ nearestCounted (now («record» .entry)) code n (placeNo start) (now (out .entry))) × (now (out .exit) ≡ nearestWritten (now («record» .entry)) code n (placeNo start) (now (out .entry))) ⌝ }
+    ensures { λ r. ⌜ (r ≡ nearestSamplesCounted (now («record» .entry)) code n (placeNo start) (now (out .entry))) × (now (out .exit) ≡ nearestSamplesWritten (now («record» .entry)) code n (placeNo start) (now (out .entry))) ⌝ }
 {
     let at = start.0;
-    if !are_there(record.len(), code, n, at) {
-        return 0;
-    }
-    if !slices::make_up(out.len(), n, formats::width_of(code as usize)) {
+    if !are_as_long(record.len(), out.len(), code, n, at) {
         return 0;
     }
     put_nearest(record, code, n, at, out)

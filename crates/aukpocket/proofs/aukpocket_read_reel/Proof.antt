@@ -1,12 +1,12 @@
 -- `aukpocket::aukpocket_read_reel` meets its contract. Assumes nothing.
 use Rattle.aukpocket.proofs.HandedLaws.{counted-handed}
-use Rattle.aukpocket.specs.Interface.{countedAnswer}
+use Rattle.aukpocket.specs.Interface.{readAnswer}
 use borrow.Author.Needs.{needs}
 use Rattle.aukpocket.proofs.aukpocket_read_reel.Statement.{statement}
 use Rattle.aukpocket.proofs.aukpocket_read_reel.Tie as tie
 
 returns : tie.Need-returns
-returns c = counted-handed countedAnswer _ (c .before .before .before .read-reel .result) _ _ (c .counted-answer .ensures) (c .before .before .before .read-reel .ensures)
+returns c = counted-handed readAnswer _ (c .before .before .before .read-reel .result) _ _ (c .read-answer .ensures) (c .before .before .before .read-reel .ensures)
 
 pub aukpocket-read-reel-spec : {M : Type 1} → statement M
 aukpocket-read-reel-spec =

@@ -1,7 +1,7 @@
 -- `value::near_float` meets its contract. Assumes nothing.
 use Rattle.formats.specs.Words.{floatBits, floatWord, wordBits}
 use Rattle.numbers.specs.SignMagnitude.{signMagnitude}
-use Rattle.value.proofs.NearLaws.{rounded-is, near-room, near-float}
+use Rattle.value.proofs.NearLaws.{as-rounded, near-room, near-float}
 use Rattle.value.proofs.Twos.{odd-shl}
 use Prim.Native.Nat.{ℕ, _*_, _^_}
 use mathlib.Core.Bool.{Bool}
@@ -23,7 +23,7 @@ returns c =
     let s = p .before in
     let a = s .args in
     let n = p .near-place .result in
-    rounded-is (floatWord (a .x) 32 (a .y)) (a .x) (signMagnitude (a .neg) (a .o * 2 ^ a .k)) _ _
+    as-rounded (floatWord (a .x) 32 (a .y)) (a .x) (signMagnitude (a .neg) (a .o * 2 ^ a .k)) _ _
     (c .packed .ensures ∙ ap (λ (b : Bool). floatBits 32 (a .y) b (n .c) (n .f)) (c .before .sign-of .ensures)
     ∙ ap wordBits (sym (near-float (a .x) (a .neg) (a .o * 2 ^ a .k) (odd-shl (a .o) (a .k) (s .pre .2)) n (p .near-place .ensures) 32 (a .y) (s .pre .0 .even) (s .pre .1))))
     (p .near-place .ensures .changes)

@@ -7,7 +7,7 @@ use Rattle.formats.proofs.CodeLaws.{code-sound}
 use Rattle.numbers.specs.SignMagnitude.{signMagnitude}
 use Rattle.numbers.specs.Walk.{pick}
 use Rattle.value.specs.Parts.{NearPlace}
-use Rattle.value.proofs.NearLaws.{rounded-is, near-value}
+use Rattle.value.proofs.NearLaws.{as-rounded, near-value}
 use Rattle.value.proofs.Twos.{odd-shl}
 use Prim.Native.Nat.{ℕ, _+_, _*_, _^_, _≤_, _<_}
 use mathlib.Core.Bool.{Bool, true, false}
@@ -45,7 +45,7 @@ returns c =
     let a = s .args in
     let n = p .near-place .result in
     let power : 25 + n .c ≡ 25 + 1 * n .c = omega arith in
-    rounded-is gainWord gainFormat (signMagnitude (a .neg) (a .o * 2 ^ a .k)) _ _
+    as-rounded gainWord gainFormat (signMagnitude (a .neg) (a .o * 2 ^ a .k)) _ _
     (c .gain-bits .ensures ∙ ap (λ (y : ℕ). wordBits (gainWord (signMagnitude (a .neg) (n .f * 2 ^ y)))) power
     ∙ ap (λ (v : ℤ). wordBits (gainWord v)) (sym (near-value gainFormat (a .neg) (a .o * 2 ^ a .k) (odd-shl (a .o) (a .k) (s .pre .1)) n (near p)))) (near p .changes)
 

@@ -1,9 +1,9 @@
 -- `value::near_place` meets its contract. Assumes nothing.
 use Rattle.formats.proofs.FitLaws.{fraction-at}
 use Rattle.formats.proofs.RoundLaws.{multiple-lifted}
-use Rattle.formats.proofs.NearestLaws.{Rounds}
+use Rattle.formats.proofs.NearestLaws.{ShortDigits}
 use Rattle.value.proofs.PlaceLaws.{shift-fits, fraction-fits}
-use Rattle.value.proofs.NearLaws.{near-end, near-exact, near-late, near-next, near-early}
+use Rattle.value.proofs.NearLaws.{near-end, near-exact, near-last, near-next, near-inner}
 use Rattle.formats.specs.Format.{unit}
 use Rattle.formats.specs.Nearest.{nearestMultiple}
 use Rattle.formats.specs.Steps.{Length, Lowest}
@@ -29,7 +29,7 @@ module _ (c : tie.After-lowest) where
   low : Lowest (bits + start .args .k) (start .args .x .fraction + start .args .x .base) (start .args .x .digit) (c .lowest .result)
   low = c .lowest .ensures
 
-  rounds : Rounds (start .args .x)
+  rounds : ShortDigits (start .args .x)
   rounds = record { small = start .pre .1; steps = start .pre .0 .steps; some = start .pre .0 .some }
 
 returns : tie.Need-returns
@@ -84,7 +84,7 @@ returns-3 c =
     let r = c .before .before .before in
     let l = found r in
     let a = given r .args in
-    near-late (a .x) (rounds l) (a .neg) (a .o) (a .k) (given r .pre .2) (bits l) (length l) (l .lowest .result) (low l) (above r) (r .rounded-whole .result) (rounded r) (c .before .before .if3 .taken) _
+    near-last (a .x) (rounds l) (a .neg) (a .o) (a .k) (given r .pre .2) (bits l) (length l) (l .lowest .result) (low l) (above r) (r .rounded-whole .result) (rounded r) (c .before .before .if3 .taken) _
     (c .lesser .ensures ∙ ap (min (r .rounded-whole .result)) (c .before .most2 .ensures))
 
 returns-4 : tie.Need-returns-4
@@ -102,7 +102,7 @@ returns-5 c =
     let r = t .before .before in
     let l = found r in
     let a = given r .args in
-    near-early (a .x) (rounds l) (a .neg) (a .o) (a .k) (given r .pre .2) (bits l) (length l) (l .lowest .result) (low l) (above r) (r .rounded-whole .result) (rounded r) (omega (arith, t .before .if3 .left, r .before .before .before .if1 .left))
+    near-inner (a .x) (rounds l) (a .neg) (a .o) (a .k) (given r .pre .2) (bits l) (length l) (l .lowest .result) (low l) (above r) (r .rounded-whole .result) (rounded r) (omega (arith, t .before .if3 .left, r .before .before .before .if1 .left))
     (λ e. c .if4 .left (e ∙ sym (t .two-to .ensures .0)))
 
 pub near-place-spec : {M : Type 1} → statement M

@@ -7,7 +7,7 @@ use Rattle.formats.specs.declared.Format.{Format}
 use Rattle.formats.proofs.WordLaws.{whole-sound}
 use Rattle.numbers.specs.SignMagnitude.{signMagnitude}
 use Rattle.value.specs.Parts.{NearPlace}
-use Rattle.value.proofs.NearLaws.{rounded-is, near-whole}
+use Rattle.value.proofs.NearLaws.{as-rounded, near-whole}
 use Rattle.value.proofs.Twos.{odd-shl}
 use Prim.Native.Nat.{ℕ, _*_, _^_, _≤_, _<_}
 use mathlib.Core.Path.{_≡_, sym, ap, subst, _∙_}
@@ -38,7 +38,7 @@ returns c =
     let p = c .before in
     let s = p .before in
     let a = s .args in
-    rounded-is (wholeWord (a .w)) (wholeFormat (a .w)) (signMagnitude (a .neg) (a .o * 2 ^ a .k)) _ _
+    as-rounded (wholeWord (a .w)) (wholeFormat (a .w)) (signMagnitude (a .neg) (a .o * 2 ^ a .k)) _ _
     (c .complement-of .ensures ∙ sym (near-whole (a .w) (a .neg) (a .o * 2 ^ a .k) (odd-shl (a .o) (a .k) (s .pre .3)) (p .near-place .result) (near p))) (near p .changes)
 
 pub near-whole-spec : {M : Type 1} → statement M

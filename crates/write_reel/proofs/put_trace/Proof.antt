@@ -1,6 +1,6 @@
 -- `write_reel::put_trace` meets its contract. Assumes nothing.
 use Rattle.write_reel.proofs.CopiedLaws.{size-bytes-header, size-samples-copied, size-trace}
-use Rattle.write_reel.specs.Copied.{reelHeaderCopied, samplesCopied, traceChanged, reelTraceCopied}
+use Rattle.write_reel.specs.Copied.{reelHeaderCopied, samplesCopied, traceChangedAt, reelTraceCopied}
 use Rattle.headers.specs.Header.{headerSize}
 use Rattle.record.specs.Form.{fieldHead, toSamples, toPairs}
 use Rattle.reel.specs.Layout.{traceHeader}
@@ -16,7 +16,7 @@ use Rattle.write_reel.proofs.put_trace.Statement.{statement}
 use Rattle.write_reel.proofs.put_trace.Tie as tie
 
 returns : tie.Need-returns
-unfolding traceChanged reelTraceCopied
+unfolding traceChangedAt reelTraceCopied
 returns c =
     let h = c .before .before .before .before .before .before in
     let b = h .before .before .before .before .before in

@@ -1,6 +1,6 @@
 -- `write_reel::put_traces` meets its contract. Assumes nothing.
 use Rattle.write_reel.proofs.CopiedLaws.{size-trace, size-traces, trace-most, traces-none, traces-more}
-use Rattle.write_reel.specs.Copied.{reelTraceCopied, tracesChanged}
+use Rattle.write_reel.specs.Copied.{reelTraceCopied, tracesChangedAt}
 use Rattle.record.specs.Form.{heldStride, tracesPlace}
 use Rattle.numbers.proofs.Filling.{Filling, start as begin, finish, again, part-put}
 use Rattle.numbers.proofs.WalkLaws.{times-more, flat-none}
@@ -18,7 +18,7 @@ abbrev Inv-loop : tie.InvT-loop
 Inv-loop «record» near code n w m t out₀ at₀ o₀ left₀ count₀ out at o left count =
     (at + left * m ≤ length «record») × (length out ≡ t * w) × (o + left * w ≡ t * w)
     × Filling (flat (map (reelTraceCopied near «record» code n) (walk (λ p. p) (heldStride n) t tracesPlace))) out o (flat (map (reelTraceCopied near «record» code n) (walk (λ p. p) (heldStride n) left at)))
-    × (count + left * n ≤ t * n) × (count + tracesChanged near «record» code n left at ≡ tracesChanged near «record» code n t tracesPlace)
+    × (count + left * n ≤ t * n) × (count + tracesChangedAt near «record» code n left at ≡ tracesChangedAt near «record» code n t tracesPlace)
 
 abbrev μ-loop : tie.MeasureT-loop
 μ-loop «record» near code n w m t out₀ at₀ o₀ left₀ count₀ out at o left count = left
@@ -73,7 +73,7 @@ loop-again c =
     let f = again put (ap (λ (x : ℕ). flat (map (reelTraceCopied (a .near) r (a .code) (a .n)) (walk (λ p. p) (heldStride (a .n)) (l .left - 1) x))) next) in
     let k = c .before .before .put-trace .ensures .0 in
     let more = traces-more (a .near) r (a .code) (a .n) (l .left) (l .at) some in
-    let rest = ap (tracesChanged (a .near) r (a .code) (a .n) (l .left - 1)) next in (
+    let rest = ap (tracesChangedAt (a .near) r (a .code) (a .n) (l .left - 1)) next in (
       omega (arith, times-more (l .left) (a .m) some, l .inv .0),
       f .size ∙ sym (l .inv .3 .size) ∙ l .inv .1,
       omega (arith, times-more (l .left) (a .w) some, l .inv .2),

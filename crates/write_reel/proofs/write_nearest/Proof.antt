@@ -4,7 +4,7 @@ use Rattle.numbers.specs.declared.Check.{Check}
 use Rattle.formats.specs.Codes.{isCode}
 use Rattle.record.specs.Form.{formCauses}
 use Rattle.record.proofs.JudgedLaws.{Own, own, refused-is}
-use Rattle.write_reel.proofs.WriteLaws.{own-judged, nearest-refused, own-valid, nearest-end}
+use Rattle.write_reel.proofs.WriteLaws.{own-judged, nearest-call-refused, own-valid, nearest-call-end}
 use Rattle.numbers.proofs.ByteLaws.{all-bytes}
 use mathlib.Core.Bool.{not}
 use mathlib.Core.Path.{_≡_, sym, _∙_}
@@ -20,7 +20,7 @@ causes b = then (refuseIf (not (isCode (b .args .code))) 11 0) (formCauses (b .a
 owns : (c : tie.After-c2) → let b = c .before .before .before .before .before in Own (b .args .«record» .now) (causes b) (c .c2 .given .0 .0) (c .c2 .given .0 .1 .0)
 owns c =
     let b = c .before .before .before .before .before in
-    own (b .args .«record» .now) (causes b) (sym (c .before .before .judge-writable .ensures) ∙ c .c2 .given .1)
+    own (b .args .«record» .now) (causes b) (sym (c .before .before .judge-target-and-form .ensures) ∙ c .c2 .given .1)
 
 put-checked-requires : tie.Need-put-checked-requires
 put-checked-requires c κs =
@@ -33,7 +33,7 @@ returns : tie.Need-returns
 returns c =
     let b = c .before .before .before .before .before .before in
     let a = b .args in
-    nearest-refused (a .«record» .now) (a .code) (a .reel .now) _ _ (refused-is (a .«record» .now) (causes b) (sym (c .before .before .before .judge-writable .ensures) ∙ c .before .c .given .1))
+    nearest-call-refused (a .«record» .now) (a .code) (a .reel .now) _ _ (refused-is (a .«record» .now) (causes b) (sym (c .before .before .before .judge-target-and-form .ensures) ∙ c .before .c .given .1))
 
 returns-2 : tie.Need-returns-2
 returns-2 c =
@@ -42,7 +42,7 @@ returns-2 c =
     let a = b .args in
     let s = a .«record» .now in
     c .before .before .put-checked .ensures
-    ∙ nearest-end s (a .code) (a .reel .now) _ _ (all-bytes s (λ i. omega (arith, k .before .before .before .before .shared-slice-known .given i))) (owns k)
+    ∙ nearest-call-end s (a .code) (a .reel .now) _ _ (all-bytes s (λ i. omega (arith, k .before .before .before .before .shared-slice-known .given i))) (owns k)
 
 pub write-nearest-spec : {M : Type 1} → statement M
 write-nearest-spec = tie.close (tie.spec (λ c κs. search needs) (λ c. search needs) (λ c. search needs) put-checked-requires returns (λ c. search needs) returns-2)

@@ -1,4 +1,4 @@
--- `write_reel::judge_writable` meets its contract. Assumes nothing.
+-- `write_reel::judge_target_and_form` meets its contract. Assumes nothing.
 use Rattle.numbers.specs.Cause.{then}
 use Rattle.numbers.specs.declared.Check.{Check}
 use Rattle.record.specs.Form.{formCauses, recordFound}
@@ -7,8 +7,8 @@ use mathlib.Core.List.{List}
 use mathlib.Core.Path.{_≡_, sym, ap, _∙_}
 use Prim.Native.Nat.{ℕ}
 use borrow.Author.Needs.{needs}
-use Rattle.write_reel.proofs.judge_writable.Statement.{statement}
-use Rattle.write_reel.proofs.judge_writable.Tie as tie
+use Rattle.write_reel.proofs.judge_target_and_form.Statement.{statement}
+use Rattle.write_reel.proofs.judge_target_and_form.Tie as tie
 
 -- what is found behind a check of the code
 behind : List ℕ → Check → Judged
@@ -23,5 +23,5 @@ unfolding behind
 returns-2 c =
     c .judge-record .ensures ∙ ap (behind (c .before .before .before .before .before .args .«record» .now)) (sym (c .before .enum-told .given .1) ∙ c .before .before .before .check-code .ensures)
 
-pub judge-writable-spec : {M : Type 1} → statement M
-judge-writable-spec = tie.close (tie.spec (λ c κs. search needs) (λ c. search needs) (λ c. search needs) (λ c κs. search needs) returns returns-2)
+pub judge-target-and-form-spec : {M : Type 1} → statement M
+judge-target-and-form-spec = tie.close (tie.spec (λ c κs. search needs) (λ c. search needs) (λ c. search needs) (λ c κs. search needs) returns returns-2)
