@@ -6,12 +6,14 @@ use Prim.Native.Nat.{ℕ, zero, suc, _+_, _-_, _*_, _/_, _^_, _≤_, _<_}
 use native.Mathlib.Nat.{zero-mul, mul-zero, add-zero, le-refl, le-trans, le-of-eq, le-antisymm, le-div-iff-mul-le, mul-le-mul-right, mul-le-mul-left, mul-lt-mul-of-pos-right}
 use native.Mathlib.Omega.{arith}
 use borrow.Author.Tests.{lt-ltb, le-ltb}
+use lib.Dec.{ltb}
 use lib.IntN.{ℤ, natAbs, subℕ}
 use lib.Pow.{pow-pos, pow-mono}
 use Rattle.numbers.specs.Walk.{pick}
 use Rattle.numbers.specs.SignMagnitude.{signMagnitude, isNegative}
 use Rattle.numbers.proofs.SignLaws.{below-or, sub-below, sub-above, abs-zero}
 use Rattle.numbers.proofs.Magnitudes.{abs-signed, signed-back, signed-zero}
+use Rattle.numbers.proofs.FirstLaws.{first-le}
 use Rattle.formats.specs.Format.{unit, limit, fitsAt, inFormat}
 use Rattle.formats.specs.Nearest.{nearestMultiple, reaching, rangeEnd, nearestMagnitude, nearestIn, distance}
 use Rattle.formats.specs.declared.Format.{Format}
@@ -163,6 +165,10 @@ beyond x s a h = rw (le-ltb a (rangeEnd x s) h)
 inside : (x : Format) (s : Bool) (a : ℕ) → a ≤ rangeEnd x s
     → (nearestMagnitude x s a ≡ nearestMultiple (unit x (reaching x a)) a) ⊎ (nearestMagnitude x s a ≡ a)
 inside x s a h = ⊎-elim (λ (l : a < rangeEnd x s). inl (inner x s a l)) (λ (l : rangeEnd x s ≤ a). inr (beyond x s a l ∙ omega arith)) (below-or a (rangeEnd x s))
+
+-- a characteristic that reaches a magnitude is no less than the first
+pub reaching-first : (x : Format) (a c : ℕ) → a < 2 ^ x .fraction * unit x c → reaching x a ≤ c
+reaching-first x a c h = first-le (λ i. ltb a (2 ^ x .fraction * unit x i)) (x .characteristics - 1) 0 c (omega arith) (lt-ltb a (2 ^ x .fraction * unit x c) h)
 
 module _ (x : Format) (ok : ShortDigits x) where
   -- LAW. Inside the range the nearest value is at most half of the last place away of the least characteristic that reaches the value.

@@ -74,6 +74,14 @@ pub ibm-carry : (wordOf 1 (nearestValue 1 (halves 33_554_431)) ≡ Word 0x46FF_F
 unfolding first
 ibm-carry = (refl, refl, refl, refl)
 
+-- THEOREM. Code 1 at the end, and from C = 0 to C = 1: (2 ^ 26 - 1) × 2 ^ 226, which is (2 ^ 24 - 1 / 4) × 2 ^ 228, is written 7FFFFFFF;
+-- (2 ^ 24 + 8) / 16 ^ 70 lies halfway and is written 01100000, (2 ^ 24 + 9) / 16 ^ 70 is written 01100001.
+-- Rules out a carry beyond C = 127, and a seventh digit beside C = 0.
+pub ibm-edges : (wordOf 1 (nearestValue 1 (pos ((2 ^ 26 - 1) * 2 ^ (denominatorPower + 226)))) ≡ Word 0x7FFF_FFFF)
+    × (wordOf 1 (nearestValue 1 (pos (2 ^ 24 + 8))) ≡ Word 0x0110_0000) × (wordOf 1 (nearestValue 1 (pos (2 ^ 24 + 9))) ≡ Word 0x0110_0001)
+unfolding first
+ibm-edges = (refl, refl, refl)
+
 -- THEOREM. Code 5: 2 ^ -150 lies halfway and becomes 0, and so does -2 ^ -150, written 00000000; 3 × 2 ^ -150 becomes 2 ^ -149. The least normal
 -- number is reached from below: (2 ^ 23 - 1 / 4) × 2 ^ -149 is written 00800000.
 -- Rules out 80000000, minus zero, for a value below zero.
@@ -82,13 +90,14 @@ pub ieee-small : (nearestValue 5 (pos (2 ^ (denominatorPower - 150))) ≡ pos 0)
 unfolding first
 ieee-small = (refl, refl, refl, refl)
 
--- THEOREM. Code 5: 16,777,217 becomes 16,777,216, and 16,777,219 becomes 16,777,218; 2 ^ 128 becomes the largest finite number, 7F7FFFFF, and
--- -2 ^ 128 becomes FF7FFFFF.
+-- THEOREM. Code 5: 16,777,217 becomes 16,777,216, and 16,777,219 becomes 16,777,218; 2 ^ 128 becomes the largest finite number, 7F7FFFFF, and so
+-- does (2 ^ 26 - 1) × 2 ^ 102, which is (2 ^ 24 - 1 / 4) × 2 ^ 104; -2 ^ 128 becomes FF7FFFFF.
 -- Rules out IEEE's ties to even, which make 16,777,219 into 16,777,220, and its infinities.
 pub ieee-large : (nearestValue 5 (wholeValue (pos 16_777_217)) ≡ wholeValue (pos 16_777_216)) × (nearestValue 5 (wholeValue (pos 16_777_219)) ≡ wholeValue (pos 16_777_218))
     × (wordOf 5 (nearestValue 5 (pos (2 ^ (denominatorPower + 128)))) ≡ Word 0x7F7F_FFFF) × (wordOf 5 (nearestValue 5 (negℤ (pos (2 ^ (denominatorPower + 128))))) ≡ Word 0xFF7F_FFFF)
+    × (wordOf 5 (nearestValue 5 (pos ((2 ^ 26 - 1) * 2 ^ (denominatorPower + 102)))) ≡ Word 0x7F7F_FFFF)
 unfolding first
-ieee-large = (refl, refl, refl, refl)
+ieee-large = (refl, refl, refl, refl, refl)
 
 -- THEOREM. Code 4: 16,383.75 lies halfway and becomes 16,383.5, written 00017FFF; 16,383.875 becomes 16,384, written 00004000; -16,384.25 becomes
 -- -16,384, written 0000C000; 2 ^ -256 lies halfway and becomes 0.
@@ -97,6 +106,15 @@ pub gain-nearest : (wordOf 4 (nearestValue 4 (pos (65_535 * 2 ^ (denominatorPowe
     × (wordOf 4 (nearestValue 4 (negℤ (pos (65_537 * 2 ^ (denominatorPower - 2))))) ≡ Word 0xC000) × (nearestValue 4 (pos (2 ^ (denominatorPower - 256))) ≡ pos 0)
 unfolding first
 gain-nearest = (refl, refl, refl, refl)
+
+-- THEOREM. Code 4 at the ends: 32,767.75 and 32,768 are written 00007FFF; -32,768 is written 00008000 and doesn't change, and -32,768.5 is
+-- written 00008000. -2 ^ -256 lies halfway and is written 00000000.
+-- Rules out 00008000 for a value above zero, 00008001, which is -32,767, for -32,768, and a zero with a gain.
+pub gain-edges : (wordOf 4 (nearestValue 4 (pos (131_071 * 2 ^ (denominatorPower - 2)))) ≡ Word 0x7FFF) × (wordOf 4 (nearestValue 4 (wholeValue (pos 32_768))) ≡ Word 0x7FFF)
+    × (wordOf 4 (nearestValue 4 (wholeValue (negℤ (pos 32_768)))) ≡ Word 0x8000) × (changes 4 (wholeValue (negℤ (pos 32_768))) ≡ 0)
+    × (wordOf 4 (nearestValue 4 (negℤ (halves 65_537))) ≡ Word 0x8000) × (wordOf 4 (nearestValue 4 (negℤ (pos (2 ^ (denominatorPower - 256))))) ≡ Word 0)
+unfolding first
+gain-edges = (refl, refl, refl, refl, refl, refl)
 
 -- THEOREM. Under code 3 a half and 32,768 each count as changed, and -5 doesn't.
 -- Rules out a count of samples that stay.

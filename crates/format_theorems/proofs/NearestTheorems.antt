@@ -6,9 +6,12 @@
 --
 -- - `nearest-word`: the nearest value is that of a word of the code, the one that exact writing gives.
 -- - `no-word-nearer`: no word of the code is nearer; one that is as near has the same value, or one farther from zero.
--- - `nearest-only`, `nearest-exact`: CR 5's two sentences determine the nearest value.
--- - `end-word`, `word-inside`: what the ends of the range are; `beyond-range`: a value beyond the range becomes the end.
--- - `half-reaching`, `half-whole`, `half-place`: how far a value inside the range moves at most; `last-places`: what a word's last place is.
+-- - `nearest-only`, `nearest-means`: CR 5's two sentences determine the nearest value.
+-- - `zero-word`: what becomes zero is written 00 throughout.
+-- - `end-word`, `word-inside`: what the ends of the range are; `inside-means`: what is inside; `beyond-range`: a value beyond the range
+--   becomes the end.
+-- - `half-reaching`, `half-each`, `half-whole`, `half-gain`, `half-place`: how far a value inside the range moves at most; `last-places`,
+--   `zero-place`: what a word's last place is.
 -- - `no-farther-apart`: how far apart two values come out at most under codes 2, 3 and 8.
 -- - `nearest-again`, `changes-none`, `changes-same`, `changes-one`: which values change.
 --
@@ -16,15 +19,16 @@
 use mathlib.Core.Path.{_≡_, refl, sym, ap, _∙_, subst}
 use mathlib.Core.Logic.{_⊎_, inl, inr}
 use mathlib.Core.Bool.{Bool, true, false}
-use Prim.Native.Nat.{ℕ, _+_, _-_, _*_, _^_, _≤_, _<_}
+use Prim.Native.Nat.{ℕ, zero, suc, _+_, _-_, _*_, _^_, _≤_, _<_}
 use native.Mathlib.Nat.{le-trans, le-of-eq}
 use native.Mathlib.Omega.{arith}
-use borrow.Author.Tests.{eqb-true, eq-eqb}
-use lib.Dec.{eqb}
+use lib.Dec.{eqb, leb→le, le→leb}
 use lib.Pow.{pow-pos, pow-mono}
-use lib.IntN.{ℤ, pos, natAbs, _*ℤ_}
+use lib.IntN.{ℤ, pos, negsuc, natAbs, _*ℤ_}
+use lib.Signed.{_≤ℤ_}
 use Rattle.numbers.specs.Iff.{Iff}
 use Rattle.numbers.specs.Walk.{pick}
+use Rattle.numbers.specs.First.{first}
 use Rattle.numbers.specs.TwosComplement.{signedOf}
 use Rattle.numbers.specs.SignMagnitude.{signMagnitude, isNegative}
 use Rattle.numbers.specs.Terms.{Among}
@@ -45,7 +49,7 @@ use Rattle.format_theorems.proofs.IeeeWords.{single-power, single-signi
 use Rattle.format_theorems.proofs.OneFit.{word-in, one-fit}
 use Rattle.format_theorems.proofs.WordTheorems.{gain-says, gain-found, word-sound, word-complete}
 use Rattle.formats.proofs.DifferLaws.{same-differs}
-use Rattle.format_theorems.proofs.DistanceLaws.{value-nearer, value-only, beyond, within-half, unit-more, place-reaches, some-reaches, one-unit, one-apart}
+use Rattle.format_theorems.proofs.DistanceLaws.{value-nearer, value-only, beyond, within-half, unit-more, reaching-first, place-reaches, some-reaches, one-unit, one-apart}
 
 -- ## The nearest value
 
@@ -61,12 +65,11 @@ code-word code n k g = value-in-format (formatOf code) (valueIn code n) (word-in
 -- exact writing gives of it is such a word.
 -- Rules out a nearest value that can't be written, so that number 14 would occur.
 pub nearest-word : (code : ℕ) (v : ℤ) → isCode code ≡ true
-    → HasNumber code (nearestValue code v) × ((n : ℕ) × (wordOf code (nearestValue code v) ≡ Word n) × (isWord code n ≡ true) × (valueIn code n ≡ nearestValue code v))
+    → (n : ℕ) × (wordOf code (nearestValue code v) ≡ Word n) × (isWord code n ≡ true) × (valueIn code n ≡ nearestValue code v)
 nearest-word code v k =
-    let f = code-nearest code v k in
-    let w = word-complete code (nearestValue code v) k f in
+    let w = word-complete code (nearestValue code v) k (code-nearest code v k) in
     let t = word-sound code (nearestValue code v) (w .0) k (w .1) in
-    (one-fit code (nearestValue code v) k .0 f, (w .0, w .1, t .0, t .1))
+    (w .0, w .1, t .0, t .1)
 
 -- THEOREM. "Every other word of that code that has a value is at least as far away. Of two equally near, the one nearer zero is taken": a
 -- word that is as near has the nearest value itself, or one strictly farther from zero.
@@ -80,15 +83,15 @@ no-word-nearer code v n k g = value-nearer (formatOf code) (code-rounds code k) 
 -- Rules out a second value that both sentences would allow.
 pub nearest-only : (code : ℕ) (v w : ℤ) → isCode code ≡ true → NearestOf code v w → w ≡ nearestValue code v
 nearest-only code v w k t =
-    let a = nearest-word code v k .0 in
+    let a = nearest-word code v k in
     value-only (formatOf code) (code-rounds code k) v w (one-fit code w k .1 (t .has))
-    (subst (λ (z : ℤ). distance v w ≤ distance v z) (a .value) (t .near (a .word) (a .good)))
-    (subst (λ (z : ℤ). distance v w ≡ distance v z → natAbs w ≤ natAbs z) (a .value) (t .tie (a .word) (a .good)))
+    (subst (λ (z : ℤ). distance v w ≤ distance v z) (a .3) (t .near (a .0) (a .2)))
+    (subst (λ (z : ℤ). distance v w ≡ distance v z → natAbs w ≤ natAbs z) (a .3) (t .tie (a .0) (a .2)))
 
 -- THEOREM. So a value is the nearest one exactly when CR 5's sentences say so.
 -- Rules out a definition of the nearest value that is none of CR 5's.
-pub nearest-exact : (code : ℕ) (v w : ℤ) → isCode code ≡ true → Iff (w ≡ nearestValue code v) (NearestOf code v w)
-nearest-exact code v w k = (λ e. subst (NearestOf code v) (sym e) there, nearest-only code v w k)
+pub nearest-means : (code : ℕ) (v w : ℤ) → isCode code ≡ true → Iff (w ≡ nearestValue code v) (NearestOf code v w)
+nearest-means code v w k = (λ e. subst (NearestOf code v) (sym e) there, nearest-only code v w k)
   where
     tied : {a b : ℤ} → (a ≡ b) ⊎ (natAbs b < natAbs a) → natAbs b ≤ natAbs a
     tied (inl e) = le-of-eq (ap natAbs (sym e))
@@ -96,11 +99,28 @@ nearest-exact code v w k = (λ e. subst (NearestOf code v) (sym e) there, neares
 
     there : NearestOf code v (nearestValue code v)
     there =
+        let a = nearest-word code v k in
         record {
-          has = nearest-word code v k .0;
+          has = record { word = a .0; good = a .2; value = a .3 };
           near = λ n g. no-word-nearer code v n k g .0;
           tie = λ n g e. tied (no-word-nearer code v n k g .1 e);
         }
+
+-- zero's word is 0 under every code
+word-of-zero : (code : ℕ) → Code code → wordOf code (pos 0) ≡ Word 0
+unfolding first
+word-of-zero code ibm = refl
+word-of-zero code whole32 = refl
+word-of-zero code whole16 = refl
+word-of-zero code gain = refl
+word-of-zero code ieee = refl
+word-of-zero code whole8 = refl
+
+-- THEOREM. What becomes zero is written 00 throughout, also where it was negative.
+-- Rules out minus zero, 80000000, under codes 1 and 5, and a zero with a characteristic or a gain, as 40000000 of code 1 and 00010000 of code
+-- 4 are.
+pub zero-word : (code : ℕ) (v : ℤ) → isCode code ≡ true → nearestValue code v ≡ pos 0 → wordOf code (nearestValue code v) ≡ Word 0
+zero-word code v k z = ap (wordOf code) z ∙ word-of-zero code (code-is code k)
 
 -- ## The range
 
@@ -122,6 +142,48 @@ word-inside code n k g =
     let r = code-rounds code k in
     under-end x r (isNegative (valueIn code n)) (natAbs (valueIn code n)) (value-among x r (valueIn code n) (code-word code n k g))
 
+-- a value by ends of each sign: the ends enclose it,
+above-least : (e : Bool → ℕ) (v : ℤ) → natAbs v ≤ e (isNegative v) → signMagnitude true (e true) ≤ℤ v
+above-least e (pos a) h = go (e true)
+  where
+    go : (b : ℕ) → signMagnitude true b ≤ℤ pos a
+    go zero = record { le = le→leb 0 a (omega arith) }
+    go (suc b) = record { le = tt }
+above-least e (negsuc a) h = go (e true) h
+  where
+    go : (b : ℕ) → suc a ≤ b → signMagnitude true b ≤ℤ negsuc a
+    go zero l = absurd (none l)
+      where
+        none : suc a ≤ 0 → ⊥
+        none l = omega arith
+    go (suc b) l = record { le = le→leb a b (omega arith) }
+
+below-greatest : (e : Bool → ℕ) (v : ℤ) → natAbs v ≤ e (isNegative v) → v ≤ℤ signMagnitude false (e false)
+below-greatest e (pos a) h = record { le = le→leb a (e false) h }
+below-greatest e (negsuc a) h = record { le = tt }
+
+-- and a value between two that aren't beyond the ends isn't either
+between-ends : (e : Bool → ℕ) (l v h : ℤ) → natAbs l ≤ e (isNegative l) → natAbs h ≤ e (isNegative h) → l ≤ℤ v → v ≤ℤ h → natAbs v ≤ e (isNegative v)
+between-ends e l (pos a) (pos b) i j p q = le-trans (leb→le a b (q .le)) j
+between-ends e l (pos a) (negsuc b) i j p q = absurd (q .le)
+between-ends e (pos b) (negsuc a) h i j p q = absurd (p .le)
+between-ends e (negsuc b) (negsuc a) h i j p q = le-trans (let z : suc a ≤ suc b = omega (arith, leb→le a b (p .le)) in z) i
+
+-- THEOREM. So v is inside the range exactly when some word's value is at most v and some word's value is at least v.
+-- Rules out a range by another measure than the values of the code's words.
+pub inside-means : (code : ℕ) (v : ℤ) → isCode code ≡ true
+    → Iff (Inside code v) ((n k : ℕ) × (isWord code n ≡ true) × (isWord code k ≡ true) × (valueIn code n ≤ℤ v) × (v ≤ℤ valueIn code k))
+inside-means code v c = (there, λ t. between-ends e (valueIn code (t .0)) v (valueIn code (t .1)) (word-inside code (t .0) c (t .2)) (word-inside code (t .1) c (t .3)) (t .4) (t .5))
+  where
+    e : Bool → ℕ
+    e = rangeEnd (formatOf code)
+
+    there : Inside code v → (n k : ℕ) × (isWord code n ≡ true) × (isWord code k ≡ true) × (valueIn code n ≤ℤ v) × (v ≤ℤ valueIn code k)
+    there h =
+        let a = end-word code true c in
+        let b = end-word code false c in
+        (a .word, b .word, a .good, b .good, subst (λ (w : ℤ). w ≤ℤ v) (sym (a .value)) (above-least e v h), subst (λ (w : ℤ). v ≤ℤ w) (sym (b .value)) (below-greatest e v h))
+
 -- THEOREM. "for values beyond the range this is the end": where the value is at the end on its side, or beyond it.
 -- Rules out wrapping around, an infinity, and zero for a value that is too large.
 pub beyond-range : (code : ℕ) (v : ℤ) → rangeEnd (formatOf code) (isNegative v) ≤ natAbs v → nearestValue code v ≡ signMagnitude (isNegative v) (rangeEnd (formatOf code) (isNegative v))
@@ -133,6 +195,14 @@ beyond-range code v h = ap (signMagnitude (isNegative v)) (beyond (formatOf code
 -- Rules out rounding by a larger characteristic than needed.
 pub half-reaching : (code : ℕ) (v : ℤ) → isCode code ≡ true → Inside code v → 2 * distance v (nearestValue code v) ≤ unit (formatOf code) (reaching (formatOf code) (natAbs v))
 half-reaching code v k i = within-half (formatOf code) (code-rounds code k) v i
+
+-- THEOREM. So beside each characteristic whose fractions reach the value, twice the distance is at most the last place there.
+-- Rules out rounding by a larger characteristic than one that reaches the value; how the least is found has no part in it.
+pub half-each : (code : ℕ) (v : ℤ) (c : ℕ) → isCode code ≡ true → Inside code v
+    → natAbs v < 2 ^ formatOf code .fraction * unit (formatOf code) c → 2 * distance v (nearestValue code v) ≤ unit (formatOf code) c
+half-each code v c k i h =
+    let x = formatOf code in
+    le-trans (half-reaching code v k i) (unit-more x (code-rounds code k) (reaching x (natAbs v)) c (reaching-first x (natAbs v) c h))
 
 -- codes 2, 3 and 8 have one characteristic, whose last place is 1
 record OneUnit (code : ℕ) : Type 0 where
@@ -154,15 +224,28 @@ half-whole code v a i =
     let x = formatOf code in
     le-trans (half-reaching code v (o .code-good) i) (le-of-eq (one-unit x (code-rounds code (o .code-good)) (o .one) (natAbs v) ∙ ap (λ (b : ℕ). 2 ^ b) (o .whole)))
 
--- THEOREM. The last place of a word: F, d, the significand or the whole number counts it.
+-- THEOREM. Code 4: at each gain g at which the value is below 32,768 / 2 ^ g in size, the distance is at most half of 1 / 2 ^ g.
+-- Rules out rounding to whole numbers, or by a gain smaller than need be.
+pub half-gain : (v : ℤ) (g : ℕ) → g ≤ 255 → Inside 4 v → natAbs v < 2 ^ 15 * 2 ^ (denominatorPower - g) → 2 * distance v (nearestValue 4 v) ≤ 2 ^ (denominatorPower - g)
+half-gain v g few i h =
+    let e : denominatorPower - g ≡ denominatorPower - 255 + 1 * (255 - g) = omega (arith, few) in
+    subst (λ (k : ℕ). 2 * distance v (nearestValue 4 v) ≤ 2 ^ k) (sym e) (half-each 4 v (255 - g) refl i (subst (λ (k : ℕ). natAbs v < 2 ^ 15 * 2 ^ k) e h))
+
+-- THEOREM. The last place of a word: a word's value is F, d, the significand or the whole number times its last place.
 -- Rules out a last place by another measure than the word's own digits.
 pub last-places : (n : ℕ) → (valueIn 1 n ≡ signMagnitude (signBit n) (fraction n * lastPlace 1 n)) × (valueIn 4 n ≡ signedOf 16 (gainNumber n) *ℤ pos (lastPlace 4 n))
     × (valueIn 5 n ≡ signMagnitude (ieeeSign 8 23 n) (significand 8 23 n * lastPlace 5 n))
     × (valueIn 2 n ≡ signedOf 32 n *ℤ pos (lastPlace 2 n)) × (valueIn 3 n ≡ signedOf 16 n *ℤ pos (lastPlace 3 n)) × (valueIn 8 n ≡ signedOf 8 n *ℤ pos (lastPlace 8 n))
 last-places n = (refl, refl, refl, refl, refl, refl)
 
+-- THEOREM. The last place of a written zero of code 1 is that of C = 0, 16 ^ -70.
+-- Rules out the last place of another C for 00000000, or none.
+pub zero-place : lastPlace 1 0 ≡ 2 ^ (denominatorPower - 280)
+zero-place = refl
+
 -- THEOREM. "and for code 1 half of the last fraction place of the written word": the word that exact writing gives of the nearest value. So
--- under all six codes, under code 4 by the last bit of d and under code 5 by that of the significand.
+-- under all six codes, under code 4 by the last bit of d and under code 5 by that of the significand. For code 4 it is a weak bound, since the
+-- written word has the smallest gain: `half-gain` is the sharp one.
 -- Rules out rounding to fewer digits than the written word has.
 pub half-place : (code : ℕ) (v : ℤ) (n : ℕ) → isCode code ≡ true → Inside code v → wordOf code (nearestValue code v) ≡ Word n → 2 * distance v (nearestValue code v) ≤ lastPlace code n
 half-place code v n k i e = le-trans (half-reaching code v k i) (go code (code-is code k) i e)
@@ -219,7 +302,7 @@ changes-none code v k = (
   λ h. changes-same code v .1 (nearest-self (formatOf code) (code-rounds code k) v h),
 )
 
--- THEOREM. Otherwise it counts 1.
+-- THEOREM. It counts 0 or 1, so 1 for every other value.
 -- Rules out a count by how far a value moves.
 pub changes-one : (code : ℕ) (v : ℤ) → (changes code v ≡ 0) ⊎ (changes code v ≡ 1)
 changes-one code v = go (eqb (distance v (nearestValue code v)) 0)

@@ -2,5 +2,6 @@
 pub mod Refusals
 pub mod Values
 pub mod Meanings
+pub mod WrittenWords
 pub mod Reels
 pub mod Theorems

@@ -138,8 +138,8 @@ module _ (code : ℕ) (c : isCode code ≡ true) where
   pub nearest-unchanged : (m : Meaning) → meaningChanges code (nearestMeaning code m) ≡ 0
   nearest-unchanged m = unchanged-fitting (nearestMeaning code m) .1 (nearest-fitting m)
 
-  pub nearest-again : (m : Meaning) → nearestMeaning code (nearestMeaning code m) ≡ nearestMeaning code m
-  nearest-again m = fitting-same (nearestMeaning code m) (nearest-fitting m)
+  pub meaning-again : (m : Meaning) → nearestMeaning code (nearestMeaning code m) ≡ nearestMeaning code m
+  meaning-again m = fitting-same (nearestMeaning code m) (nearest-fitting m)
 
   -- and it is proper where the meaning is.
   pub nearest-proper : (n i : ℕ) (m : Meaning) → Proper n i m → Proper n i (nearestMeaning code m)

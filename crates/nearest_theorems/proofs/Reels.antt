@@ -1,7 +1,7 @@
 -- What nearest writing needs, and the reel that it writes: what that means and holds, sample by sample, and what reading it gives. Where each
 -- byte of a record must be below 256, the law says so; nothing else is assumed.
 use mathlib.Core.Path.{_≡_, refl, sym, ap, ap₂, _∙_}
-use mathlib.Core.List.{List, [], _∷_, _++_}
+use mathlib.Core.List.{List, [], _∷_, _++_, map}
 use mathlib.Core.Bool.{Bool, true, not}
 use Prim.Native.Nat.{ℕ, _+_, _*_, _≤_, _<_}
 use native.Mathlib.Omega.{arith}
@@ -20,7 +20,10 @@ use Rattle.numbers.proofs.CauseLaws.{passed, then-fine, at-most}
 use Rattle.numbers.proofs.WalkLaws.{cons-eq, walk-each, walk-same, map-walk}
 use Rattle.formats.specs.Codes.{isCode, sampleBytes, wordLength}
 use Rattle.formats.specs.Value.{exactValue}
+use Rattle.formats.specs.Words.{wordOf}
 use Rattle.formats.specs.Nearest.{nearestValue, changes, differs}
+use Rattle.formats.specs.declared.Written.{Written}
+use Rattle.format_theorems.proofs.NearestTheorems.{nearest-means}
 use Rattle.value.specs.Pair.{pairLength}
 use Rattle.reel.specs.Layout.{firstTrace, traceHeader, stride, intervalOf, samplesOf, codeOf, tracesOf}
 use Rattle.reel.specs.Meaning.{Trace, traceMeaning, Meaning, meaningOf}
@@ -32,6 +35,7 @@ use Rattle.read_reel.specs.Reading.{recordLengthOf, readOutcome}
 use Rattle.write_reel.specs.Reel.{reelOf}
 use Rattle.write_reel.specs.Writing.{reelLengthOf}
 use Rattle.write_reel.specs.Nearest.{nearestTrace, nearestMeaning, traceChanges, meaningChanges, nearestCauses, nearestEnd, nearestOutcome}
+use Rattle.reel_theorems.specs.ReelTable.{sampleAt}
 use Rattle.demands.specs.ValidRecord.{tracePlace}
 use Rattle.demands.specs.Results.{sampleValue}
 use Rattle.demands.proofs.Proper.{Proper}
@@ -43,6 +47,7 @@ use Rattle.demands.proofs.ReelBack.{reel-bytes, reel-code, reel-samples, reel-i
 use Rattle.demands.proofs.RecordBack.{record-length, record-bytes, record-samples, record-traces, record-no-cause, record-again}
 use Rattle.nearest_theorems.specs.Results.{heldSample, samplesChanged, SamplesNearest, NearestRead}
 use Rattle.nearest_theorems.proofs.Meanings.{nearest-fitting, nearest-proper}
+use Rattle.nearest_theorems.proofs.WrittenWords.{wordIn, reel-words}
 
 -- ## What it needs
 
@@ -208,6 +213,26 @@ module _ (s : List ℕ) (b : Bytes s) (code : ℕ) (c : isCode code ≡ true) (v
       ap (λ (x : Trace). x .values) (each-trace k l) ∙ map-walk (nearestValue code) (heldValue s) pairLength n (tracePlace s k + 186) in
       rw (code-is, samples) (walk-each word (λ p. nearestValue code (heldValue s p)) (sampleBytes code) pairLength n n (at + traceHeader) (tracePlace s k + 186) all j m)
 
+  -- LAW. Its word is that of this value.
+  each-word : (k j : ℕ) → k < t → j < n → wordOf code (nearestValue code (heldSample s k j)) ≡ wordIn reel code (sampleAt reel k j)
+  unfolding heldBy heldTrace
+  each-word k j l m =
+      let w = sampleBytes code in
+      let at = firstTrace + k * stride n w in
+      let words : ℕ → List Written = λ p. walk (wordIn reel code) w n (p + traceHeader) in
+      let written : Trace → List Written = λ x. map (wordOf code) (x .values) in
+      let held : ℕ → List Written = λ p. written (nearestTrace code (heldTrace s n p)) in
+      let nearest : ℕ → Written = λ p. wordOf code (nearestValue code (heldValue s p)) in
+      let all : walk words (stride n w) t firstTrace ≡ walk held (heldStride n) t tracesPlace =
+      ap (λ (x : ℕ). walk words (stride n w) x firstTrace) (sym count) ∙ reel-words code c n i meant proper fitting
+      ∙ ap (map written) (map-walk (nearestTrace code) (heldTrace s n) (heldStride n) t tracesPlace)
+      ∙ map-walk written (λ p. nearestTrace code (heldTrace s n p)) (heldStride n) t tracesPlace in
+      let one : walk (wordIn reel code) w n (at + traceHeader) ≡ walk nearest pairLength n (tracePlace s k + 186) =
+      walk-each words held (stride n w) (heldStride n) t t firstTrace tracesPlace all k l
+      ∙ ap (map (wordOf code)) (map-walk (nearestValue code) (heldValue s) pairLength n (tracePlace s k + 186))
+      ∙ map-walk (wordOf code) (λ p. nearestValue code (heldValue s p)) pairLength n (tracePlace s k + 186) in
+      rw (code-is, samples) (sym (walk-each (wordIn reel code) nearest w pairLength n n (at + traceHeader) (tracePlace s k + 186) one j m))
+
   -- A walk by ones from 0 on comes to each number.
   by-ones : (j : ℕ) → j ≡ 0 + j * 1
   by-ones j = omega arith
@@ -233,4 +258,13 @@ module _ (s : List ℕ) (b : Bytes s) (code : ℕ) (c : isCode code ≡ true) (v
 
   -- LAW. So the reel is, sample by sample, the nearest to the record.
   pub nearest-by-sample : SamplesNearest s code t n (meaningChanges code (heldBy s)) reel
-  nearest-by-sample = record { code-is = code-is; traces = traces; samples = samples; value = each-sample; count = counted }
+  nearest-by-sample =
+      record {
+        code-is = code-is;
+        traces = traces;
+        samples = samples;
+        value = each-sample;
+        near = λ k j l m. nearest-means code (heldSample s k j) (sampleValue reel k j) c .0 (each-sample k j l m);
+        word = each-word;
+        count = counted;
+      }

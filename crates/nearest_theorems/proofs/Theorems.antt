@@ -9,20 +9,21 @@
 -- bytes, as many as the length returned" (document 01).
 --
 -- - `nearest-ends`, `nearest-refused`, `nearest-taken`, `nearest-keeps`, `nearest-rest`: demand 1 for the call; `no-fourteen`: 14 doesn't
---   occur; `none-beside`: beside a refusal the count is 0; `nearest-writes`: a valid record is written whatever its samples.
+--   occur; `no-change-beside`: beside a refusal the count is 0; `nearest-writes`: a valid record is written whatever its samples.
 -- - `nearest-written`: where it is taken, the numbers returned are the record's T and N, the reel's length and the count, and the output's
 --   first bytes are the reel of what the record holds, each sample the nearest value of the code.
--- - `nearest-samples`: that is, sample j of trace k of the reel has the nearest value to that of the record's, and the count is the number of
---   samples that have other values in the reel than in the record; `differs-0` and `differs-1` say when two values count.
+-- - `nearest-samples`: that is, sample j of trace k of the reel has the nearest value to that of the record's, by CR 5's own sentences, and the
+--   word that exact writing gives for it; and the count is the number of samples that have other values in the reel than in the record;
+--   `differs-0` and `differs-1` say when two values count.
 -- - `count-bounds`: the count is at most T × N.
 -- - `count-zero`: it is 0 exactly when exact writing of the same record is taken; `zero-same`: then both leave the same bytes.
--- - `nearest-exact`: whenever exact writing is taken, nearest writing is, with the count 0 and the same output.
+-- - `exact-is-nearest`: whenever exact writing is taken, nearest writing is, with the count 0 and the same output.
 -- - `nearest-read`: the reel is read without refusal, and its record is valid and holds what the record held, each sample the nearest.
 -- - `nearest-back`: where the count is 0, reading the reel gives the record again; `back-only`: it does so in no other case.
 -- - `nearest-twice`: writing to the nearest once more, under the same code, what was so written and read gives the count 0 and the same reel.
 --
--- Where a theorem reads a reel, each byte of the record is below 256 and the outputs are long enough; nothing else is assumed. Every record,
--- code and output is meant.
+-- Where a theorem reads a reel or looks at its samples, each byte of the record is below 256 and the outputs are long enough; nothing else is
+-- assumed. Every record, code and output is meant.
 use mathlib.Core.Path.{_≡_, refl, sym, ap, ap₂, _∙_, subst}
 use mathlib.Core.List.{List, [], _∷_, _++_}
 use mathlib.Core.Logic.{_⊎_, ⊎-elim}
@@ -57,16 +58,17 @@ use Rattle.nearest_theorems.specs.NearestTable.{NearestRow}
 use Rattle.nearest_theorems.specs.Results.{NearestWritten, SamplesNearest, NearestRead}
 use Rattle.nearest_theorems.proofs.Refusals.{exact-nearest, row-number}
 use Rattle.formats.proofs.DifferLaws.{same-differs, other-differs}
-use Rattle.nearest_theorems.proofs.Meanings.{nearest-size, changes-bound, unchanged-fitting, fitting-same, nearest-fitting, nearest-unchanged, nearest-again}
+use Rattle.nearest_theorems.proofs.Meanings.{nearest-size, changes-bound, unchanged-fitting, fitting-same, nearest-fitting, nearest-unchanged, meaning-again}
 use Rattle.nearest_theorems.proofs.Reels.{Needs, fine-needs, needs-taken, nearest-valid, nearest-held, nearest-samples-held, nearest-count-held, nearest-record, nearest-reads, nearest-by-sample}
 
 -- ## Demand 1
 
 module _ (s : List ℕ) (code : ℕ) (out : List ℕ) where
-  -- What the call says, by what its checks answer, and these.
+  -- What nearest writing says, by what its checks answer;
   abbrev nearestSays : Check → Said
   nearestSays c = nearestEnd s code out c .said
 
+  -- and its checks.
   abbrev nearestChecks : Check
   nearestChecks = nearestCauses s code (length out)
 
@@ -111,8 +113,8 @@ module _ (s : List ℕ) (code : ℕ) (out : List ℕ) where
 
   -- THEOREM. "beside a refusal the count is 0".
   -- Alone it rules out nothing: a refusal says no count.
-  pub none-beside : (number place : ℕ) → nearestOutcome s code out .said ≡ refused number place → countSaid (nearestOutcome s code out .said) ≡ 0
-  none-beside number place e = ap countSaid e
+  pub no-change-beside : (number place : ℕ) → nearestOutcome s code out .said ≡ refused number place → countSaid (nearestOutcome s code out .said) ≡ 0
+  no-change-beside number place e = ap countSaid e
 
   -- THEOREM. "Beside exact writing, add writing where each sample becomes the nearest value of the target code": a valid record is written so,
   -- whatever its samples, exactly when the code is one of the codes and the output is long enough.
@@ -171,7 +173,8 @@ module _ (s : List ℕ) (code : ℕ) (out : List ℕ) where
 
   -- THEOREM. "each sample becomes the nearest value of the target code" and "The answer counts the samples whose value changed": sample by
   -- sample, by the bytes of the reel that was written.
-  -- Rules out a call that rounds toward zero, one that gives the record's first trace for all, and one that counts traces.
+  -- Rules out a call that rounds toward zero, one that takes the farther from zero of two equally near, one that gives the record's first
+  -- trace for all, one that writes a word that isn't normal, a larger gain than needed or -0, and one that counts traces.
   pub nearest-samples : (t n l c : ℕ) → Bytes s → nearestOutcome s code out .said ≡ taken (t ∷ n ∷ l ∷ c ∷ [])
       → SamplesNearest s code t n c (take l (nearestOutcome s code out .bytes))
   nearest-samples t n l c b e =
@@ -231,9 +234,9 @@ module _ (s : List ℕ) (code : ℕ) (out : List ℕ) where
   -- THEOREM. "Beside exact writing": whenever exact writing is taken, nearest writing is, with the same T, N and length, the count 0, and the
   -- same output.
   -- Rules out a call that declines what exact writing takes, and one that rounds a sample which the code holds exactly.
-  pub nearest-exact : (t n l : ℕ) → writeOutcome s code out .said ≡ taken (t ∷ n ∷ l ∷ [])
+  pub exact-is-nearest : (t n l : ℕ) → writeOutcome s code out .said ≡ taken (t ∷ n ∷ l ∷ [])
       → nearestOutcome s code out ≡ record { said = taken (t ∷ n ∷ l ∷ 0 ∷ []); bytes = writeOutcome s code out .bytes }
-  nearest-exact t n l e =
+  exact-is-nearest t n l e =
       let w = written-needs s code out (t ∷ n ∷ l ∷ []) e in
       let same : taken (writtenNumbers s code) ≡ taken (t ∷ n ∷ l ∷ []) = ap (λ (o : Outcome). o .said) (sym (write-taken s code out w)) ∙ e in
       let traces : heldCount s (heldSamples s) ≡ t = cc in
@@ -292,7 +295,7 @@ module _ (s : List ℕ) (code : ℕ) (out : List ℕ) where
       let size : reelLengthOf r code ≡ l = ap₂ (reelLength code) traces samples ∙ sym (k .size) in
       let held = nearest-held s b code g (w .form) in
       let changed = ap (meaningChanges code) held ∙ nearest-unchanged code g (heldBy s) in
-      let reel = ap (λ (m : Meaning). reelOf code (nearestMeaning code m)) held ∙ ap (reelOf code) (nearest-again code g (heldBy s)) ∙ sym (k .content) in
+      let reel = ap (λ (m : Meaning). reelOf code (nearestMeaning code m)) held ∙ ap (reelOf code) (meaning-again code g (heldBy s)) ∙ sym (k .content) in
       ap (λ (x : List ℕ). nearestOutcome x code out₃) is
       ∙ needs-taken r code out₃ (record { code-is = g; form = nearest-valid s b code g (w .form); room = rw size room })
       ∙ ap₂ (λ (x y : List ℕ). record { said = taken x; bytes = y }) (cons-eq traces (cons-eq samples (cons-eq size (cons-eq changed refl))))

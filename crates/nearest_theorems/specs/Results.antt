@@ -5,12 +5,16 @@ use mathlib.Core.List.{List, [], _∷_, _++_}
 use Prim.Native.Nat.{ℕ, _+_, _*_, _<_}
 use lib.ListN.{length, take, drop}
 use lib.IntN.{ℤ}
-use Rattle.numbers.specs.Walk.{walk, sum}
+use Rattle.numbers.specs.Walk.{walk, sum, bytesAt}
 use Rattle.numbers.specs.Outcome.{taken}
 use Rattle.numbers.specs.Terms.{Bytes}
 use Rattle.numbers.specs.declared.Check.the-variants.{Fine}
-use Rattle.formats.specs.Codes.{sampleBytes}
+use Rattle.formats.specs.Codes.{sampleBytes, wordLength}
+use Rattle.formats.specs.Value.{wordNumber}
+use Rattle.formats.specs.Words.{wordOf}
 use Rattle.formats.specs.Nearest.{nearestValue, differs}
+use Rattle.formats.specs.declared.Written.the-variants.{Word}
+use Rattle.format_theorems.specs.Nearness.{NearestOf}
 use Rattle.reel.specs.Layout.{codeOf, samplesOf, tracesOf}
 use Rattle.reel.specs.Causes.{causesOf}
 use Rattle.reel.specs.Meaning.{meaningOf}
@@ -20,6 +24,7 @@ use Rattle.record.specs.Held.{heldValue, heldBy}
 use Rattle.read_reel.specs.Reading.{readOutcome}
 use Rattle.write_reel.specs.Reel.{reelOf}
 use Rattle.write_reel.specs.Nearest.{nearestMeaning, meaningChanges, nearestOutcome}
+use Rattle.reel_theorems.specs.ReelTable.{sampleAt}
 use Rattle.demands.specs.ValidRecord.{pairPlace}
 use Rattle.demands.specs.Results.{sampleValue, RecordHolds}
 
@@ -59,6 +64,11 @@ pub record SamplesNearest (r : List ℕ) (code t n c : ℕ) (reel : List ℕ) : 
   pub samples : samplesOf reel ≡ n
   -- Sample j of trace k, by the bytes of its word, has the nearest value of the code to that of the record's sample j of trace k.
   pub value : (k j : ℕ) → k < t → j < n → sampleValue reel k j ≡ nearestValue code (heldSample r k j)
+  -- CR 5's own sentences hold of it: no word of the code that has a value is nearer, and of two equally near it is the one nearer zero.
+  pub near : (k j : ℕ) → k < t → j < n → NearestOf code (heldSample r k j) (sampleValue reel k j)
+  -- Its word is the one that exact writing gives for that value: under code 1 the normal one, under code 4 that of the smallest gain, under
+  -- code 5 +0 for zero. It is the number of the bytes at its place.
+  pub word : (k j : ℕ) → k < t → j < n → wordOf code (nearestValue code (heldSample r k j)) ≡ Word (wordNumber code (bytesAt reel (sampleAt reel k j) wordLength))
   -- The count is that of the samples whose value in the reel is another than in the record.
   pub count : c ≡ samplesChanged r reel t n
 
