@@ -522,16 +522,16 @@ fn near_whole(x: Format, w: u32, neg: bool, o: u32, k: u32) -> Rounded
     }
 }
 
-// The word of V = ± f × 2^k under code 4 with the smallest gain, for an f that may be even, or 0.
-fn gain_bits(neg: bool, f: u32, k: u32) -> u32
-    requires { ⌜ (f < 2 ^ (mantissaBits - 1)) × (k + mantissaBits ≤ denominatorPower + highestExponent) ⌝ }
-    ensures { λ r. ⌜ r ≡ wordBits (gainWord (signMagnitude neg (f * 2 ^ k))) ⌝ }
+// The word of the value of a place under code 4, with the smallest gain: f is halved as often as it is even and the gain isn't 0.
+fn gain_bits(neg: bool, c: u32, f: u32) -> u32
+    requires { ⌜ (c ≤ 255) × (f < 2 ^ 15 + pick neg 1 0) ⌝ }
+    ensures { λ r. ⌜ r ≡ wordBits (gainWord (signMagnitude neg (f * unit gainFormat c))) ⌝ }
 {
     if f == 0 {
         return ZERO_WORD;
     }
-    let t = u32::trailing_zeros(f);
-    bits_of(gain_of(neg, shifted_down(f, t), k + t))
+    let t = lesser(u32::trailing_zeros(f), 255 - c);
+    (255 - c - t) * 0x1_0000 + complement(16, neg, shifted_down(f, t))
 }
 
 // The word of the nearest value to V = ± o × 2^k under code 4, for an odd o.
@@ -541,7 +541,7 @@ fn near_gain(x: Format, neg: bool, o: u32, k: u32) -> Rounded
 {
     let p = near_place(x, neg, o, k);
     Rounded {
-        bits: gain_bits(neg, p.f, GAIN_BASE + p.c),
+        bits: gain_bits(neg, p.c, p.f),
         changed: p.changed,
     }
 }
