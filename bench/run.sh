@@ -20,4 +20,5 @@ model=$(sed -n 's/^model name[^:]*: *//p' /proc/cpuinfo | head -n 1)
 memory=$(awk '/^MemTotal/ { printf "%.0f", $2 / 1e6 }' /proc/meminfo)
 echo "Processor: $model, $(nproc) cores; memory: $memory GB; $(rustc --version | cut -d ' ' -f 1-2)."
 build/cargo/bench/release/bench ${reader:+--segyio "$reader"} "$@"
+build/cargo/bench/release/bench nearest "$@"
 build/cargo/bench/release/bench growth "$@"

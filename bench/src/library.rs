@@ -1,7 +1,7 @@
-//! The two calls of the library that are measured, through the safe module over its C interface.
+//! The three calls of the library that are measured, through the safe module over its C interface.
 //! Their answers are given in the terms that all contenders share.
 
-use independent::{ReelRead, Refused, Taken};
+use independent::{NearestWritten, ReelRead, Refused, Taken};
 
 pub fn read_reel(reel: &[u8], out: &mut [u8]) -> Result<ReelRead, Refused> {
     let aukpocket::ReelRead {
@@ -28,6 +28,22 @@ pub fn write_reel(record: &[u8], code: u32, out: &mut [u8]) -> Result<Taken, Ref
         traces,
         samples,
         length: length as u64,
+    })
+}
+
+/// Nearest writing.
+pub fn write_nearest(record: &[u8], code: u32, out: &mut [u8]) -> Result<NearestWritten, Refused> {
+    let aukpocket::NearestWritten {
+        traces,
+        samples,
+        length,
+        changed,
+    } = aukpocket::write_nearest(record, code, out).map_err(refused)?;
+    Ok(NearestWritten {
+        traces,
+        samples,
+        length: length as u64,
+        changed,
     })
 }
 

@@ -1,6 +1,8 @@
-//! Measures the library's reading and writing of whole reels beside other ways to do the same.
+//! Measures the library's reading and writing of whole reels, exactly and to the nearest, beside other ways
+//! to do the same.
 
 mod library;
+mod nearest;
 mod passes;
 mod reels;
 mod same;
@@ -11,7 +13,8 @@ mod tests;
 mod tuned;
 mod versions;
 
-use independent::{ReelRead, Refused, Taken};
+use independent::{NearestWritten, ReelRead, Refused, Taken};
+use reels::Kind;
 use segyio::Segyio;
 use std::hint::black_box;
 use std::path::PathBuf;
@@ -21,8 +24,10 @@ use tables::{Call, Row};
 
 const USAGE: &str = "usage: bench [--mb SIZE] [--runs COUNT] [--codes 1,2,3,...] [--segyio PYTHON]
        bench growth [--mb MOST] [--runs COUNT]
+       bench nearest [--mb SIZE] [--runs COUNT] [--codes 1,2,3,...] [--samples N]
        bench versions OLD OLD NEW NEW [--mb SIZE] [--runs COUNT] [--codes 1,2,3,...] [--samples N]
-       bench one read|write CODE [--not-normal] [--mb SIZE] [--who library|same|tuned|independent]";
+       bench one read|write|nearest CODE [--not-normal] [--kind fit|half|rounded|beyond] [--mb SIZE]
+                 [--who library|same|tuned|independent]";
 
 /// N of the reels that are compared, where no other is asked for.
 const SAMPLES: u16 = 2_000;
@@ -39,8 +44,72 @@ const RUNS: usize = 7;
 const SIZE: usize = 256;
 const SIZES: [usize; 6] = [1, 4, 16, 64, 256, 1_000];
 
-/// What reading answers, and writing, which counts nothing and has 0 there.
-type Answer = Result<ReelRead, Refused>;
+/// What a call answers. Reading counts words that aren't normal, nearest writing samples that changed; what
+/// a call doesn't count is 0.
+type Answer = Result<Answered, Refused>;
+
+/// The counts of a call that is taken.
+#[derive(Clone, Copy, Debug, PartialEq)]
+struct Answered {
+    traces: u64,
+    samples: u64,
+    length: u64,
+    not_normal: u64,
+    changed: u64,
+}
+
+impl From<Taken> for Answered {
+    fn from(taken: Taken) -> Answered {
+        let Taken {
+            traces,
+            samples,
+            length,
+        } = taken;
+        Answered {
+            traces,
+            samples,
+            length,
+            not_normal: 0,
+            changed: 0,
+        }
+    }
+}
+
+impl From<ReelRead> for Answered {
+    fn from(read: ReelRead) -> Answered {
+        let ReelRead {
+            traces,
+            samples,
+            length,
+            not_normal,
+        } = read;
+        Answered {
+            traces,
+            samples,
+            length,
+            not_normal,
+            changed: 0,
+        }
+    }
+}
+
+impl From<NearestWritten> for Answered {
+    fn from(written: NearestWritten) -> Answered {
+        let NearestWritten {
+            traces,
+            samples,
+            length,
+            changed,
+        } = written;
+        Answered {
+            traces,
+            samples,
+            length,
+            not_normal: 0,
+            changed,
+        }
+    }
+}
 
 /// Who is measured, in the order of the tables.
 #[derive(Clone, Copy, PartialEq)]
@@ -71,6 +140,7 @@ struct Options {
     codes: Vec<u32>,
     samples: u16,
     not_normal: bool,
+    kind: Kind,
     who: Who,
     python: Option<String>,
 }
@@ -83,6 +153,7 @@ fn main() {
     match words[..] {
         [] => compare(&options),
         ["growth"] => growth(&options),
+        ["nearest"] => nearest::compare(&options),
         ["versions", old, old_again, new, new_again] => {
             versions::compare(&options, [old, old_again, new, new_again])
         }
@@ -90,10 +161,14 @@ fn main() {
             let call = match call {
                 "read" => Call::Read,
                 "write" => Call::Write,
+                "nearest" => Call::Nearest,
                 _ => usage(),
             };
             let code = code_of(code).unwrap_or_else(|| usage());
-            if options.not_normal && code != 1 {
+            if options.not_normal && (code != 1 || call == Call::Nearest) {
+                usage();
+            }
+            if options.kind != Kind::Fit && call != Call::Nearest {
                 usage();
             }
             one(&options, call, code);
@@ -115,6 +190,7 @@ fn options() -> Option<Options> {
         codes: reels::SAMPLES.map(|(code, _)| code).to_vec(),
         samples: SAMPLES,
         not_normal: false,
+        kind: Kind::Fit,
         who: Who::Library,
         python: None,
     };
@@ -132,6 +208,15 @@ fn options() -> Option<Options> {
                     .collect::<Option<_>>()?
             }
             "--not-normal" => options.not_normal = true,
+            "--kind" => {
+                options.kind = match arguments.next()?.as_str() {
+                    "fit" => Kind::Fit,
+                    "half" => Kind::Half,
+                    "rounded" => Kind::Rounded,
+                    "beyond" => Kind::Beyond,
+                    _ => return None,
+                }
+            }
             "--segyio" => options.python = Some(arguments.next()?),
             "--who" => {
                 options.who = match arguments.next()?.as_str() {
@@ -159,31 +244,31 @@ fn code_of(text: &str) -> Option<u32> {
 
 /// One call of a Rust contender or of the library.
 fn call(who: Who, call: Call, code: u32, input: &[u8], out: &mut [u8]) -> Answer {
-    match (who, call) {
-        (Who::Library, Call::Read) => library::read_reel(input, out),
-        (Who::Library, Call::Write) => written(library::write_reel(input, code, out)),
-        (Who::Same, Call::Read) => same::read_reel(input, out),
-        (Who::Same, Call::Write) => written(same::write_reel(input, code, out)),
-        (Who::Tuned, Call::Read) => tuned::read_reel(input, out),
-        (Who::Tuned, Call::Write) => written(tuned::write_reel(input, code, out)),
-        (Who::Independent, Call::Read) => independent::read_reel(input, out),
-        (Who::Independent, Call::Write) => written(independent::write_reel(input, code, out)),
-        _ => unreachable!("it has no such call"),
+    match call {
+        Call::Read => match who {
+            Who::Library => library::read_reel(input, out),
+            Who::Same => same::read_reel(input, out),
+            Who::Tuned => tuned::read_reel(input, out),
+            Who::Independent => independent::read_reel(input, out),
+            _ => unreachable!("it has no such call"),
+        }
+        .map(Answered::from),
+        Call::Write => match who {
+            Who::Library => library::write_reel(input, code, out),
+            Who::Same => same::write_reel(input, code, out),
+            Who::Tuned => tuned::write_reel(input, code, out),
+            Who::Independent => independent::write_reel(input, code, out),
+            _ => unreachable!("it has no such call"),
+        }
+        .map(Answered::from),
+        Call::Nearest => match who {
+            Who::Library => library::write_nearest(input, code, out),
+            Who::Same => same::write_nearest(input, code, out),
+            Who::Independent => independent::write_nearest(input, code, out),
+            _ => unreachable!("it has no such call"),
+        }
+        .map(Answered::from),
     }
-}
-
-fn written(answer: Result<Taken, Refused>) -> Answer {
-    let Taken {
-        traces,
-        samples,
-        length,
-    } = answer?;
-    Ok(ReelRead {
-        traces,
-        samples,
-        length,
-        not_normal: 0,
-    })
 }
 
 /// The seconds of a call that is taken.
@@ -413,34 +498,36 @@ struct Grown {
 fn one(options: &Options, what: Call, code: u32) {
     let megabytes = options.megabytes.unwrap_or(SIZE);
     let reel = reel_of(code, options.samples, options.not_normal, megabytes);
-    let mut record = vec![1; record_length(&reel, code)];
-    let answer = match what {
-        Call::Read => call(
-            options.who,
-            what,
-            code,
-            black_box(&reel),
-            black_box(&mut record),
-        ),
+    let room = record_length(&reel, code);
+    let (input, room) = match what {
+        Call::Read => (reel, room),
         Call::Write => {
+            let mut record = vec![1; room];
             independent::read_reel(&reel, &mut record).expect("a valid reel");
-            let mut out = vec![1; reel.len()];
-            call(
-                options.who,
-                what,
-                code,
-                black_box(&record),
-                black_box(&mut out),
-            )
+            (record, reel.len())
+        }
+        Call::Nearest => {
+            let bytes = megabytes * MEGABYTE;
+            let record = reels::make_record(code, options.samples, bytes, options.kind);
+            (record, reel.len())
         }
     };
+    let mut out = vec![1; room];
+    let answer = call(
+        options.who,
+        what,
+        code,
+        black_box(&input),
+        black_box(&mut out),
+    );
     let taken = answer.expect("a call that is taken");
     println!(
-        "{}: {} traces of {} samples, {} bytes of reel, {} words not normal",
+        "{}: {} traces of {} samples, {} bytes of output, {} words not normal, {} samples changed",
         tables::name(options.who, what),
         taken.traces,
         taken.samples,
-        reel.len(),
-        taken.not_normal
+        taken.length,
+        taken.not_normal,
+        taken.changed
     );
 }

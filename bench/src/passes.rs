@@ -1,7 +1,7 @@
 //! The library's two passes in plain Rust, the first over all causes, the second writing into the
 //! lent buffer, around what is done for each group of a trace header and for each sample.
 
-use independent::{ReelRead, Refused, Taken};
+use independent::{NearestWritten, ReelRead, Refused, Taken};
 
 const CARD_BYTES: usize = 3_200;
 const REEL_HEADERS: usize = 3_600;
@@ -70,6 +70,13 @@ pub trait Steps {
     fn put_words(code: u32, pairs: &[u8], words: &mut [u8]);
 }
 
+/// What is done for each sample in nearest writing.
+pub trait NearestSteps: Steps {
+    /// Puts the word of the nearest value for each pair, and says how many have another value. The first
+    /// pass has found that each pair is canonical.
+    fn put_nearest(code: u32, pairs: &[u8], words: &mut [u8]) -> u64;
+}
+
 fn refused<T>(number: u64, beside: usize) -> Result<T, Refused> {
     Err(Refused {
         number,
@@ -98,6 +105,13 @@ pub fn sample_bytes(code: u32) -> usize {
 /// The bytes of a trace in a record.
 fn held_stride(samples: usize) -> usize {
     2 * FIELD_HEAD + TRACE_FIELDS + samples * PAIR_BYTES
+}
+
+/// The pairs of each trace of a record.
+pub fn held_pairs(record: &mut [u8], samples: usize) -> impl Iterator<Item = &mut [u8]> {
+    record[RECORD_HEAD..]
+        .chunks_exact_mut(held_stride(samples))
+        .map(|held| &mut held[2 * FIELD_HEAD + TRACE_FIELDS..])
 }
 
 // ## Reading
@@ -248,17 +262,59 @@ fn fill_in(fields: &mut [u8], at: usize, own: u16) {
 
 #[inline(always)]
 pub fn write_reel<S: Steps>(record: &[u8], code: u32, out: &mut [u8]) -> Result<Taken, Refused> {
-    let RecordNumbers { samples, traces } = check_record::<S>(record, code)?;
+    let RecordNumbers { samples, traces } =
+        check_record::<S>(record, code, |pairs| S::check_pairs(code, pairs))?;
     let stride = TRACE_HEADER + samples * sample_bytes(code);
     let length = REEL_HEADERS + traces * stride;
     if out.len() < length {
         return refused(10, length);
     }
-    put_reel::<S>(record, code, samples, stride, &mut out[..length]);
+    put_reel(
+        record,
+        code,
+        samples,
+        stride,
+        &mut out[..length],
+        |pairs, words| S::put_words(code, pairs, words),
+    );
     Ok(Taken {
         traces: traces as u64,
         samples: samples as u64,
         length: length as u64,
+    })
+}
+
+/// Each sample as the nearest value of the code. The first pass looks at the record alone.
+#[inline(always)]
+pub fn write_nearest<S: NearestSteps>(
+    record: &[u8],
+    code: u32,
+    out: &mut [u8],
+) -> Result<NearestWritten, Refused> {
+    let RecordNumbers { samples, traces } =
+        check_record::<S>(record, code, |pairs| match S::uncanonical_pair(pairs) {
+            None => Ok(()),
+            Some(k) => Err((NOT_CANONICAL, k)),
+        })?;
+    let stride = TRACE_HEADER + samples * sample_bytes(code);
+    let length = REEL_HEADERS + traces * stride;
+    if out.len() < length {
+        return refused(10, length);
+    }
+    let mut changed = 0;
+    put_reel(
+        record,
+        code,
+        samples,
+        stride,
+        &mut out[..length],
+        |pairs, words| changed += S::put_nearest(code, pairs, words),
+    );
+    Ok(NearestWritten {
+        traces: traces as u64,
+        samples: samples as u64,
+        length: length as u64,
+        changed,
     })
 }
 
@@ -267,7 +323,13 @@ struct RecordNumbers {
     traces: usize,
 }
 
-fn check_record<S: Steps>(record: &[u8], code: u32) -> Result<RecordNumbers, Refused> {
+/// 11, and 12 and 13 with what else is looked for in the pairs of a trace: the first that is refused, by the
+/// number of the cause and the count of those before it.
+fn check_record<S: Steps>(
+    record: &[u8],
+    code: u32,
+    check_pairs: impl Fn(&[u8]) -> Result<(), (u64, usize)>,
+) -> Result<RecordNumbers, Refused> {
     if !is_code(code) {
         return refused(11, 0);
     }
@@ -293,7 +355,7 @@ fn check_record<S: Steps>(record: &[u8], code: u32) -> Result<RecordNumbers, Ref
     let mut traces = 0;
     while more(record, traces, at) {
         let pairs = check_head::<S>(record, count, interval, at)?;
-        if let Err((number, k)) = S::check_pairs(code, pairs) {
+        if let Err((number, k)) = check_pairs(pairs) {
             // Any 12 or 13 behind a sample that doesn't fit comes before it.
             check_form::<S>(record, count, interval, traces, at)?;
             let place = at + 2 * FIELD_HEAD + TRACE_FIELDS + PAIR_BYTES * k;
@@ -375,7 +437,15 @@ fn check_field(record: &[u8], at: usize, tag: u8, size: usize) -> Result<&[u8], 
     Ok(&field[FIELD_HEAD..FIELD_HEAD + size])
 }
 
-fn put_reel<S: Steps>(record: &[u8], code: u32, samples: usize, stride: usize, out: &mut [u8]) {
+/// Puts the reel, with what puts the words of a trace from its pairs.
+fn put_reel(
+    record: &[u8],
+    code: u32,
+    samples: usize,
+    stride: usize,
+    out: &mut [u8],
+    mut put_samples: impl FnMut(&[u8], &mut [u8]),
+) {
     let (headers, traces) = out.split_at_mut(REEL_HEADERS);
     let (cards, binary) = headers.split_at_mut(CARD_BYTES);
     cards.copy_from_slice(&record[FIELD_HEAD..][..CARD_BYTES]);
@@ -393,6 +463,6 @@ fn put_reel<S: Steps>(record: &[u8], code: u32, samples: usize, stride: usize, o
         fields.copy_from_slice(&held[FIELD_HEAD..][..TRACE_FIELDS]);
         unassigned.fill(0);
 
-        S::put_words(code, &held[2 * FIELD_HEAD + TRACE_FIELDS..], words);
+        put_samples(&held[2 * FIELD_HEAD + TRACE_FIELDS..], words);
     }
 }

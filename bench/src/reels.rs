@@ -1,6 +1,7 @@
-//! The reels that are read and written, made on the spot and the same at every run.
+//! The reels that are read and written, and the records that are written to the nearest, made on the spot
+//! and the same at every run.
 
-use crate::passes::{sample_bytes, MOST_TRACES};
+use crate::passes::{held_pairs, sample_bytes, MOST_TRACES, PAIR_BYTES};
 
 const REEL_HEADERS: usize = 3_600;
 const TRACE_HEADER: usize = 240;
@@ -20,6 +21,61 @@ pub const SAMPLES: [(u32, &str); 6] = [
 pub const ONE_IN: u32 = 16;
 pub const NOT_NORMAL: &str =
     "1 in 16 not normal: of these 6 in 8 have 1 to 5 zeros in front of their fraction, 1 in 8 is zero with a characteristic, 1 in 8 is 80000000";
+
+/// What the samples of a record are to the code under which it is written to the nearest.
+#[derive(Clone, Copy, PartialEq)]
+pub enum Kind {
+    Fit,
+    Half,
+    Rounded,
+    Beyond,
+}
+
+/// These kinds by their names, and for the reader of a table.
+pub const KINDS: [(Kind, &str, &str); 4] = [
+    (
+        Kind::Fit,
+        "all fit",
+        "the samples of the code's reel, none of which changes",
+    ),
+    (
+        Kind::Half,
+        "1 in 2 rounded",
+        "as the next, but 1 in 2, at random, is a whole number of 1 to 7 bits, which doesn't change",
+    ),
+    (
+        Kind::Rounded,
+        "all rounded",
+        "odd mantissas of 25 to 31 bits, both signs; before the point -24 to 24 bits under codes 1 and 5, 0 to 23 under code 2, 0 to 15 under codes 3 and 4, 0 to 7 under code 8; 1 in 64 is zero, and all others change",
+    ),
+    (
+        Kind::Beyond,
+        "1 in 8 beyond",
+        "the same, but 1 in 8, at random, is 1 to 8 bits beyond the range",
+    ),
+];
+
+/// How many bits values have before the point, the least and the most: of those that are within the range
+/// of a code and have to be rounded, and of those that are beyond it.
+fn bits_within(code: u32) -> (i16, i16) {
+    match code {
+        1 | 5 => (-24, 24),
+        2 => (0, 23),
+        3 | 4 => (0, 15),
+        _ => (0, 7),
+    }
+}
+
+fn bits_beyond(code: u32) -> (i16, i16) {
+    let within = match code {
+        1 => 252,
+        2 => 31,
+        3 | 4 => 15,
+        5 => 128,
+        _ => 7,
+    };
+    (within + 1, within + 8)
+}
 
 /// What the trace headers are: the elevations and the coordinates. Either scalar is drawn anew for each
 /// trace, which is harder than a reel that has one.
@@ -138,6 +194,52 @@ impl Random {
             }
         }
     }
+}
+
+impl Random {
+    /// The pair of a sample of a kind, but for those that fit.
+    pub fn pair(&mut self, code: u32, kind: Kind) -> [u8; PAIR_BYTES] {
+        if self.below(64) == 0 {
+            return [0; PAIR_BYTES];
+        }
+        if kind == Kind::Half && self.below(2) == 0 {
+            let odd = self.below(128) as i32 | 1;
+            return self.with_sign(0, odd);
+        }
+        let (least, most) = if kind == Kind::Beyond && self.below(8) == 0 {
+            bits_beyond(code)
+        } else {
+            bits_within(code)
+        };
+        let bits = 25 + self.below(7);
+        let odd = ((0x8000_0000 | self.next()) >> (32 - bits) | 1) as i32;
+        let before = least + self.below((most - least + 1) as u32) as i16;
+        self.with_sign(before - bits as i16, odd)
+    }
+
+    /// The pair of an exponent and a mantissa of either sign.
+    fn with_sign(&mut self, e: i16, odd: i32) -> [u8; PAIR_BYTES] {
+        let m = if self.next() >> 31 == 0 { odd } else { -odd };
+        let ([a, b], [c, d, e, f]) = (e.to_be_bytes(), m.to_be_bytes());
+        [a, b, c, d, e, f]
+    }
+}
+
+/// A record for a code whose reel has about so many bytes.
+pub fn make_record(code: u32, samples: u16, bytes: usize, kind: Kind) -> Vec<u8> {
+    let reel = make(code, samples, bytes);
+    let mut record = vec![1; crate::record_length(&reel, code)];
+    independent::read_reel(&reel, &mut record).expect("a valid reel");
+    if kind == Kind::Fit {
+        return record;
+    }
+    let mut random = Random(1980 + u64::from(code));
+    for pairs in held_pairs(&mut record, usize::from(samples)) {
+        for pair in pairs.chunks_exact_mut(PAIR_BYTES) {
+            pair.copy_from_slice(&random.pair(code, kind));
+        }
+    }
+    record
 }
 
 /// A reel of code 1 of about so many bytes, in which one word in so many isn't normal.

@@ -1,11 +1,13 @@
 //! The library's own algorithm in plain Rust: its two passes, with its steps and its tests for each
-//! group of a trace header and for each sample, one for one. It is what the proved code would be if a
-//! Rust programmer had written it, and nothing in it was chosen by measuring but how far it follows the
-//! library in code 1: there it takes a word's first byte before the bytes are swapped, as the library does.
+//! group of a trace header and for each sample, one for one, in nearest writing too. It is what the proved
+//! code would be if a Rust programmer had written it, and nothing in it was chosen by measuring but how far
+//! it follows the library in code 1: there it takes a word's first byte before the bytes are swapped, as the
+//! library does.
 
-use crate::passes::{self, Steps, BAD_GAIN, NOT_CANONICAL, NOT_FINITE, PAIR_BYTES, UNFIT};
+use crate::passes::{self, NearestSteps, Steps, PAIR_BYTES};
+use crate::passes::{BAD_GAIN, NOT_CANONICAL, NOT_FINITE, UNFIT};
 use crate::passes::{COORDINATES, COORDINATE_SCALAR, ELEVATIONS, ELEVATION_SCALAR};
-use independent::{ReelRead, Refused, Taken};
+use independent::{NearestWritten, ReelRead, Refused, Taken};
 use std::array;
 
 const DENOMINATOR_POWER: u32 = 280;
@@ -53,6 +55,15 @@ const fn whole_format(bits: u32) -> Format {
 /// The power of the last bit at gain 255.
 const GAIN_BASE: u32 = DENOMINATOR_POWER - 255;
 
+/// A gain word. 255 less its gain is the characteristic.
+const GAIN: Format = Format {
+    digit: 1,
+    fraction: 15,
+    characteristics: 256,
+    base: GAIN_BASE,
+    more: true,
+};
+
 struct Same;
 
 #[inline(never)]
@@ -63,6 +74,12 @@ pub fn read_reel(reel: &[u8], out: &mut [u8]) -> Result<ReelRead, Refused> {
 #[inline(never)]
 pub fn write_reel(record: &[u8], code: u32, out: &mut [u8]) -> Result<Taken, Refused> {
     passes::write_reel::<Same>(record, code, out)
+}
+
+/// Each sample as the nearest value of the code.
+#[inline(never)]
+pub fn write_nearest(record: &[u8], code: u32, out: &mut [u8]) -> Result<NearestWritten, Refused> {
+    passes::write_nearest::<Same>(record, code, out)
 }
 
 impl Steps for Same {
@@ -169,6 +186,20 @@ impl Steps for Same {
             4 => put_words::<4>(pairs, words, gain_of),
             5 => put_words::<4>(pairs, words, ieee_of),
             _ => put_words::<1>(pairs, words, whole8_of),
+        }
+    }
+}
+
+impl NearestSteps for Same {
+    #[inline(always)]
+    fn put_nearest(code: u32, pairs: &[u8], words: &mut [u8]) -> u64 {
+        match code {
+            1 => put_nearest::<4>(pairs, words, near_ibm),
+            2 => put_nearest::<4>(pairs, words, near_whole32),
+            3 => put_nearest::<2>(pairs, words, near_whole16),
+            4 => put_nearest::<4>(pairs, words, near_gain),
+            5 => put_nearest::<4>(pairs, words, near_ieee),
+            _ => put_nearest::<1>(pairs, words, near_whole8),
         }
     }
 }
@@ -506,6 +537,26 @@ impl Pair {
             } => word_of(negative, odd, power).unwrap_or(0),
         }
     }
+
+    /// The word of the nearest value to the pair's, 0 where it isn't canonical.
+    #[inline(always)]
+    fn nearest(self, nearest_of: impl NearestOf) -> Rounded {
+        match self.parts() {
+            Parts::NotCanonical => Rounded {
+                bits: 0,
+                changed: 0,
+            },
+            Parts::Zero => Rounded {
+                bits: 0,
+                changed: 0,
+            },
+            Parts::Odd {
+                negative,
+                odd,
+                power,
+            } => nearest_of(negative, odd, power),
+        }
+    }
 }
 
 /// The bits of an odd number, or one fewer for 1 where `less` is set.
@@ -592,5 +643,191 @@ fn complement(bits: u32, negative: bool, whole: u32) -> u32 {
         ((1u64 << bits) - u64::from(whole)) as u32
     } else {
         whole
+    }
+}
+
+// ## Writing to the nearest
+
+/// The word of the nearest value to ± `odd` × 2^(`power` - 280) under a code.
+trait NearestOf: Fn(bool, u32, u32) -> Rounded {}
+
+impl<F: Fn(bool, u32, u32) -> Rounded> NearestOf for F {}
+
+/// The bits of the word of the nearest value, and 1 where that is another value.
+struct Rounded {
+    bits: u32,
+    changed: u32,
+}
+
+/// A place of the nearest value in a format, and 1 where that is another value.
+struct RoundedPlace {
+    characteristic: u32,
+    fraction: u32,
+    changed: u32,
+}
+
+/// Puts the words of a trace and counts those with another value.
+fn put_nearest<const W: usize>(pairs: &[u8], words: &mut [u8], nearest_of: impl NearestOf) -> u64 {
+    let mut count = 0;
+    for (pair, word) in pairs
+        .chunks_exact(PAIR_BYTES)
+        .zip(words.chunks_exact_mut(W))
+    {
+        let Rounded { bits, changed } = Pair::of(pair).nearest(&nearest_of);
+        word.copy_from_slice(&bits.to_be_bytes()[4 - W..]);
+        count += u64::from(changed);
+    }
+    count
+}
+
+/// `odd` / 2^`places` to the nearest whole number, of two equally near to the lower one.
+#[inline(always)]
+fn rounded_whole(odd: u32, places: u32) -> u32 {
+    if places > 31 {
+        return 0;
+    }
+    let under_half = ((1 << places) - 1) / 2;
+    (odd + under_half) >> places
+}
+
+/// The largest fraction of a sign.
+#[inline(always)]
+fn most(format: Format, negative: bool) -> u32 {
+    let power = 1 << format.fraction;
+    if format.more && negative {
+        power
+    } else {
+        power - 1
+    }
+}
+
+/// The place of the nearest value to ± odd × 2^power: the least characteristic whose fraction reaches up to
+/// the first 1, or the end where there is none; where that fraction doesn't reach down to the last 1, the
+/// rounded number of last places, which may be the first number of the next characteristic, or beyond the
+/// end.
+#[inline(always)]
+fn near_place(format: Format, negative: bool, odd: u32, power: u32) -> RoundedPlace {
+    let first = length(odd, format.more && negative) + power;
+    let above = first.saturating_sub(format.fraction + format.base);
+    let characteristic = above.div_ceil(format.digit);
+    let end = format.characteristics - 1;
+    if characteristic > end {
+        return RoundedPlace {
+            characteristic: end,
+            fraction: most(format, negative),
+            changed: 1,
+        };
+    }
+    let last = format.base + format.digit * characteristic;
+    if last <= power {
+        return RoundedPlace {
+            characteristic,
+            fraction: odd << (power - last),
+            changed: 0,
+        };
+    }
+    let fraction = rounded_whole(odd, last - power);
+    if characteristic == end {
+        return RoundedPlace {
+            characteristic,
+            fraction: fraction.min(most(format, negative)),
+            changed: 1,
+        };
+    }
+    if fraction == 1 << format.fraction {
+        return RoundedPlace {
+            characteristic: characteristic + 1,
+            fraction: 1 << (format.fraction - format.digit),
+            changed: 1,
+        };
+    }
+    RoundedPlace {
+        characteristic,
+        fraction,
+        changed: 1,
+    }
+}
+
+/// The word of the nearest value in a format of sign and magnitude. Zero has no sign.
+#[inline(always)]
+fn near_float(format: Format, low: u32, negative: bool, odd: u32, power: u32) -> Rounded {
+    let RoundedPlace {
+        characteristic,
+        fraction,
+        changed,
+    } = near_place(format, negative, odd, power);
+    let sign = if negative && fraction != 0 {
+        0x8000_0000
+    } else {
+        0
+    };
+    Rounded {
+        bits: sign + ((characteristic << low) + fraction),
+        changed,
+    }
+}
+
+/// To the nearest IBM word.
+#[inline(always)]
+fn near_ibm(negative: bool, odd: u32, power: u32) -> Rounded {
+    near_float(IBM, 24, negative, odd, power)
+}
+
+/// To the nearest finite IEEE word.
+#[inline(always)]
+fn near_ieee(negative: bool, odd: u32, power: u32) -> Rounded {
+    near_float(SINGLE, 23, negative, odd, power)
+}
+
+/// The word of the nearest number of so many bits.
+#[inline(always)]
+fn near_whole(bits: u32, negative: bool, odd: u32, power: u32) -> Rounded {
+    let RoundedPlace {
+        fraction, changed, ..
+    } = near_place(whole_format(bits), negative, odd, power);
+    Rounded {
+        bits: if fraction == 0 {
+            0
+        } else {
+            complement(bits, negative, fraction)
+        },
+        changed,
+    }
+}
+
+/// To the nearest number of 32 bits.
+#[inline(always)]
+fn near_whole32(negative: bool, odd: u32, power: u32) -> Rounded {
+    near_whole(32, negative, odd, power)
+}
+
+/// To the nearest number of 16 bits.
+#[inline(always)]
+fn near_whole16(negative: bool, odd: u32, power: u32) -> Rounded {
+    near_whole(16, negative, odd, power)
+}
+
+/// To the nearest number of 8 bits.
+#[inline(always)]
+fn near_whole8(negative: bool, odd: u32, power: u32) -> Rounded {
+    near_whole(8, negative, odd, power)
+}
+
+/// To the nearest gain word. The rounded number is halved as often as it is even and the gain isn't 0.
+#[inline(always)]
+fn near_gain(negative: bool, odd: u32, power: u32) -> Rounded {
+    let RoundedPlace {
+        characteristic,
+        fraction,
+        changed,
+    } = near_place(GAIN, negative, odd, power);
+    if fraction == 0 {
+        return Rounded { bits: 0, changed };
+    }
+    let twos = fraction.trailing_zeros().min(255 - characteristic);
+    let number = complement(16, negative, fraction >> twos);
+    Rounded {
+        bits: ((255 - characteristic - twos) << 16) + number,
+        changed,
     }
 }

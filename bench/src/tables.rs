@@ -1,5 +1,7 @@
 //! What is printed, in Markdown, as docs/BENCHMARKS.md has it.
 
+use crate::nearest::Rounding;
+use crate::reels::{Kind, KINDS};
 use crate::versions::Compared;
 use crate::{reels, Grown, Who, ALL};
 
@@ -7,6 +9,7 @@ use crate::{reels, Grown, Who, ALL};
 pub enum Call {
     Read,
     Write,
+    Nearest,
 }
 
 /// The best seconds of each contender, for a call on a reel of so many bytes.
@@ -26,7 +29,7 @@ pub fn name(who: Who, call: Call) -> &'static str {
         (Who::Independent, _) => "independent Rust",
         (Who::Memcpy, _) => "memcpy of the reel",
         (Who::SegyioFile, Call::Read) => "segyio, from a file",
-        (Who::SegyioFile, Call::Write) => "segyio, to a file",
+        (Who::SegyioFile, _) => "segyio, to a file",
         (Who::SegyioConversion, _) => "segyio, conversion alone",
     }
 }
@@ -78,6 +81,7 @@ pub fn untouched(rows: &[Row]) {
         let call = match row.call {
             Call::Read => "reading",
             Call::Write => "writing",
+            Call::Nearest => "nearest writing",
         };
         println!("| {call} | {library:.0} | {same:.0} | {tuned:.0} |");
     }
@@ -98,9 +102,36 @@ pub fn growth(grown: &[Grown]) {
     }
 }
 
+/// Nearest writing by code and by what the samples are.
+pub fn nearest(rows: &[Rounding], megabytes: usize, samples: u16, runs: usize) {
+    println!("\nNearest writing of records whose reels have {megabytes} MB, N = {samples}; best of {runs} runs, all calls of a code in turn in each run, each run beginning with another.\n");
+    for (_, name, text) in KINDS {
+        println!("- {name}: {text}.");
+    }
+    println!("\nNs for each sample, and speeds over one another; exact writing is that of the samples that all fit:\n");
+    println!("| code | samples | changed | exact, library | nearest, library | nearest, same algorithm in Rust | library over Rust | nearest over exact |");
+    println!("|---|---|---|---|---|---|---|---|");
+    for row in rows {
+        let name = kind_name(row.kind);
+        let [exact, library, same] =
+            [row.exact, row.library, row.same].map(|seconds| seconds * 1e9 / row.samples as f64);
+        println!(
+            "| {} | {name} | {:.1} % | {exact:.2} | {library:.2} | {same:.2} | {:.2} | {:.2} |",
+            row.code,
+            row.changed as f64 * 100.0 / row.samples as f64,
+            same / library,
+            exact / library
+        );
+    }
+}
+
 pub fn versions(rows: &[Compared], megabytes: usize, samples: u16, runs: usize) {
     println!("A reel of {megabytes} MB for each code, N = {samples}; best of {runs} runs, both copies of both versions in turn in each run, each run beginning with another. The faster copy counts; the slower one is given over it.");
-    for (call, title) in [(Call::Read, "Reading"), (Call::Write, "Writing")] {
+    for (call, title) in [
+        (Call::Read, "Reading"),
+        (Call::Write, "Writing"),
+        (Call::Nearest, "Nearest writing"),
+    ] {
         println!("\n{title}, MB of reel a second:\n");
         println!("| code | old | new | new over old | old's slower copy | new's slower copy |");
         println!("|---|---|---|---|---|---|");
@@ -113,7 +144,7 @@ pub fn versions(rows: &[Compared], megabytes: usize, samples: u16, runs: usize) 
             println!(
                 "| {}{} | {} | {} | {} | {} | {} |",
                 row.code,
-                kind(row.not_normal),
+                kind(row.not_normal, row.kind),
                 speed(old[0]),
                 speed(new[0]),
                 over(new[0], old[0]),
@@ -139,12 +170,21 @@ fn cell(number: Option<f64>, text: impl Fn(f64) -> String) -> String {
     number.map_or("-".into(), text)
 }
 
-fn kind(not_normal: bool) -> String {
+/// What is said of a row's samples beside the code.
+fn kind(not_normal: bool, kind: Kind) -> String {
     if not_normal {
         format!(", 1 in {} not normal", reels::ONE_IN)
-    } else {
+    } else if kind == Kind::Fit {
         String::new()
+    } else {
+        format!(", {}", kind_name(kind))
     }
+}
+
+/// The name of a kind of samples.
+fn kind_name(kind: Kind) -> &'static str {
+    let (_, name, _) = KINDS[kind as usize];
+    name
 }
 
 impl Row {
@@ -169,7 +209,7 @@ fn line(row: &Row, numbers: &[Option<f64>], text: impl Fn(f64) -> String) {
     println!(
         "| {}{} | {} |",
         row.code,
-        kind(row.not_normal),
+        kind(row.not_normal, Kind::Fit),
         cells.join(" | ")
     );
 }

@@ -1,11 +1,18 @@
 //! The Rust that is written after the library answers as the independent implementation does,
-//! refusals and every byte of the output too.
+//! refusals and every byte of the output too; and in nearest writing as the library does.
 
-use crate::reels::{self, Random};
+use crate::passes::{held_pairs, PAIR_BYTES};
+use crate::reels::{self, Kind, Random, KINDS};
 use crate::tables::{name, Call};
-use crate::{call, Who};
+use crate::{call, Answer, Who};
 
-const WRITTEN_AFTER_IT: [Who; 2] = [Who::Same, Who::Tuned];
+/// Who is compared with the independent implementation. There is no tuned Rust of nearest writing.
+fn compared(what: Call) -> [Who; 2] {
+    match what {
+        Call::Read | Call::Write => [Who::Same, Who::Tuned],
+        Call::Nearest => [Who::Same, Who::Library],
+    }
+}
 
 const SAMPLES: u16 = 3;
 const BYTES: usize = 5_000;
@@ -44,16 +51,22 @@ fn damaged(random: &mut Random, bytes: &[u8]) -> Vec<u8> {
     bytes
 }
 
-/// The number of the refusal on which all agree, 0 where the call is taken.
-fn agreed(what: Call, code: u32, input: &[u8], room: usize) -> usize {
+/// The answer and the output on which all agree.
+fn agreed_output(what: Call, code: u32, input: &[u8], room: usize) -> (Answer, Vec<u8>) {
     let mut given = vec![0xA5; room];
     let answer = call(Who::Independent, what, code, input, &mut given);
-    for who in WRITTEN_AFTER_IT {
+    for who in compared(what) {
         let mut out = vec![0xA5; room];
         let name = name(who, what);
         assert_eq!(call(who, what, code, input, &mut out), answer, "{name}");
         assert!(out == given, "{name} gives other bytes");
     }
+    (answer, given)
+}
+
+/// The number of the refusal on which all agree, 0 where the call is taken.
+fn agreed(what: Call, code: u32, input: &[u8], room: usize) -> usize {
+    let (answer, _) = agreed_output(what, code, input, room);
     answer.map_or_else(|refused| refused.number as usize, |_| 0)
 }
 
@@ -283,5 +296,121 @@ fn writing_pairs_about_the_limits() {
     }
     for number in [0, 13, 14] {
         assert!(causes[number] > 50, "{causes:?}");
+    }
+}
+
+/// The bytes of a reel under a code, by its record.
+fn reel_length(record: &[u8], code: u32) -> usize {
+    let refused = call(Who::Library, Call::Nearest, code, record, &mut []).unwrap_err();
+    assert_eq!(refused.number, 10);
+    refused.beside as usize
+}
+
+/// How many samples of a record change under a code, on which all agree, and the reel.
+fn rounded(record: &[u8], code: u32) -> (u64, Vec<u8>) {
+    let room = reel_length(record, code);
+    let (answer, reel) = agreed_output(Call::Nearest, code, record, room);
+    (answer.expect("a valid record").changed, reel)
+}
+
+/// The records of the benchmark, small, under every code. Where nothing changes, the reel is that of exact
+/// writing. Under the code that a record is made for, none changes of those that fit, and of the others all
+/// that have a long mantissa.
+#[test]
+fn nearest_writing_of_the_benchmark() {
+    for (code, _) in reels::SAMPLES {
+        for (kind, _, _) in KINDS {
+            let mut record = reels::make_record(code, 200, 12_000, kind);
+            for (target, _) in reels::SAMPLES {
+                let (changed, reel) = rounded(&record, target);
+                let mut exact = vec![0xA5; reel.len()];
+                let taken = call(Who::Library, Call::Write, target, &record, &mut exact).is_ok();
+                assert_eq!(taken, changed == 0);
+                assert!(!taken || exact == reel);
+            }
+            let long: u64 = held_pairs(&mut record, 200).map(long_mantissas).sum();
+            let expected = if kind == Kind::Fit { 0 } else { long };
+            assert!(kind == Kind::Fit || long > 300);
+            assert_eq!(rounded(&record, code).0, expected, "code {code}");
+        }
+    }
+}
+
+/// How many mantissas have more than 24 bits.
+fn long_mantissas(pairs: &mut [u8]) -> u64 {
+    let mantissas = pairs
+        .chunks_exact(PAIR_BYTES)
+        .map(|pair| i32::from_be_bytes(pair[2..].try_into().unwrap()));
+    mantissas.filter(|m| m.unsigned_abs() >> 24 != 0).count() as u64
+}
+
+/// Traces of any length, so that each sample is the first or the last once.
+#[test]
+fn nearest_writing_of_short_traces() {
+    for samples in 1..=9 {
+        for (code, _) in reels::SAMPLES {
+            for (kind, _, _) in KINDS {
+                let record = reels::make_record(code, samples, 4_600, kind);
+                for (target, _) in reels::SAMPLES {
+                    rounded(&record, target);
+                }
+            }
+        }
+    }
+}
+
+/// Records that are damaged, under codes that there aren't too, into buffers that may be too short.
+#[test]
+fn nearest_writing_of_damaged_records() {
+    let mut random = Random(5);
+    let mut causes = [0; CAUSES];
+    for (code, _) in reels::SAMPLES {
+        for (kind, _, _) in KINDS {
+            let record = reels::make_record(code, SAMPLES, BYTES, kind);
+            for _ in 0..DAMAGES / 4 {
+                let record = damaged(&mut random, &record);
+                let target = random.below(10);
+                let room = 7_000 - random.below(4_000) as usize;
+                causes[agreed(Call::Nearest, target, &record, room)] += 1;
+            }
+        }
+    }
+    for number in [0, 10, 11, 12, 13] {
+        assert!(causes[number] > 50, "{causes:?}");
+    }
+    assert_eq!(causes[14], 0);
+}
+
+/// Every exponent of a canonical pair with mantissas about the powers of two, about the halves between
+/// them, and random ones, both signs; all those of an exponent in a trace.
+#[test]
+fn nearest_writing_of_pairs_about_the_limits() {
+    let mut random = Random(6);
+    let mut mantissas = vec![1];
+    for bits in 1..=31 {
+        let power = 1i64 << bits;
+        let between = power / 2 + i64::from(random.below(1 << (bits - 1)));
+        for odd in [power - 1, power + 1, power + power / 2 + 1, between] {
+            mantissas.extend(i32::try_from(odd | 1));
+        }
+    }
+    let mantissas: Vec<i32> = mantissas.iter().flat_map(|&m| [m, -m]).collect();
+    let mut record = reels::make_record(1, mantissas.len() as u16, 0, Kind::Fit);
+    let mut all = [0; 6];
+    for e in -280i16..=251 {
+        let pairs = held_pairs(&mut record, mantissas.len())
+            .next()
+            .expect("a trace");
+        for (pair, m) in pairs.chunks_exact_mut(PAIR_BYTES).zip(&mantissas) {
+            pair[..2].copy_from_slice(&e.to_be_bytes());
+            pair[2..].copy_from_slice(&m.to_be_bytes());
+        }
+        for (changed, (code, _)) in all.iter_mut().zip(reels::SAMPLES) {
+            *changed += rounded(&record, code).0;
+        }
+    }
+    let samples = 532 * mantissas.len() as u64;
+    for changed in all {
+        assert!(changed > samples / 20 && changed < samples, "{all:?}");
     }
 }

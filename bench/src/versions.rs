@@ -2,8 +2,9 @@
 //! `bench/versions.sh` makes of static libraries. Where a loop comes to lie matters, so the copies lie
 //! differently, and the faster one counts.
 
+use crate::reels::{self, Kind};
 use crate::tables::{self, Call};
-use crate::{kinds, record_length, reel_of, Options};
+use crate::{kinds, record_length, reel_of, Options, MEGABYTE};
 use std::ffi::{c_char, c_int, c_void, CStr, CString};
 use std::hash::{DefaultHasher, Hasher};
 use std::hint::black_box;
@@ -36,9 +37,11 @@ extern "C" {
 /// The machine's number for binding all names when it is loaded.
 const RTLD_NOW: c_int = 2;
 
+/// The calls of a version. One before CR 5 has no nearest writing.
 struct Version {
     read: ReadReel,
     write: WriteReel,
+    nearest: Option<WriteReel>,
 }
 
 impl Version {
@@ -53,28 +56,35 @@ impl Version {
         let find = |name: &CStr| {
             // SAFETY: the handle is that of a loaded object.
             let found = unsafe { dlsym(handle, name.as_ptr()) };
-            assert!(!found.is_null(), "{path} has no {name:?}");
-            found
+            (!found.is_null()).then_some(found)
         };
-        // SAFETY: these are the types of the two functions in every version's header, but for what an
-        // answer has at its end, for which there is room.
+        let [read, write] = [c"aukpocket_read_reel", c"aukpocket_write_reel"]
+            .map(|name| find(name).unwrap_or_else(|| panic!("{path} has no {name:?}")));
+        let nearest = find(c"aukpocket_write_nearest");
+        // SAFETY: these are the types of the functions in every version's header, but for what an answer
+        // has at its end, for which there is room.
         unsafe {
             Version {
-                read: mem::transmute::<*mut c_void, ReadReel>(find(c"aukpocket_read_reel")),
-                write: mem::transmute::<*mut c_void, WriteReel>(find(c"aukpocket_write_reel")),
+                read: mem::transmute::<*mut c_void, ReadReel>(read),
+                write: mem::transmute::<*mut c_void, WriteReel>(write),
+                nearest: nearest.map(|found| mem::transmute::<*mut c_void, WriteReel>(found)),
             }
         }
     }
 
-    /// The seconds of a call, where it is taken with so long an output.
+    /// The seconds of a call, where there is one and it is taken with so long an output.
     fn timed(&self, call: Call, code: u32, input: &[u8], out: &mut [u8]) -> Option<f64> {
+        let write = match call {
+            Call::Nearest => self.nearest?,
+            Call::Read | Call::Write => self.write,
+        };
         let (from, to) = (black_box(input.as_ptr()), black_box(out.as_mut_ptr()));
         let start = Instant::now();
         // SAFETY: both buffers are lent for the call with their lengths.
         let answer = unsafe {
             match call {
                 Call::Read => (self.read)(from, input.len(), to, out.len()),
-                Call::Write => (self.write)(from, input.len(), code, to, out.len()),
+                Call::Write | Call::Nearest => write(from, input.len(), code, to, out.len()),
             }
         };
         let seconds = start.elapsed().as_secs_f64();
@@ -87,14 +97,24 @@ pub struct Compared {
     pub call: Call,
     pub code: u32,
     pub not_normal: bool,
+    pub kind: Kind,
     pub bytes: usize,
     pub old: [Option<f64>; 2],
     pub new: [Option<f64>; 2],
     pub same_bytes: bool,
 }
 
-/// Reading and writing by each copy in turn, each run beginning with another of them; the best run counts.
-/// A copy writes from the record that it has read just before.
+/// What is timed of each copy, one after the other: reading, writing from the record that it has read just
+/// before, and nearest writing of that record and of one whose samples have to be rounded.
+const TURNS: [(Call, Kind); 4] = [
+    (Call::Read, Kind::Fit),
+    (Call::Write, Kind::Fit),
+    (Call::Nearest, Kind::Fit),
+    (Call::Nearest, Kind::Rounded),
+];
+
+/// All calls by each copy in turn, each run beginning with another of them; the best run counts. A reel that
+/// has words that aren't normal is only read and written.
 pub fn compare(options: &Options, paths: [&str; 4]) {
     let versions = paths.map(Version::load);
     let megabytes = options.megabytes.unwrap_or(SIZE);
@@ -102,36 +122,46 @@ pub fn compare(options: &Options, paths: [&str; 4]) {
     let mut rows = Vec::new();
     for (code, not_normal) in kinds(&options.codes) {
         let reel = reel_of(code, options.samples, not_normal, megabytes);
+        let bytes = megabytes * MEGABYTE;
+        let rounded = reels::make_record(code, options.samples, bytes, Kind::Rounded);
         let mut record = vec![1; record_length(&reel, code)];
         let mut written = vec![1; reel.len()];
 
-        let mut best = [[None; 4]; 2];
-        let mut given = versions.each_ref().map(|_| None);
+        let turns = if not_normal { &TURNS[..2] } else { &TURNS[..] };
+        let mut best = [[None; 4]; TURNS.len()];
+        let mut given = [[None; 4]; TURNS.len()];
         for run in 0..runs {
             for turn in 0..versions.len() {
                 let who = (run + turn) % versions.len();
-                let version = &versions[who];
-                let Some(seconds) = version.timed(Call::Read, code, &reel, &mut record) else {
-                    continue;
-                };
-                lower(&mut best[0][who], seconds);
-                let seconds = version.timed(Call::Write, code, &record, &mut written);
-                lower(
-                    &mut best[1][who],
-                    seconds.expect("a record is written in its reel's code"),
-                );
-                if run == 0 {
-                    given[who] = Some([hash_of(&record), hash_of(&written)]);
+                for (k, &(call, kind)) in turns.iter().enumerate() {
+                    let (input, out) = match (call, kind) {
+                        (Call::Read, _) => (&reel, &mut record),
+                        (_, Kind::Fit) => (&record, &mut written),
+                        _ => (&rounded, &mut written),
+                    };
+                    let Some(seconds) = versions[who].timed(call, code, input, out) else {
+                        // It doesn't know the code, or has no nearest writing.
+                        assert!(
+                            call != Call::Write,
+                            "a record is written in its reel's code"
+                        );
+                        break;
+                    };
+                    lower(&mut best[k][who], seconds);
+                    if run == 0 {
+                        given[k][who] = Some(hash_of(out));
+                    }
                 }
             }
         }
-        let [old, _, new, _] = given;
-        for (call, best) in [Call::Read, Call::Write].into_iter().zip(best) {
-            let [a, b, c, d] = best;
+        for (k, &(call, kind)) in turns.iter().enumerate() {
+            let [a, b, c, d] = best[k];
+            let [old, _, new, _] = given[k];
             rows.push(Compared {
                 call,
                 code,
                 not_normal,
+                kind,
                 bytes: reel.len(),
                 old: [a, b],
                 new: [c, d],
