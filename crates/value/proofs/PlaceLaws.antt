@@ -17,6 +17,7 @@ use Rattle.formats.specs.Steps.{Length, Lowest}
 use Rattle.formats.specs.Format.{unit}
 use Rattle.formats.specs.declared.Format.{Format}
 use Rattle.formats.proofs.Powers.{exponents}
+use Rattle.formats.proofs.FitLaws.{place, fraction-at}
 use Rattle.formats.proofs.PlacedLaws.{Place}
 use Rattle.value.specs.Pair.{mantissaBits}
 use Rattle.value.proofs.Twos.{odd-shl}
@@ -78,6 +79,14 @@ shift-fits o s p h = exponents s mantissaBits (omega (arith, h, mul-le-mul-right
 pub fraction-fits : (f p : ℕ) (b : Bool) → p < 32 → f < 2 ^ p + pick b 1 0 → f < 2 ^ 32
 fraction-fits f p true h l = let z : 2 ^ p ≤ 2 ^ 31 = pow-mono {j = 31} (omega arith) in omega arith
 fraction-fits f p false h l = let z : 2 ^ p ≤ 2 ^ 31 = pow-mono {j = 31} (omega arith) in omega arith
+
+-- the shift that gives the fraction beside a characteristic that serves ± o × 2 ^ k, u being the power of its last place
+pub shift-placed : (x : Format) (s : Bool) (o k : ℕ) → o % 2 ≡ 1 → (n : ℕ) → Length (pick (x .more && s) 1 0) o n → (c u : ℕ) → x .fraction < 32 → u ≡ place x c → u ≤ k → n + k ≤ x .fraction + place x c
+    → (k - u < 32) × (o * 2 ^ (k - u) < 2 ^ 32)
+shift-placed x s o k odd n length c u few e l h =
+    let f : o * 2 ^ (k - u) < 2 ^ 32 =
+    subst (λ (y : ℕ). o * 2 ^ (k - y) < 2 ^ 32) (sym e) (fraction-fits _ (x .fraction) (x .more && s) few (fraction-at x s o k odd n length c (subst (λ (y : ℕ). y ≤ k) e l) h)) in
+    (shift-fits o (k - u) (omega (arith, odd)) f, f)
 
 -- the fraction of a value other than zero isn't 0, and the value has the sign it was given
 pub fraction-some : (x : Format) (s : Bool) (o k c f : ℕ) → o % 2 ≡ 1 → Place x (signMagnitude s (o * 2 ^ k)) c f → 0 < f

@@ -1,8 +1,7 @@
 -- `value::near_place` meets its contract. Assumes nothing.
-use Rattle.formats.proofs.FitLaws.{fraction-at}
 use Rattle.formats.proofs.RoundLaws.{multiple-lifted}
 use Rattle.formats.proofs.NearestLaws.{ShortDigits}
-use Rattle.value.proofs.PlaceLaws.{shift-fits, fraction-fits}
+use Rattle.value.proofs.PlaceLaws.{shift-placed}
 use Rattle.value.proofs.NearLaws.{near-end, near-exact, near-last, near-next, near-inner}
 use Rattle.formats.specs.Format.{unit}
 use Rattle.formats.specs.Nearest.{nearestMultiple}
@@ -38,19 +37,11 @@ returns c =
     let a = start l .args in
     near-end (a .x) (rounds l) (a .neg) (a .o) (a .k) (start l .pre .2) (bits l) (length l) (l .lowest .result) (low l) (c .before .if1 .taken) _ (c .most .ensures)
 
--- the fraction of a value that is one of the format's
-fits : (c : tie.Then2) → let s = start (c .before .before .before .before) in s .args .o * 2 ^ (s .args .k - c .before .last-place .result) < 2 ^ 32
-fits c =
-    let l = c .before .before .before .before in
-    let a = start l .args in
-    rw (c .before .last-place .ensures)
-    (fraction-fits _ (a .x .fraction) (a .x .more && a .neg) (start l .pre .0 .few)
-    (fraction-at (a .x) (a .neg) (a .o) (a .k) (start l .pre .2) (bits l) (length l) (l .lowest .result) (omega (arith, c .if2 .taken, c .before .last-place .ensures)) (omega (arith, low l .enough))))
-
 shifted-up-requires : tie.Need-shifted-up-requires
 shifted-up-requires c κs =
     let l = c .before .before .before .before in
-    (shift-fits (start l .args .o) _ (omega (arith, start l .pre .2)) (fits c), fits c)
+    let a = start l .args in
+    shift-placed (a .x) (a .neg) (a .o) (a .k) (start l .pre .2) (bits l) (length l) (l .lowest .result) (c .before .last-place .result) (start l .pre .0 .few) (c .before .last-place .ensures) (c .if2 .taken) (omega (arith, low l .enough))
 
 returns-2 : tie.Need-returns-2
 returns-2 c =

@@ -1,6 +1,6 @@
 -- `value::place` meets its contract. Assumes nothing.
-use Rattle.formats.proofs.FitLaws.{placed-at, placed-high, placed-odd, fraction-at}
-use Rattle.value.proofs.PlaceLaws.{shift-fits, fraction-fits}
+use Rattle.formats.proofs.FitLaws.{placed-at, placed-high, placed-odd}
+use Rattle.value.proofs.PlaceLaws.{shift-placed}
 use Rattle.formats.specs.Steps.{Length, Lowest}
 use Rattle.numbers.specs.Walk.{pick}
 use Prim.Native.Nat.{ℕ, _+_, _-_, _*_, _^_, _≤_, _<_}
@@ -36,19 +36,11 @@ returns-2 c =
     let a = start l .args in
     sym (placed-odd (a .x) (a .neg) (a .o) (a .k) (start l .pre .1) (bits l) (length l) (l .lowest .result) (low l) (omega (arith, c .if2 .taken, c .before .last-place .ensures)))
 
--- the fraction is one of the format's
-fits : (c : tie.Else2) → start (c .before .before .before .before) .args .o * 2 ^ (start (c .before .before .before .before) .args .k - c .before .last-place .result) < 2 ^ 32
-fits c =
-    let l = c .before .before .before .before in
-    let a = start l .args in
-    rw (c .before .last-place .ensures)
-    (fraction-fits _ (a .x .fraction) (a .x .more && a .neg) (start l .pre .0 .few)
-    (fraction-at (a .x) (a .neg) (a .o) (a .k) (start l .pre .1) (bits l) (length l) (l .lowest .result) (omega (arith, c .if2 .left, c .before .last-place .ensures)) (omega (arith, low l .enough))))
-
 shifted-up-requires : tie.Need-shifted-up-requires
 shifted-up-requires c κs =
     let l = c .before .before .before .before in
-    (shift-fits (start l .args .o) _ (omega (arith, start l .pre .1)) (fits c), fits c)
+    let a = start l .args in
+    shift-placed (a .x) (a .neg) (a .o) (a .k) (start l .pre .1) (bits l) (length l) (l .lowest .result) (c .before .last-place .result) (start l .pre .0 .few) (c .before .last-place .ensures) (c .if2 .left) (omega (arith, low l .enough))
 
 returns-3 : tie.Need-returns-3
 returns-3 c =

@@ -2,7 +2,11 @@
 use Rattle.write_samples.proofs.WordLaws.{code-limits}
 use Rattle.write_samples.proofs.NearestLaws.{rounded-by}
 use Rattle.formats.specs.Codes.{isCode, sampleBytes}
+use Rattle.value.specs.Writing.{nearestPair}
+use Rattle.value.specs.declared.Rounded.{Rounded}
+use Rattle.write_samples.specs.Nearest.{roundedBytes}
 use lib.ListN.{length}
+use mathlib.Core.List.{List}
 use Prim.Native.Nat.{ℕ, _<_}
 use mathlib.Core.Path.{_≡_, refl, sym, ap, _∙_}
 use native.Mathlib.Omega.{arith}
@@ -33,65 +37,46 @@ last t = let s = t .before .before .before .before in code-limits (s .args .code
 long : (s : tie.Start) (k : ℕ) → k ≡ s .args .code → length (s .args .out .now) ≡ sampleBytes k
 long s k q = s .pre .1 ∙ ap sampleBytes (sym q)
 
+-- the word that is stored, by the code's number
+by : (k : ℕ) (s : tie.Start) (w : Rounded) {r : ℕ} {ys : List ℕ} → k ≡ s .args .code → w ≡ nearestPair k (s .args .p) → (r ≡ w .changed) × (ys ≡ roundedBytes k w)
+    → (r ≡ nearestPair (s .args .code) (s .args .p) .changed) × (ys ≡ roundedBytes (s .args .code) (nearestPair (s .args .code) (s .args .p)))
+by k s w q e t = rounded-by k (s .args .code) (s .args .p) w q e t
+
 put-rounded-requires : tie.Need-put-rounded-requires
 put-rounded-requires c κs = let t = c .before .before in (refl, long (t .before .before .before) 1 (first t))
 
 returns : tie.Need-returns
-returns c =
-    let n = c .before .before .before .before in
-    let t = n .before in
-    let a = t .before .before .before .args in
-    rounded-by 1 (a .code) (a .p) (n .nearest .result) (first t) (n .nearest .ensures) (c .before .before .put-rounded .ensures)
+returns c = let n = c .before .before .before .before in by 1 (n .before .before .before .before) _ (first (n .before)) (n .nearest .ensures) (c .before .before .put-rounded .ensures)
 
 put-rounded-requires-2 : tie.Need-put-rounded-requires-2
 put-rounded-requires-2 c κs = let t = c .before .before in (refl, long (t .before .before .before .before) 2 (second t))
 
 returns-2 : tie.Need-returns-2
-returns-2 c =
-    let n = c .before .before .before .before in
-    let t = n .before in
-    let a = t .before .before .before .before .args in
-    rounded-by 2 (a .code) (a .p) (n .nearest2 .result) (second t) (n .nearest2 .ensures) (c .before .before .put-rounded2 .ensures)
+returns-2 c = let n = c .before .before .before .before in by 2 (n .before .before .before .before .before) _ (second (n .before)) (n .nearest2 .ensures) (c .before .before .put-rounded2 .ensures)
 
 put-rounded-requires-3 : tie.Need-put-rounded-requires-3
 put-rounded-requires-3 c κs = let t = c .before .before in (refl, long (t .before .before .before .before) 3 (third t))
 
 returns-3 : tie.Need-returns-3
-returns-3 c =
-    let n = c .before .before .before .before in
-    let t = n .before in
-    let a = t .before .before .before .before .args in
-    rounded-by 3 (a .code) (a .p) (n .nearest3 .result) (third t) (n .nearest3 .ensures) (c .before .before .put-rounded3 .ensures)
+returns-3 c = let n = c .before .before .before .before in by 3 (n .before .before .before .before .before) _ (third (n .before)) (n .nearest3 .ensures) (c .before .before .put-rounded3 .ensures)
 
 put-rounded-requires-4 : tie.Need-put-rounded-requires-4
 put-rounded-requires-4 c κs = let t = c .before .before in (refl, long (t .before .before .before) 4 (fourth t))
 
 returns-4 : tie.Need-returns-4
-returns-4 c =
-    let n = c .before .before .before .before in
-    let t = n .before in
-    let a = t .before .before .before .args in
-    rounded-by 4 (a .code) (a .p) (n .nearest4 .result) (fourth t) (n .nearest4 .ensures) (c .before .before .put-rounded4 .ensures)
+returns-4 c = let n = c .before .before .before .before in by 4 (n .before .before .before .before) _ (fourth (n .before)) (n .nearest4 .ensures) (c .before .before .put-rounded4 .ensures)
 
 put-rounded-requires-5 : tie.Need-put-rounded-requires-5
 put-rounded-requires-5 c κs = let t = c .before .before in (refl, long (t .before .before .before .before) 5 (fifth t))
 
 returns-5 : tie.Need-returns-5
-returns-5 c =
-    let n = c .before .before .before .before in
-    let t = n .before in
-    let a = t .before .before .before .before .args in
-    rounded-by 5 (a .code) (a .p) (n .nearest5 .result) (fifth t) (n .nearest5 .ensures) (c .before .before .put-rounded5 .ensures)
+returns-5 c = let n = c .before .before .before .before in by 5 (n .before .before .before .before .before) _ (fifth (n .before)) (n .nearest5 .ensures) (c .before .before .put-rounded5 .ensures)
 
 put-rounded-requires-6 : tie.Need-put-rounded-requires-6
 put-rounded-requires-6 c κs = let t = c .before .before in (refl, long (t .before .before .before .before) 8 (last t))
 
 returns-6 : tie.Need-returns-6
-returns-6 c =
-    let n = c .before .before .before .before in
-    let t = n .before in
-    let a = t .before .before .before .before .args in
-    rounded-by 8 (a .code) (a .p) (n .nearest6 .result) (last t) (n .nearest6 .ensures) (c .before .before .put-rounded6 .ensures)
+returns-6 c = let n = c .before .before .before .before in by 8 (n .before .before .before .before .before) _ (last (n .before)) (n .nearest6 .ensures) (c .before .before .put-rounded6 .ensures)
 
 pub put-nearest-word-spec : {M : Type 1} → statement M
 put-nearest-word-spec =
