@@ -10,7 +10,7 @@
  *
  * Every answer begins with `number`: 0 where the call was taken, else the number of the cause, with what stands beside it in `beside`.
  * Members that say nothing are 0. A place is an offset in the input at fault, counted from 0; a byte number is the standard's, counted
- * from 1.
+ * from 1. aukpocket_blank_eight alone is lent no buffer and has no such answer: it takes a number, gives a number, and refuses nothing.
  *
  *   number  cause                                                     beside
  *    1      the reel has under 3,600 bytes                            its length
@@ -108,7 +108,10 @@ extern "C" {
  *   3  codes 5 and 8 and number 19 (0.4.0): structures and arrays are as under 2, and what was compiled under 2 can be linked as it is, but
  *      it meets reels and an answer that there weren't
  *   4  aukpocket_write_nearest, and `changed` at the end of aukpocket_reel_answer (0.5.0): what was compiled under 3 or before has to be
- *      compiled again */
+ *      compiled again
+ *
+ * aukpocket_blank_eight is there since 0.6.0, and the number stayed 4: all else is as it was, and what was compiled under 4 can be linked
+ * as it is. */
 #define AUKPOCKET_VERSION 4
 
 /* What a call on a whole reel or record answers: the traces, the samples of each, and the length of what was written. Beside a listing
@@ -171,6 +174,11 @@ struct aukpocket_reel_answer aukpocket_list_cards(const uint8_t *record, size_t 
  * aukpocket_write_reel does, then 17 by the length, then 17 by the place, then 10. */
 struct aukpocket_reel_answer aukpocket_take_cards(const uint8_t *record, size_t record_length, const uint8_t *listing,
                                                   size_t listing_length, uint8_t *out, size_t out_length);
+
+/* Takes any eight card bytes as one number, the first of them its highest byte, and gives the number that has a blank (40) for each byte 00
+ * and every other byte as it was. Each byte is replaced where it stands, so eight bytes that are loaded and stored in the machine's own
+ * order come out the same. aukpocket_read_reel does this with all 3,200 card bytes, in 400 steps. */
+uint64_t aukpocket_blank_eight(uint64_t cards);
 
 /* One sample, from the four bytes of its word to the six of its canonical pair: the exponent in two bytes, the mantissa in four, both
  * big-endian two's complement; and whether the word isn't normal. A code 3 sample is the word's first two bytes, a code 8 sample its first

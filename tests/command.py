@@ -1580,6 +1580,40 @@ def with_lines(record, lines):
 ALL_LISTING = listing_of(bytes(3) + ALL_CODES)
 
 
+class Blanks(Case):
+    """A card byte 00 is a blank: in the record, on a reel written from it, and in what is shown. Every other byte is as it was."""
+
+    def blanked(self, cards):
+        blanks = cards.replace(b"\0", b"\x40")
+        reel, other = (make_reel(2000, 2, 3, [make_trace([whole16(1), whole16(-2)])], cards=text) for text in (cards, blanks))
+        record, written = self.folder / "record", self.folder / "written"
+        said = []
+        for content in (reel, other):
+            path = self.file("reel", content)
+            self.fine("read", path, record, "--force")
+            self.assertEqual(record.read_bytes()[3:3203], blanks)
+            self.assertEqual(record.read_bytes(), reels.record_of(reel))
+            said.append((self.fine("info", path, "--cards", 40), self.fine("check", stdin=content)))
+        self.assertEqual(*said)
+        self.fine("write", record, 3, written, "--force")
+        self.assertEqual(written.read_bytes()[:3200], blanks)
+
+    def test_every_set_of_places(self):
+        """Zeros in every set of places among eight, beside bytes near 00, 40, 80, C0 and FF."""
+        for other in (0x01, 0x40, 0x41, 0x7F, 0x80, 0x81, 0xC0, 0xC1, 0xFE, 0xFF):
+            sets = (bytes(0 if places >> bit & 1 else other for bit in range(8)) for places in (*range(256), *range(144)))
+            self.blanked(b"".join(sets))
+
+    def test_all_and_none_and_some(self):
+        rnd = random.Random(6)
+        self.blanked(bytes(3200))
+        self.blanked(ALL_CODES)
+        for place in (0, 1, 7, 8, 1599, 1600, 3191, 3192, 3198, 3199):
+            self.blanked(with_bytes(ALL_CODES, place, b"\0"))
+        for _ in range(10):
+            self.blanked(bytes(rnd.choice((0x00, 0x00, 0x01, 0x40, 0x7F, 0x80, 0xFF, rnd.randrange(256))) for _ in range(3200)))
+
+
 class Cards(Case):
     """The cards printed, edited, and put in a new record."""
 
@@ -2228,6 +2262,7 @@ struct aukpocket_reel_answer proved_read_reel(const uint8_t *, size_t, uint8_t *
 struct aukpocket_reel_answer proved_write_reel(const uint8_t *, size_t, uint32_t, uint8_t *, size_t);
 struct aukpocket_reel_answer proved_write_nearest(const uint8_t *, size_t, uint32_t, uint8_t *, size_t);
 struct aukpocket_reel_answer proved_list_cards(const uint8_t *, size_t, uint8_t *, size_t);
+uint64_t proved_blank_eight(uint64_t);
 static int wrong(const char *way) { return getenv("WRONG") != NULL && strcmp(getenv("WRONG"), way) == 0; }
 static int reads;
 struct aukpocket_reel_answer aukpocket_read_reel(const uint8_t *reel, size_t reel_length, uint8_t *record, size_t record_length)
@@ -2266,6 +2301,10 @@ struct aukpocket_reel_answer aukpocket_list_cards(const uint8_t *record, size_t 
     if (wrong("listed changed"))
         answer.changed = 1;
     return answer;
+}
+uint64_t aukpocket_blank_eight(uint64_t cards)
+{
+    return wrong("zeros") ? cards : proved_blank_eight(cards);
 }
 struct aukpocket_reel_answer aukpocket_write_reel(const uint8_t *record, size_t record_length, uint32_t code, uint8_t *reel, size_t length)
 {
@@ -2315,8 +2354,8 @@ class Wrong(Built):
 
     def test_verify_finds_a_difference(self):
         library, command = self.folder / "libaukpocket.a", self.folder / "command"
-        names = [f"--redefine-sym=aukpocket_{call}=proved_{call}" for call in ("read_reel", "write_reel", "write_nearest", "list_cards")]
-        self.built("objcopy", *names, ARCHIVE, library)
+        calls = ("read_reel", "write_reel", "write_nearest", "list_cards", "blank_eight")
+        self.built("objcopy", *(f"--redefine-sym=aukpocket_{call}=proved_{call}" for call in calls), ARCHIVE, library)
         wrong = self.file("wrong.c", WRONG_LIBRARY.encode())
         self.built("cc", "-I", TOP / "include", "-c", wrong, "-o", self.folder / "wrong.o")
         self.built("ar", "r", library, self.folder / "wrong.o")
@@ -2340,11 +2379,13 @@ class Wrong(Built):
         # A length beyond the output is never believed, and no number of an answer is dropped.
         record = self.file("record", reels.record_of(SAMPLE.read_bytes()))
         cut, none = self.file("cut.sgy", SAMPLE.read_bytes()[:-1]), self.folder / "none"
+        zero = self.file("zero.sgy", with_bytes(SAMPLE.read_bytes(), 80, b"\0"))
         for way, words, said in (
             ("length", ("read", SAMPLE, none), "the library tells of 13030 bytes in an output of 13029"),
             ("place", ("read", SAMPLE, none), "the library tells of a place without a cause"),
             ("refusal", ("read", SAMPLE, none), "the library tells of counts beside a refusal"),
             ("traces", ("cards", record), "the library tells of other counts than a listing has"),
+            ("zeros", ("info", zero), "a record without traces is valid: Refusal { number: 13, beside: 83 }"),
             ("many", ("read", SAMPLE, none), "the library tells of 1441 words that aren't normal where 1440 were read"),
             ("counted", ("read", cut, none), "the library tells of counts beside a refusal"),
             ("listed", ("cards", record), "the library tells of 1 words that aren't normal where 0 were read"),
@@ -2662,7 +2703,58 @@ int main(void)
     if (sample.number != 0 || memcmp("\x80\0\0", word_out, 4) != 0)
         return 32;
     sample = aukpocket_read_word(6, words, pair_out);
-    return sample.number == 2 ? 0 : 33;
+    if (sample.number != 2)
+        return 33;
+    return aukpocket_blank_eight(0x00C1C2000040FF00) == 0x40C1C2404040FF40 ? 0 : 42;
+}
+"""
+
+# Eight card bytes as a number: worked examples, and zeros in every set of places beside every other byte.
+EIGHT_CARDS = r"""
+#include "aukpocket.h"
+#include <string.h>
+static const uint64_t worked[][2] = {
+    {0x0000000000000000, 0x4040404040404040}, {0xC1C2C3C4C5C6C7C8, 0xC1C2C3C4C5C6C7C8}, {0x4040404040404040, 0x4040404040404040},
+    {0x00C1C2C3C4C5C6C7, 0x40C1C2C3C4C5C6C7}, {0xC100C2C3C4C5C6C7, 0xC140C2C3C4C5C6C7}, {0xC1C200C3C4C5C6C7, 0xC1C240C3C4C5C6C7},
+    {0xC1C2C300C4C5C6C7, 0xC1C2C340C4C5C6C7}, {0xC1C2C3C400C5C6C7, 0xC1C2C3C440C5C6C7}, {0xC1C2C3C4C500C6C7, 0xC1C2C3C4C540C6C7},
+    {0xC1C2C3C4C5C600C7, 0xC1C2C3C4C5C640C7}, {0xC1C2C3C4C5C6C700, 0xC1C2C3C4C5C6C740}, {0x0001000101000100, 0x4001400101400140},
+    {0x0080008080008000, 0x4080408080408040}, {0x00FF00FFFF00FF00, 0x40FF40FFFF40FF40}, {0x0101010101010101, 0x0101010101010101},
+    {0x8080808080808080, 0x8080808080808080}, {0xFFFFFFFFFFFFFFFF, 0xFFFFFFFFFFFFFFFF}, {0x0000000000000001, 0x4040404040404001},
+    {0x8000000000000000, 0x8040404040404040}, {0x00000000FFFFFFFF, 0x40404040FFFFFFFF}, {0x017F80FE00FF8101, 0x017F80FE40FF8101},
+};
+static uint64_t big_endian(const unsigned char bytes[8])
+{
+    uint64_t number = 0;
+    int i;
+    for (i = 0; i < 8; i++)
+        number = number << 8 | bytes[i];
+    return number;
+}
+int main(void)
+{
+    uint64_t (*blank)(uint64_t) = aukpocket_blank_eight;
+    unsigned char cards[8], blanked[8];
+    uint64_t loaded;
+    size_t example;
+    int other, zeros, i;
+
+    for (example = 0; example < sizeof worked / sizeof worked[0]; example++)
+        if (blank(worked[example][0]) != worked[example][1])
+            return 1 + (int)example;
+    for (other = 1; other < 256; other++)
+        for (zeros = 0; zeros < 256; zeros++) {
+            for (i = 0; i < 8; i++) {
+                cards[i] = (unsigned char)(zeros >> i & 1 ? 0x00 : other);
+                blanked[i] = (unsigned char)(zeros >> i & 1 ? 0x40 : other);
+            }
+            if (blank(big_endian(cards)) != big_endian(blanked))
+                return 101;
+            memcpy(&loaded, cards, 8); /* in the machine's own order */
+            loaded = blank(loaded);
+            if (memcmp(&loaded, blanked, 8) != 0)
+                return 102;
+        }
+    return 0;
 }
 """
 
@@ -2689,6 +2781,15 @@ class Examples(Built):
         self.assertEqual(self.example(*program, self.folder / "missing", self.folder / "none")[0], 1)
         self.assertEqual(self.example(*program)[0], 1)
 
+    def in_c_and_cpp(self, source):
+        """Compiled as either, a program over the header ends well."""
+        for compiler, name in (("cc", "program.c"), ("c++", "program.cpp")):
+            if compiler == "c++" and shutil.which(compiler) is None:
+                continue
+            program = self.folder / "program"
+            self.built(compiler, "-I", TOP / "include", self.file(name, source.encode()), ARCHIVE, "-o", program)
+            self.assertEqual(self.example(program), (0, ""))
+
     def test_c(self):
         program = self.folder / "read_reel"
         self.built("cc", "-Wall", "-Wextra", "-Werror", "-I", TOP / "include", TOP / "examples/c/read_reel.c", ARCHIVE, "-o", program)
@@ -2708,13 +2809,20 @@ class Examples(Built):
             source += f"typedef char {kind}_size[sizeof({answer}) == {size} ? 1 : -1];\n"
             source += "".join(f"typedef char {kind}_{member}[offsetof({answer}, {member}) == {place} ? 1 : -1];\n"
                               for member, place in places.items())
-        source += EVERY_CALL
-        for compiler, name in (("cc", "sizes.c"), ("c++", "sizes.cpp")):
-            if compiler == "c++" and shutil.which(compiler) is None:
-                continue
-            program = self.folder / "sizes"
-            self.built(compiler, "-I", TOP / "include", self.file(name, source.encode()), ARCHIVE, "-o", program)
-            self.assertEqual(self.example(program), (0, ""))
+        self.in_c_and_cpp(source + EVERY_CALL)
+
+    def test_eight_cards(self):
+        self.in_c_and_cpp(EIGHT_CARDS)
+
+    def test_every_function(self):
+        """What the header declares is called above, stands in the README and is there for Rust, and nothing else."""
+        header, readme, rust = ((TOP / path).read_text(encoding="utf-8") for path in ("include/aukpocket.h", "README.md", "cli/src/library.rs"))
+        declared = sorted(re.findall(r"^\S.* (aukpocket_\w+)\(", header, re.M))
+        self.assertIn("aukpocket_read_reel", declared)
+        self.assertEqual(declared, sorted(set(re.findall(r"aukpocket_\w+(?=\()", EVERY_CALL))))
+        listed = readme.split("\n## The C library\n\n")[1].split("\n")[0]
+        self.assertEqual(declared, sorted(re.findall(r"`(aukpocket_\w+)`", listed)))
+        self.assertEqual(declared, sorted(re.findall(r"pub fn (aukpocket_\w+)\(", rust)))
 
 
 def main():

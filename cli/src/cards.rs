@@ -1,7 +1,7 @@
 //! Card bytes as text, through the library's listing.
 
-use crate::layout::{binary_place, BINARY, FIRST_TRACE, TAG};
-use aukpocket::{list_cards, LISTING_LENGTH};
+use crate::layout::{binary_place, BINARY, CARDS, FIRST_TRACE, TAG};
+use aukpocket::{blank_eight, list_cards, LISTING_LENGTH};
 use std::fmt::Write;
 
 /// How many cards a reel has, and the columns of each.
@@ -28,9 +28,14 @@ pub fn lines(listing: &[u8; LISTING_LENGTH]) -> impl Iterator<Item = &[u8]> {
 pub fn listing_of(bytes: &[u8]) -> [u8; LISTING_LENGTH] {
     let mut record = [0; FIRST_TRACE + TAG + 4];
     record[..TAG].copy_from_slice(&[0x01, 0x0C, 0x80]);
-    record[TAG..BINARY].fill(0x40);
-    for (card, &byte) in record[TAG..BINARY].iter_mut().zip(bytes) {
-        *card = if byte == 0x00 { 0x40 } else { byte };
+    // What is missing stays 00, and is blanked with the rest.
+    let there = bytes.len().min(CARDS);
+    record[TAG..][..there].copy_from_slice(&bytes[..there]);
+    for cards in record[TAG..BINARY].chunks_exact_mut(8) {
+        let mut eight = [0; 8];
+        eight.copy_from_slice(cards);
+        let blanked = blank_eight(u64::from_be_bytes(eight));
+        cards.copy_from_slice(&blanked.to_be_bytes());
     }
     record[BINARY..BINARY + TAG].copy_from_slice(&[0x02, 0x00, 0x3C]);
     record[binary_place(3217) + 1] = 1;
@@ -46,5 +51,29 @@ fn dotted(character: u8) -> char {
         '.'
     } else {
         character
+    }
+}
+
+#[cfg(test)]
+mod tests {
+    use super::*;
+
+    /// What is missing, and each byte 00, is a blank; what is beyond 40 cards isn't looked at.
+    #[test]
+    fn card_bytes_of_any_length() {
+        let bytes: Vec<u8> = [0xC1, 0x00, 0x5A, 0x00, 0x00].repeat(700);
+        for length in [0, 1, 2, 7, 8, 9, 80, 3195, 3196, 3199, 3200, 3201, 3500] {
+            let listing = listing_of(&bytes[..length]);
+            let shown: Vec<u8> = lines(&listing).flatten().copied().collect();
+            for (place, &character) in shown.iter().enumerate() {
+                let expected = match bytes[..length].get(place) {
+                    Some(0xC1) => b'A',
+                    Some(0x5A) => b'!',
+                    _ => b' ',
+                };
+                assert_eq!(character, expected, "place {place} of {length}");
+            }
+            assert_eq!(shown.len(), CARDS);
+        }
     }
 }

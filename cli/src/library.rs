@@ -2,7 +2,7 @@
 //!
 //! A call is lent slices and answers with numbers. It keeps no reference, allocates nothing, and leaves its output as it was where it
 //! refuses. A slice is never null, even an empty one, and one that is lent for writing overlaps no other: so what the header asks of its
-//! caller holds for every call that compiles.
+//! caller holds for every call that compiles. `blank_eight` alone is lent nothing: it takes a number and gives a number.
 
 /// What the library declares, as the header has it.
 mod c {
@@ -78,6 +78,7 @@ mod c {
             out: *mut u8,
             out_length: usize,
         ) -> ReelAnswer;
+        pub fn aukpocket_blank_eight(cards: u64) -> u64;
         pub fn aukpocket_read_word(code: u32, word: *const u8, pair: *mut u8) -> SampleAnswer;
         pub fn aukpocket_write_pair(code: u32, pair: *const u8, word: *mut u8) -> SampleAnswer;
     }
@@ -271,6 +272,12 @@ pub fn take_cards(record: &[u8], listing: &[u8], out: &mut [u8]) -> Result<Taken
         )
     };
     taken(answer, room)
+}
+
+/// Eight card bytes as one number, the first of them its highest byte, with 40 for each byte 00 and every other byte as it was.
+pub fn blank_eight(cards: u64) -> u64 {
+    // SAFETY: the function takes every number and is lent no bytes.
+    unsafe { c::aukpocket_blank_eight(cards) }
 }
 
 /// The canonical pair of a word under a code, and whether the word isn't normal.
@@ -552,6 +559,47 @@ mod tests {
         assert_eq!((refused.number, refused.beside), (13, 3));
         let refused = list_cards(&[]).unwrap_err();
         assert_eq!((refused.number, refused.beside), (12, 0));
+    }
+
+    /// Eight card bytes: one byte in each place that has a 1 in `places`, another in the rest.
+    fn eight(places: u8, there: u8, rest: u8) -> [u8; 8] {
+        let byte = |place| match places & place {
+            0 => rest,
+            _ => there,
+        };
+        [0x80, 0x40, 0x20, 0x10, 0x08, 0x04, 0x02, 0x01].map(byte)
+    }
+
+    /// Zeros in every set of places, beside every other byte. The machine's own order gives the same bytes.
+    #[test]
+    fn eight_cards() {
+        assert_eq!(blank_eight(0), 0x4040_4040_4040_4040);
+        assert_eq!(blank_eight(0x0001_80FF_C300_0100), 0x4001_80FF_C340_0140);
+        for [other, zeros] in (0x0100..=0xFFFF).map(u16::to_be_bytes) {
+            let (cards, blanked) = (eight(zeros, 0x00, other), eight(zeros, 0x40, other));
+            let given = blank_eight(u64::from_be_bytes(cards)).to_be_bytes();
+            assert_eq!(given, blanked, "{cards:02X?}");
+            let given = blank_eight(u64::from_ne_bytes(cards)).to_ne_bytes();
+            assert_eq!(given, blanked, "{cards:02X?}");
+        }
+    }
+
+    /// Reading blanks the zeros among all card bytes, and a reel that has blanks there has the same record.
+    #[test]
+    fn cards_of_a_reel() {
+        let others = [0x01, 0x7F, 0x80, 0xC1, 0xFF];
+        let cards = |zero| -> Vec<u8> {
+            let eights = (0..400).map(|word| eight(word as u8, zero, others[word % 5]));
+            eights.flatten().collect()
+        };
+        let [zeros, blanks] = [0x00, 0x40].map(|zero| {
+            let (mut reel, mut record) = (example(), vec![0; 3471]);
+            reel[..3200].copy_from_slice(&cards(zero));
+            read_reel(&reel, &mut record).unwrap();
+            record
+        });
+        assert_eq!(zeros[3..3203], cards(0x40));
+        assert_eq!(zeros, blanks);
     }
 
     #[test]

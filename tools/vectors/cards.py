@@ -1,4 +1,4 @@
-"""The card listing and its way back, worked out from document 02's CR 1 alone.
+"""The card listing, its way back and eight card bytes blanked, worked out from document 02's CR 1 and CR 6 alone.
 
     python3 tools/vectors/cards.py            checks this file on the paper's statements
 
@@ -9,6 +9,7 @@ it, is a tuple:
     ("taken", length, listing)         by listing; the listing is bytes
     ("taken", T, N, length, record)    by taking back; the record is bytes
     ("refused", number, beside)        by either; beside is a place or a length
+Blanking takes a number and gives a number.
 """
 
 import random
@@ -21,7 +22,7 @@ sys.dont_write_bytecode = True
 from records import (  # noqa: E402
     TAG, counts, first_cause, make_record, some_cards, some_fields, some_traces, with_bytes,
 )
-from reels import CARDS, some_bytes  # noqa: E402
+from reels import CARDS, card_text, make_reel, some_bytes  # noqa: E402
 from samples import pair_bytes  # noqa: E402
 
 LINES, COLUMNS = 40, 80
@@ -42,6 +43,19 @@ def code_of(character):
     return chr(character).encode("cp037")[0]
 
 
+# ------------------------------------------------------------- the blanks
+
+
+def blanked(cards):
+    """Card bytes with 40 for each 00 and every other byte as it was."""
+    return cards.replace(b"\x00", b"\x40")
+
+
+def blank_eight(number):
+    """What eight card bytes become, as one number, the first byte highest."""
+    return int.from_bytes(blanked(number.to_bytes(8, "big")), "big")
+
+
 # ------------------------------------------------------------ the listing
 
 
@@ -59,7 +73,7 @@ def listing_of(cards):
 def cards_of(listing):
     """The card bytes of a listing of the right form, 40 in place of 00."""
     characters = (character for i, character in enumerate(listing) if i % (COLUMNS + 1) != COLUMNS)
-    return bytes(map(code_of, characters)).replace(b"\x00", b"\x40")
+    return blanked(bytes(map(code_of, characters)))
 
 
 def listing_cause(listing):
@@ -109,6 +123,30 @@ def check_page():
         (0x00, 0x00), (0x0D, 0x0D), (0x15, 0x85), (0x25, 0x0A), (0x40, 0x20), (0xC1, 0x41), (0xF0, 0x30), (0xFF, 0x9F),
     ):
         assert character_of(code) == character
+
+
+def check_blanks():
+    """Each byte 00 alone, beside 01, 80 and FF, all and none; then the cards of reels, eight by eight."""
+    for number, blanks in (
+        (0xC3F140D3C9D5C57A, 0xC3F140D3C9D5C57A), (0x00F140D3C9D5C57A, 0x40F140D3C9D5C57A),
+        (0xC30040D3C9D5C57A, 0xC34040D3C9D5C57A), (0xC3F100D3C9D5C57A, 0xC3F140D3C9D5C57A),
+        (0xC3F14000C9D5C57A, 0xC3F14040C9D5C57A), (0xC3F140D300D5C57A, 0xC3F140D340D5C57A),
+        (0xC3F140D3C900C57A, 0xC3F140D3C940C57A), (0xC3F140D3C9D5007A, 0xC3F140D3C9D5407A),
+        (0xC3F140D3C9D5C500, 0xC3F140D3C9D5C540), (0x0000000000000000, 0x4040404040404040),
+        (0x0101010101010101, 0x0101010101010101), (0x8080808080808080, 0x8080808080808080),
+        (0xFFFFFFFFFFFFFFFF, 0xFFFFFFFFFFFFFFFF), (0x0000000000000001, 0x4040404040404001),
+        (0x0100000000000000, 0x0140404040404040), (0x0001000100010001, 0x4001400140014001),
+        (0x0100010001000100, 0x0140014001400140), (0x0080008000800080, 0x4080408040804080),
+        (0x8000800080008000, 0x8040804080408040), (0x00FF00FF00FF00FF, 0x40FF40FF40FF40FF),
+        (0xFF00FF00FF00FF00, 0xFF40FF40FF40FF40),
+    ):
+        assert blank_eight(number) == blanks == blank_eight(blanks), f"{number:016X}"
+    rnd = random.Random(1975)
+    for choices in (b"\x00", b"\x00\x01\x40\x80\xFF", bytes(range(256))):
+        cards = bytes(choices[rnd.getrandbits(32) % len(choices)] for _ in range(CARDS))
+        text = card_text(make_reel(2000, 2, 1, cards=cards))
+        for i in range(0, CARDS, 8):
+            assert int.from_bytes(text[i : i + 8], "big") == blank_eight(int.from_bytes(cards[i : i + 8], "big"))
 
 
 def check_example():
@@ -163,6 +201,7 @@ def check_order():
 
 def main():
     check_page()
+    check_blanks()
     check_example()
     check_there_and_back(random.Random(1975))
     check_order()

@@ -1,4 +1,4 @@
-"""Test vectors for the card listing and its way back, worked out from document 02's CR 1 alone.
+"""Test vectors for the card listing, its way back and eight card bytes blanked, from document 02's CR 1 and CR 6 alone.
 
 Run from the root of the repository:  python3 tools/vectors/listing_vectors.py [--check | --list]
 It rewrites crates/listing_vectors/stdin and crates/listing_vectors/stdout; with
@@ -8,20 +8,22 @@ what each case is about beside its line, and neither writes anything.
 The rules are those of tools/vectors/cards.py. Beside them nearly every case
 has its answer worked out by hand, and both must agree. Each listing is taken
 back, and its record must come out; each record that came of a listing is
-listed, and that listing must come out.
+listed, and that listing must come out. What was blanked is blanked again, and
+must stay.
 
 stdin is a row of cases without anything between them, at most 1,000,000 bytes:
-    1 byte     call: 1 lists, 2 takes back
-    4 bytes    room, the length of the output, big-endian, at most 60,000
-    4 bytes    length of the record, big-endian, at most 60,000
-    4 bytes    length of the listing, big-endian, at most 60,000; 0 for call 1
-    the record
+    1 byte     call: 1 lists, 2 takes back, 3 blanks eight card bytes
+    4 bytes    room, the length of the output, big-endian, at most 60,000; 0 for call 3
+    4 bytes    length of the record, big-endian, at most 60,000; 8 for call 3
+    4 bytes    length of the listing, big-endian, at most 60,000; 0 for calls 1 and 3
+    the record; for call 3 the eight card bytes
     the listing
 
 The output holds bytes A5 before each call. stdout has a line for each case:
     taken LENGTH DIGEST              call 1
     taken T N LENGTH DIGEST          call 2
-    refused NUMBER BESIDE DIGEST     either
+    refused NUMBER BESIDE DIGEST     either of these
+    blanked NUMBER                   call 3; the eight bytes that they become as one number, the first highest
 DIGEST is that of the whole output after the call, all its room. A digest is 0
 at first, and each byte b makes (digest * 31 + b) mod 2^32 of it. All numbers
 are decimal.
@@ -35,7 +37,7 @@ from pathlib import Path
 sys.path.insert(0, str(Path(__file__).resolve().parent))
 sys.dont_write_bytecode = True
 
-from cards import LISTING, after, list_cards, listing_of, place_of_line_end, take_cards  # noqa: E402
+from cards import LISTING, after, blank_eight, list_cards, listing_of, place_of_line_end, take_cards  # noqa: E402
 from records import (  # noqa: E402
     make_record, place_of_card, place_of_field, place_of_pair, place_of_samples, refilled, relengthed,
     retagged, some_cards, some_fields, some_traces, with_bytes,
@@ -46,7 +48,7 @@ from write_vectors import digest, joined, whole  # noqa: E402
 
 FOLDER = Path(__file__).resolve().parents[2] / "crates" / "listing_vectors"
 
-LIST, TAKE = 1, 2
+LIST, TAKE, BLANK = 1, 2, 3
 MOST = 60000  # of room, of a record and of a listing
 MOST_STDIN = 900000
 FILLING = b"\xA5"
@@ -93,11 +95,14 @@ class Cases:
         line = " ".join(str(item) for item in said)
         assert by_hand in (None, line), (what, by_hand, line)
         assert output_by_hand in (None, output), what
+        self.add(f"{name}: {what}", call, record, listing, room, f"{line} {digest(output)}")
+
+    def add(self, what, call, record, listing, room, line):
         lengths = (room, len(record), len(listing))
         case = bytes([call]) + b"".join(length.to_bytes(4, "big") for length in lengths) + record + listing
         assert case not in self.seen, what
         self.seen.add(case)
-        self.all.append((f"{name}: {what}", case, f"{line} {digest(output)}"))
+        self.all.append((what, case, line))
 
     def listed(self, what, record, more=0, by_hand=None):
         """A record that is listed; the room is what the listing needs, and so much more."""
@@ -117,6 +122,16 @@ class Cases:
     def not_taken(self, what, record, listing, number, beside, room=None):
         """A listing or a record that isn't taken, with any room if none is named."""
         self.put(what, TAKE, record, listing, self.any_room(room), f"refused {number} {beside}")
+
+    def blanked(self, what, cards, by_hand=None):
+        """Eight card bytes, and what they become where it was worked out by hand; bytes, or hexadecimal digits."""
+        cards, by_hand = (bytes.fromhex(some) if isinstance(some, str) else some for some in (cards, by_hand))
+        assert len(cards) == 8
+        number = blank_eight(int.from_bytes(cards, "big"))
+        assert by_hand is None or number == int.from_bytes(by_hand, "big"), what
+        assert blank_eight(number) == number and 0x00 not in number.to_bytes(8, "big"), what
+        self.kinds["blanking"] += 1
+        self.add(f"blanking: {what}", BLANK, cards, NO_LISTING, 0, f"blanked {number}")
 
     def any_room(self, room):
         return (4600, 0, 3239, 3240, 5000)[len(self.all) % 5] if room is None else room
@@ -380,9 +395,56 @@ def any_bytes(x, rnd):
         x.not_taken(f"some {len(record)} bytes and {len(listing)}", record, listing, 12, 0, rnd.getrandbits(9))
 
 
+# -------------------------------------------------------------- the blanks
+
+
+def eights(x, rnd):
+    """Eight card bytes: the bytes 00 alone, beside others, all, none, and any."""
+    text = bytes.fromhex("C3F140D3C9D5C57A")
+    x.blanked("a text", text, text)
+    for i in range(8):
+        x.blanked(f"a text, 00 at {i}", with_bytes(text, i, b"\x00"), with_bytes(text, i, b"\x40"))
+    x.blanked("all 00", "0000000000000000", "4040404040404040")
+    for byte in (0x01, 0x40, 0x7F, 0x80, 0xFF):
+        others = bytes([byte])
+        x.blanked(f"all {byte:02X}", others * 8, others * 8)
+        for i in range(8):
+            rest = others * (7 - i)
+            x.blanked(f"00 at {i}, the others {byte:02X}", others * i + b"\x00" + rest, others * i + b"\x40" + rest)
+            x.blanked(f"{byte:02X} at {i}, the others 00", bytes(i) + others + bytes(7 - i),
+                      b"\x40" * i + others + b"\x40" * (7 - i))
+    # within a text, in either order
+    for byte in (0x01, 0x80, 0xFF):
+        for i in range(7):
+            x.blanked(f"{byte:02X} 00 at {i}", with_bytes(text, i, bytes([byte, 0x00])), with_bytes(text, i, bytes([byte, 0x40])))
+            x.blanked(f"00 {byte:02X} at {i}", with_bytes(text, i, bytes([0x00, byte])), with_bytes(text, i, bytes([0x40, byte])))
+    x.blanked("no 00, every digit", "0123456789ABCDEF", "0123456789ABCDEF")
+    x.blanked("no 00, each bit once", "0102040810204080", "0102040810204080")
+    x.blanked("00 and each bit", "0001008000400002", "4001408040404002")
+    x.blanked("the first four 00", "00000000FFFFFFFF", "40404040FFFFFFFF")
+    x.blanked("the last four 00", "0101010100000000", "0101010140404040")
+    x.blanked("the middle four 00", "8080000000008080", "8080404040408080")
+    x.blanked("all but the middle four 00", "0000FF01FF010000", "4040FF01FF014040")
+    x.blanked("each other 00 before 01", "0001000100010001", "4001400140014001")
+    x.blanked("each other 00 after 01", "0100010001000100", "0140014001400140")
+    x.blanked("each other 00 before 80", "0080008000800080", "4080408040804080")
+    x.blanked("each other 00 after 80", "8000800080008000", "8040804080408040")
+    x.blanked("each other 00 before FF", "00FF00FF00FF00FF", "40FF40FF40FF40FF")
+    x.blanked("each other 00 after FF", "FF00FF00FF00FF00", "FF40FF40FF40FF40")
+    x.blanked("two and two 00", "0101000001010000", "0101404001014040")
+    # any choice of bytes 00 with any others, then any bytes
+    for _ in range(48):
+        others = bytes(1 + rnd.getrandbits(32) % 255 for _ in range(8))
+        zeros = [rnd.getrandbits(1) for _ in range(8)]
+        x.blanked(f"00 at {[i for i in range(8) if zeros[i]]}", bytes(0x00 if zeros[i] else others[i] for i in range(8)),
+                  bytes(0x40 if zeros[i] else others[i] for i in range(8)))
+    for _ in range(16):
+        x.blanked("any bytes", some_bytes(rnd, 8))
+
+
 PARTS = (
     good_records, good_listings, room, records_with_a_cause, listings_of_another_length, line_ends, order, small_changes,
-    any_bytes,
+    any_bytes, eights,
 )
 
 

@@ -1,7 +1,10 @@
 // The C interface: an exported function for each public call. A slice is a pointer and a length; an answer is a structure of numbers,
 // whose `number` is 0 where the call was taken, else the number of the cause.
 ghost use mathlib.Core.Path.{_≡_};
+ghost use mathlib.Core.List.{map};
 ghost use Rattle.numbers.specs.Places.{placeNo};
+ghost use Rattle.numbers.specs.BigEndian.{number, bytesOf};
+ghost use Rattle.cards.specs.Cards.{blank};
 ghost use Rattle.sample.specs.Calls as single;
 ghost use Rattle.record.specs.Answer.{saidBy, countedBy};
 ghost use Rattle.read_reel.specs.Reading.{readOutcome};
@@ -179,6 +182,14 @@ pub extern "C" fn aukpocket_take_cards(record: &[u8], listing: &[u8], out: &mut 
     ensures { λ r. ⌜ reelIn r (now (out .exit)) ≡ reelHanded (calls.takeOutcome latin (now («record» .entry)) (now (listing .entry)) (now (out .entry))) ⌝ }
 {
     reel_answer(listing::take_cards(record, listing, out))
+}
+
+// Eight card bytes as one number, the first highest: 40 for each 00, and every other byte as it was.
+#[no_mangle]
+pub extern "C" fn aukpocket_blank_eight(cards: u64) -> u64
+    ensures { λ r. ⌜ r ≡ number (map blank (bytesOf 8 cards)) ⌝ }
+{
+    cards::blank_eight(cards)
 }
 
 // Looks up the field that begins at a byte number, of the binary header for trace 0, else of that trace.

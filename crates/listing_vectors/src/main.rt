@@ -1,10 +1,10 @@
-// Runs listing vectors. The input is a row of cases without anything between them:
+// Runs vectors of listings and of card bytes. The input is a row of cases without anything between them:
 //
-//     1 byte     call: 1 lists the cards, 2 takes a listing back
+//     1 byte     call: 1 lists the cards, 2 takes a listing back, 3 blanks eight card bytes
 //     4 bytes    room, the length of the output, big-endian, at most 60,000
-//     4 bytes    length of the record, big-endian, at most 60,000
-//     4 bytes    length of the listing, big-endian, at most 60,000; 0 for call 1
-//     the record
+//     4 bytes    length of the record, big-endian, at most 60,000; 8 for call 3
+//     4 bytes    length of the listing, big-endian, at most 60,000; 0 for calls 1 and 3
+//     the record, for call 3 the eight card bytes
 //     the listing
 //
 // The output holds bytes A5 before each call. Each case is answered by a line, its items parted by one space:
@@ -12,6 +12,7 @@
 //     taken LENGTH DIGEST              call 1
 //     taken T N LENGTH DIGEST          call 2
 //     refused NUMBER BESIDE DIGEST     either
+//     blanked NUMBER                   call 3: the eight bytes as one number
 //
 // DIGEST is that of the whole output after the call, all its room. A digest is 0 at first, and each byte b makes
 // (digest * 31 + b) mod 2^32 of it. All numbers are decimal. A case that is cut short, or longer than 60,000, or of another call, is
@@ -105,6 +106,19 @@ fn refuse_case() -> bool {
     false
 }
 
+// The line of a case of call 3, and whether to go on: not where it isn't of eight card bytes.
+fn blank(cards: &[u8]) -> bool {
+    if cards.len() != 8 {
+        return refuse_case();
+    }
+    let a = numbers::be32(cards[0], cards[1], cards[2], cards[3]) as u64;
+    let b = numbers::be32(cards[4], cards[5], cards[6], cards[7]) as u64;
+    io::write_all(STDOUT_FILENO, b"blanked");
+    print_item(cards::blank_eight(a * 0x1_0000_0000 + b));
+    print_end();
+    true
+}
+
 // The line of a case, and whether to go on.
 fn run(call: u8, record: &[u8], listing: &[u8], out: &mut [u8]) -> bool {
     fill(out);
@@ -115,6 +129,9 @@ fn run(call: u8, record: &[u8], listing: &[u8], out: &mut [u8]) -> bool {
     if call == 2 {
         take_back(record, listing, out);
         return true;
+    }
+    if call == 3 {
+        return blank(record);
     }
     refuse_case()
 }

@@ -2,7 +2,7 @@
 use mathlib.Core.Path.{_≡_, refl, sym, ap, _∙_}
 use mathlib.Core.List.{List, [], _∷_, _++_}
 use Prim.Native.Nat.{ℕ, zero, suc, _+_, _*_, _/_, _%_, _^_, _<_}
-use native.Mathlib.Nat.{mod-one, mul-one, add-zero, pow-suc, one-le-pow, zero-lt-suc, mul-assoc, mul-comm, add-assoc, mod-eq-of-lt, zero-mul, zero-add, add-mul, mul-add-div-right, mul-add-mod-self-right}
+use native.Mathlib.Nat.{mod-one, div-one, div-div-eq-div-mul, mul-one, add-zero, pow-suc, one-le-pow, zero-lt-suc, mul-assoc, mul-comm, add-assoc, mod-eq-of-lt, zero-mul, zero-add, add-mul, mul-add-div-right, mul-add-mod-self-right}
 use native.Mathlib.Omega.{arith}
 use lib.Arith.{mod-mul, digits-div, digits-lt}
 use lib.ListN.{length, getD}
@@ -74,6 +74,23 @@ bytes-number (b ∷ l) h =
     rw (first-is b l)
     (cons-eq (ap (λ (x : ℕ). x % 256) (digits-div b (number-lt l (h .1))) ∙ mod-eq-of-lt (h .0))
     (ap (λ (x : ℕ). bytesOf k (b * 256 ^ x + n)) (sym (zero-add k)) ∙ low-bytes k 0 b n ∙ bytes-number l (h .1)))
+
+-- ## The last byte
+
+-- The last byte stands below the bytes before it.
+last-after : (a : ℕ) (l : List ℕ) (b : ℕ) → numberAfter a (l ++ (b ∷ [])) ≡ numberAfter a l * 256 + b
+last-after a [] b = refl
+last-after a (x ∷ l) b = last-after (a * 256 + x) l b
+
+pub number-last : (l : List ℕ) (b : ℕ) → number (l ++ (b ∷ [])) ≡ number l * 256 + b
+number-last l b = last-after 0 l b
+
+-- The k + 1 lowest bytes of a number are the k before its last byte, and that one.
+pub bytes-last : (k n : ℕ) → bytesOf (suc k) n ≡ bytesOf k (n / 256) ++ (n % 256 ∷ [])
+bytes-last zero n = rw div-one
+bytes-last (suc k) n =
+    let p : n / 256 ^ suc k ≡ n / 256 / 256 ^ k = ap (λ (x : ℕ). n / x) (pow-suc 256 k ∙ mul-comm (256 ^ k) 256) ∙ sym (div-div-eq-div-mul n 256 (256 ^ k)) in
+    cons-eq (ap (λ (x : ℕ). x % 256) p) (bytes-last k n)
 
 -- ## Bytes by offset
 

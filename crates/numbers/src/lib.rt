@@ -1,6 +1,6 @@
 // What every layer uses: the types of places, byte numbers and checks, numbers of bytes in either order, two's complement.
 ghost use mathlib.Core.Path.{_≡_};
-ghost use mathlib.Core.List.{[], _∷_};
+ghost use mathlib.Core.List.{[], _∷_, reverse};
 ghost use Prim.Native.Nat.{_^_, _≤_};
 ghost use lib.IntN.{natAbs};
 ghost use Rattle.numbers.specs.BigEndian.{number, bytesOf};
@@ -47,6 +47,13 @@ pub fn le32(a: u8, b: u8, c: u8, d: u8) -> u32
     a as u32 + b as u32 * 0x100 + c as u32 * 0x1_0000 + d as u32 * 0x100_0000
 }
 
+// The number of eight bytes, the first lowest.
+pub fn le64(a: u8, b: u8, c: u8, d: u8, e: u8, f: u8, g: u8, h: u8) -> u64
+    ensures { λ r. ⌜ r ≡ number (h ∷ g ∷ f ∷ e ∷ d ∷ c ∷ b ∷ a ∷ []) ⌝ }
+{
+    le32(a, b, c, d) as u64 + le32(e, f, g, h) as u64 * 0x1_0000_0000
+}
+
 // The two bytes of a number.
 pub fn bytes16(n: u16) -> [u8; 2]
     ensures { λ r. ⌜ r ≡ bytesOf 2 n ⌝ }
@@ -63,6 +70,22 @@ pub fn bytes32(n: u32) -> [u8; 4]
         (n / 0x1_0000 % 256) as u8,
         (n / 256 % 256) as u8,
         (n % 256) as u8,
+    ]
+}
+
+// The eight bytes of a number, the lowest first.
+pub fn le_bytes64(n: u64) -> [u8; 8]
+    ensures { λ r. ⌜ r ≡ reverse (bytesOf 8 n) ⌝ }
+{
+    [
+        (n % 256) as u8,
+        (n / 256 % 256) as u8,
+        (n / 0x1_0000 % 256) as u8,
+        (n / 0x100_0000 % 256) as u8,
+        (n / 0x1_0000_0000 % 256) as u8,
+        (n / 0x100_0000_0000 % 256) as u8,
+        (n / 0x1_0000_0000_0000 % 256) as u8,
+        (n / 0x100_0000_0000_0000 % 256) as u8,
     ]
 }
 

@@ -11,7 +11,6 @@ ghost use Rattle.numbers.specs.BigEndian.{bytesOf};
 ghost use Rattle.formats.specs.Codes.{isCode, sampleBytes};
 ghost use Rattle.reel.specs.Layout.{firstTrace, traceHeader, stride};
 ghost use Rattle.reel.specs.Causes.{mostSamples, mostTraces, reelJudged};
-ghost use Rattle.reel.specs.Meaning.{blank};
 ghost use Rattle.reel.specs.NotNormal.{notNormalIn, notNormalAmong};
 ghost use Rattle.read_samples.specs.Samples.{places};
 ghost use Rattle.record.specs.Form.{tracesPlace, heldStride};
@@ -31,27 +30,6 @@ fn put_tag(tag: u8, size: u16, out: &mut [u8])
 {
     out[0] = tag;
     slices::put16(size, &mut out[1..3]);
-}
-
-fn blank_of(b: u8) -> u8
-    ensures { λ r. ⌜ r ≡ blank b ⌝ }
-{
-    if b == 0 {
-        return 0x40;
-    }
-    b
-}
-
-// Card bytes, 40 in place of 00.
-fn put_cards(src: &[u8], out: &mut [u8])
-    requires { ⌜ length (now out) ≡ length (now src) ⌝ }
-    ensures { λ _. ⌜ now (out .exit) ≡ map blank (now (src .entry)) ⌝ }
-{
-    let mut i = 0;
-    while i < src.len() {
-        out[i] = blank_of(src[i]);
-        i += 1;
-    }
 }
 
 // Stores a number over the two bytes at a place.
@@ -126,7 +104,7 @@ fn put_fields(reel: &[u8], out: &mut [u8])
     ensures { λ _. ⌜ now (out .exit) ≡ fieldsCopied (now (reel .entry)) ⌝ }
 {
     put_tag(1, 3200, &mut out[0..3]);
-    put_cards(&reel[0..3200], &mut out[3..3203]);
+    cards::put_cards(&reel[0..3200], &mut out[3..3203]);
     put_tag(2, 60, &mut out[3203..3206]);
     slices::copy(&reel[3200..3260], &mut out[3206..3266]);
 }

@@ -5,7 +5,7 @@ use mathlib.Core.Bool.{Bool, true, false, not, _&&_}
 use Prim.Native.Nat.{ℕ, zero, suc, _+_, _-_, _*_, _≤_, _<_}
 use native.Mathlib.Nat.{add-zero, zero-add, zero-mul, suc-mul}
 use native.Mathlib.Omega.{arith}
-use borrow.Author.Tests.{leb-true, eqb-true, ltb-false, ltb-true, not-false, lt-ltb}
+use borrow.Author.Tests.{leb-true, eqb-true, ltb-false, ltb-true, not-true, not-false, lt-ltb}
 use lib.Dec.{T, leb, ltb, eqb}
 use lib.ListN.{length, getD}
 use Rattle.numbers.specs.Walk.{pick, walk, bytesAt}
@@ -16,13 +16,15 @@ use Rattle.numbers.specs.declared.Place.{Place}
 use Rattle.numbers.specs.declared.Check.{Check}
 use Rattle.numbers.specs.declared.Check.the-variants.{Fine, Refused}
 use Rattle.numbers.proofs.CauseLaws.{then-assoc, passed, then-fine}
+use Rattle.numbers.proofs.BoolLaws.{and-true}
+use Rattle.cards.specs.Cards.{noZero}
 use Rattle.value.specs.Pair.{pairLength}
 use Rattle.formats.specs.declared.Written.the-variants as written
 use Rattle.reel.specs.Layout.{number16}
 use Rattle.reel.specs.Causes.{mostSamples, mostTraces, mostInterval, within}
 use Rattle.reel.proofs.CheckLaws.{both-true, in-limits}
 use Rattle.headers.specs.Header.{smallestCauses}
-use Rattle.record.specs.Form.{isField, fieldCause, cardsCauses, heldSamples, heldInterval, binaryCauses, tracesPlace, heldStride, pairCause, samplesCauses, headerCauses, traceForm, tagsFrom, heldCount, endCauses, bodyCauses, formCauses, recordFound, numbersIn}
+use Rattle.record.specs.Form.{isField, fieldCause, cardCause, cardsCauses, heldSamples, heldInterval, binaryCauses, tracesPlace, heldStride, pairCause, samplesCauses, headerCauses, traceForm, tagsFrom, heldCount, endCauses, bodyCauses, formCauses, recordFound, numbersIn}
 use Rattle.record.specs.declared.Judged.the-variants as judged
 use Rattle.record.specs.Parts.{headForm, formFrom}
 
@@ -32,6 +34,16 @@ use Rattle.record.specs.Parts.{headForm, formFrom}
 pub field-room : (s : List ℕ) (tag size at : ℕ) → fieldCause s tag size at ≡ Fine → at + (3 + size) ≤ length s
 field-room s tag size at e =
     leb-true (at + (3 + size)) (length s) (both-true (leb (at + (3 + size)) (length s)) (eqb (getD s at 0) tag && eqb (number16 s (at + 1)) size) (passed (not (isField s tag size at)) 12 at e) .0)
+
+-- ## Cards
+
+-- where no byte is 00, none is refused
+pub cards-fine : (s : List ℕ) (k at : ℕ) → noZero (bytesAt s at k) ≡ true → firstOf (walk (cardCause s) 1 k at) ≡ Fine
+unfolding bytesAt
+cards-fine s zero at e = refl
+cards-fine s (suc k) at e =
+    let b = and-true (not (eqb (getD s at 0) 0)) (noZero (walk (λ a. getD s a 0) 1 k (at + 1))) e in
+    rw (not-true (eqb (getD s at 0) 0) (b .0)) (cards-fine s k (at + 1) (b .1))
 
 -- ## A trace
 

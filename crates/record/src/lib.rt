@@ -94,8 +94,8 @@ fn check_field(record: &[u8], tag: u8, size: usize, at: usize) -> Check
     Check::Fine
 }
 
-// 13: the first card byte 00.
-fn check_card_bytes(record: &[u8]) -> Check
+// 13: the first card byte 00, byte by byte.
+fn find_card_zero(record: &[u8]) -> Check
     requires { ⌜ 3203 ≤ length (now «record») ⌝ }
     ensures { λ r. ⌜ r ≡ firstOf (walk (cardCause (now («record» .entry))) 1 3200 3) ⌝ }
 {
@@ -112,6 +112,17 @@ fn check_card_bytes(record: &[u8]) -> Check
         left -= 1;
     }
     Check::Fine
+}
+
+// 13: the first card byte 00, for which only a card text that has one is searched.
+fn check_card_bytes(record: &[u8]) -> Check
+    requires { ⌜ 3203 ≤ length (now «record») ⌝ }
+    ensures { λ r. ⌜ r ≡ firstOf (walk (cardCause (now («record» .entry))) 1 3200 3) ⌝ }
+{
+    if cards::is_card_text(&record[3..3203]) {
+        return Check::Fine;
+    }
+    find_card_zero(record)
 }
 
 // 12 and 13 of tag 01.

@@ -9,10 +9,8 @@ use Rattle.numbers.specs.BigEndian.{number}
 use Rattle.numbers.specs.TwosComplement.{signedOf}
 use Rattle.numbers.specs.Places.{bytePlace}
 use Rattle.formats.specs.Codes.{sampleBytes}
-
--- The card bytes, 40 cards of 80.
-abbrev pub cardBytes : ℕ
-cardBytes = 3200
+-- The card bytes, 40 cards of 80, which `Cards` defines: 3,200.
+pub use Rattle.cards.specs.Cards.{cardBytes}
 
 -- The place of the first trace, behind both headers.
 abbrev pub firstTrace : ℕ

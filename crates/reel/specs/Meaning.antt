@@ -11,10 +11,8 @@ use Rattle.scalars.specs.Scalar.{scaledValues}
 use Rattle.reel.specs.Layout.{Field, cardBytes, firstTrace, traceHeader, binaryFields, traceFields, elevationScalar, coordinateScalar, fieldNumber, intervalOf, samplesOf, codeOf, strideOf, tracesOf}
 use Rattle.formats.specs.Codes.{wordLength, sampleBytes}
 use Rattle.reel.specs.Causes.{within}
-
--- A card byte 00 is taken as the EBCDIC blank 40, which is 64.
-abbrev pub blank : ℕ → ℕ
-blank b = pick (eqb b 0) 0x40 b
+-- How a card byte is taken, which `Cards` defines: 00 as the EBCDIC blank 40.
+pub use Rattle.cards.specs.Cards.{blank}
 
 -- The card text: the 3,200 card bytes with 40 in place of 00.
 unfoldable pub cardText : List ℕ → List ℕ

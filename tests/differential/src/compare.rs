@@ -14,7 +14,7 @@ const ALIGNMENTS: usize = 16;
 /// The longest output that a call is lent.
 const MOST_ROOM: usize = 26_000_000;
 
-const CALLS: [&str; 8] = [
+const CALLS: [&str; 9] = [
     "read_word",
     "write_pair",
     "read_reel",
@@ -23,6 +23,7 @@ const CALLS: [&str; 8] = [
     "list_cards",
     "take_cards",
     "write_nearest",
+    "blank_eight",
 ];
 const READ_WORD: usize = 0;
 const WRITE_PAIR: usize = 1;
@@ -32,6 +33,7 @@ const LOOK_UP: usize = 4;
 const LIST_CARDS: usize = 5;
 const TAKE_CARDS: usize = 6;
 const WRITE_NEAREST: usize = 7;
+const BLANK_EIGHT: usize = 8;
 
 /// The largest number of a cause.
 const MOST_NUMBER: usize = 19;
@@ -45,6 +47,7 @@ const CAUSES: [&[usize]; CALLS.len()] = [
     &[10, 12, 13],
     &[10, 12, 13, 17],
     &[10, 11, 12, 13],
+    &[],
 ];
 
 pub struct Comparison {
@@ -366,6 +369,20 @@ impl Comparison {
             });
         }
         self.count(LOOK_UP, u64::from(ours.number));
+    }
+
+    /// Blanks eight card bytes with both, and gives what they become.
+    pub fn blank_eight(&mut self, cards: u64) -> u64 {
+        let theirs = library::blank_eight(cards);
+        let ours = independent::blank_eight(cards);
+        if theirs != ours {
+            self.differs(&format!("blank_eight, bytes {cards:016X}"), || {
+                println!("library:     {theirs:016X}");
+                println!("independent: {ours:016X}");
+            });
+        }
+        self.count(BLANK_EIGHT, 0);
+        ours
     }
 
     /// Prints a difference and ends the run.

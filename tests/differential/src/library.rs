@@ -73,6 +73,7 @@ extern "C" {
     ) -> FieldAnswer;
     fn aukpocket_read_word(code: u32, word: *const u8, pair: *mut u8) -> SampleAnswer;
     fn aukpocket_write_pair(code: u32, pair: *const u8, word: *mut u8) -> SampleAnswer;
+    fn aukpocket_blank_eight(cards: u64) -> u64;
 }
 
 pub fn read_reel(reel: &[u8], out: &mut [u8]) -> ReelAnswer {
@@ -130,6 +131,10 @@ pub fn read_word(code: u32, word: &[u8; 4], pair: &mut [u8; 6]) -> SampleAnswer 
 
 pub fn write_pair(code: u32, pair: &[u8; 6], word: &mut [u8; 4]) -> SampleAnswer {
     unsafe { aukpocket_write_pair(code, pair.as_ptr(), word.as_mut_ptr()) }
+}
+
+pub fn blank_eight(cards: u64) -> u64 {
+    unsafe { aukpocket_blank_eight(cards) }
 }
 
 /// Beside a refusal all that it doesn't name is 0.

@@ -5,6 +5,7 @@
 //! written and read again, and its value is that of the host's own float.
 
 mod compare;
+mod eights;
 mod library;
 mod listings;
 mod nearest;
@@ -40,6 +41,7 @@ fn everything(compare: &mut compare::Comparison) {
     normal::counts(compare);
     listings::listings(compare);
     listings::causes_of_listings(compare);
+    eights::eights(compare);
     reels::long_reels(compare);
     normal::long_reels(compare);
     records::long_records(compare);

@@ -1,7 +1,7 @@
 //! SEG-Y revision 0 reels and their canonical records: the five calls of document 01, the two of
-//! document 02's CR 1 and the one of its CR 5, with the scalars of CR 2, the count of CR 3 and the codes
-//! of CR 4, in plain Rust, written from the papers alone. The differential test compares the library
-//! with them.
+//! document 02's CR 1, the one of its CR 5 and the one of its CR 6, with the scalars of CR 2, the count
+//! of CR 3 and the codes of CR 4, in plain Rust, written from the papers alone. The differential test
+//! compares the library with them.
 //!
 //! A refused call changes no byte of its output. So each call on a whole reel or record makes two
 //! passes: the first looks for causes to refuse, the second writes.
@@ -155,7 +155,7 @@ pub fn read_reel(reel: &[u8], out: &mut [u8]) -> Result<ReelRead, Refused> {
 
     let cards = put_field(&mut room, TAG_CARDS, CARD_BYTES);
     for (card, &byte) in cards.iter_mut().zip(&reel[..CARD_BYTES]) {
-        *card = if byte == 0 { EBCDIC_BLANK } else { byte };
+        *card = card_byte(byte);
     }
 
     let binary = put_field(&mut room, TAG_BINARY, BINARY_FIELDS);
@@ -334,13 +334,25 @@ pub fn take_cards(record: &[u8], listing: &[u8], out: &mut [u8]) -> Result<Taken
     let cards = corrected[FIELD_HEAD..][..CARD_BYTES].chunks_exact_mut(COLUMNS);
     for (card, line) in cards.zip(lines) {
         for (byte, &character) in card.iter_mut().zip(line) {
-            *byte = match page::CODES[character as usize] {
-                0 => EBCDIC_BLANK,
-                code => code,
-            };
+            *byte = card_byte(page::CODES[character as usize]);
         }
     }
     Ok(shape.taken(length))
+}
+
+/// Eight card bytes as one number, the first byte highest: 40 for each 00, and every other byte as it
+/// was.
+pub fn blank_eight(cards: u64) -> u64 {
+    u64::from_be_bytes(cards.to_be_bytes().map(card_byte))
+}
+
+/// A card byte as a record holds it: 00 is taken as the blank.
+fn card_byte(byte: u8) -> u8 {
+    if byte == 0 {
+        EBCDIC_BLANK
+    } else {
+        byte
+    }
 }
 
 /// The bytes of the binary header's field that begins at a byte number.

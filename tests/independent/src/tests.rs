@@ -1,4 +1,4 @@
-//! Document 01's samples at the edges and its example, and what document 02's CR 1 to CR 5 make of it.
+//! Document 01's samples at the edges and its example, and what document 02's CR 1 to CR 6 make of it.
 
 use super::*;
 
@@ -2371,5 +2371,158 @@ fn whole_numbers_of_many_digits() {
         assert_eq!(next.over(power, 1 << 40), 1 << 40);
         assert!(number < next && next > Whole::of(1, power));
         assert_eq!(next.minus(Whole::of(1, power)), number);
+    }
+}
+
+/// Eight card bytes and what they become: a text without 00 and with 00 at each of its bytes; 00 beside
+/// bytes that a subtraction, an addition or a test of the highest bit over the whole number may take for
+/// 00, in both orders; and the same in every other byte.
+const EIGHTS: [(u64, u64); 44] = [
+    (0xC3_F1_40_D3_C9_D5_C5_7A, 0xC3_F1_40_D3_C9_D5_C5_7A),
+    (0x00_F1_40_D3_C9_D5_C5_7A, 0x40_F1_40_D3_C9_D5_C5_7A),
+    (0xC3_00_40_D3_C9_D5_C5_7A, 0xC3_40_40_D3_C9_D5_C5_7A),
+    (0xC3_F1_00_D3_C9_D5_C5_7A, 0xC3_F1_40_D3_C9_D5_C5_7A),
+    (0xC3_F1_40_00_C9_D5_C5_7A, 0xC3_F1_40_40_C9_D5_C5_7A),
+    (0xC3_F1_40_D3_00_D5_C5_7A, 0xC3_F1_40_D3_40_D5_C5_7A),
+    (0xC3_F1_40_D3_C9_00_C5_7A, 0xC3_F1_40_D3_C9_40_C5_7A),
+    (0xC3_F1_40_D3_C9_D5_00_7A, 0xC3_F1_40_D3_C9_D5_40_7A),
+    (0xC3_F1_40_D3_C9_D5_C5_00, 0xC3_F1_40_D3_C9_D5_C5_40),
+    (0x00_00_00_00_00_00_00_00, 0x40_40_40_40_40_40_40_40),
+    (0x40_40_40_40_40_40_40_40, 0x40_40_40_40_40_40_40_40),
+    (0x01_01_01_01_01_01_01_01, 0x01_01_01_01_01_01_01_01),
+    (0x7F_7F_7F_7F_7F_7F_7F_7F, 0x7F_7F_7F_7F_7F_7F_7F_7F),
+    (0x80_80_80_80_80_80_80_80, 0x80_80_80_80_80_80_80_80),
+    (0xFF_FF_FF_FF_FF_FF_FF_FF, 0xFF_FF_FF_FF_FF_FF_FF_FF),
+    (0x01_02_03_04_05_06_07_08, 0x01_02_03_04_05_06_07_08),
+    (0x01_23_45_67_89_AB_CD_EF, 0x01_23_45_67_89_AB_CD_EF),
+    (0x01_02_04_08_10_20_40_80, 0x01_02_04_08_10_20_40_80),
+    (0x00_00_00_00_00_00_00_01, 0x40_40_40_40_40_40_40_01),
+    (0x00_00_00_00_00_00_01_00, 0x40_40_40_40_40_40_01_40),
+    (0x01_00_00_00_00_00_00_00, 0x01_40_40_40_40_40_40_40),
+    (0x00_01_00_00_00_00_00_00, 0x40_01_40_40_40_40_40_40),
+    (0x00_00_00_00_00_00_00_80, 0x40_40_40_40_40_40_40_80),
+    (0x80_00_00_00_00_00_00_00, 0x80_40_40_40_40_40_40_40),
+    (0x00_00_00_00_00_00_00_FF, 0x40_40_40_40_40_40_40_FF),
+    (0xFF_00_00_00_00_00_00_00, 0xFF_40_40_40_40_40_40_40),
+    (0x00_00_00_00_FF_FF_FF_FF, 0x40_40_40_40_FF_FF_FF_FF),
+    (0xFF_FF_FF_FF_00_00_00_00, 0xFF_FF_FF_FF_40_40_40_40),
+    (0x01_01_01_01_01_01_01_00, 0x01_01_01_01_01_01_01_40),
+    (0x00_01_01_01_01_01_01_01, 0x40_01_01_01_01_01_01_01),
+    (0xC3_F1_01_00_C9_D5_C5_7A, 0xC3_F1_01_40_C9_D5_C5_7A),
+    (0xC3_F1_00_01_C9_D5_C5_7A, 0xC3_F1_40_01_C9_D5_C5_7A),
+    (0xC3_F1_80_00_C9_D5_C5_7A, 0xC3_F1_80_40_C9_D5_C5_7A),
+    (0xC3_F1_00_80_C9_D5_C5_7A, 0xC3_F1_40_80_C9_D5_C5_7A),
+    (0xC3_F1_FF_00_C9_D5_C5_7A, 0xC3_F1_FF_40_C9_D5_C5_7A),
+    (0xC3_F1_00_FF_C9_D5_C5_7A, 0xC3_F1_40_FF_C9_D5_C5_7A),
+    (0xC3_F1_40_00_C9_D5_00_40, 0xC3_F1_40_40_C9_D5_40_40),
+    (0xC3_01_01_00_00_01_01_7A, 0xC3_01_01_40_40_01_01_7A),
+    (0x00_01_00_01_00_01_00_01, 0x40_01_40_01_40_01_40_01),
+    (0x01_00_01_00_01_00_01_00, 0x01_40_01_40_01_40_01_40),
+    (0x00_80_00_80_00_80_00_80, 0x40_80_40_80_40_80_40_80),
+    (0x80_00_80_00_80_00_80_00, 0x80_40_80_40_80_40_80_40),
+    (0x00_FF_00_FF_00_FF_00_FF, 0x40_FF_40_FF_40_FF_40_FF),
+    (0xFF_00_FF_00_FF_00_FF_00, 0xFF_40_FF_40_FF_40_FF_40),
+];
+
+#[test]
+fn eight_card_bytes() {
+    for (cards, blanked) in EIGHTS {
+        assert_eq!(blank_eight(cards), blanked, "{cards:016X}");
+    }
+}
+
+/// One byte 00 at every place of the eight, with every other byte beside it on either side.
+#[test]
+fn every_byte_beside_00() {
+    for low in (0..56).step_by(8) {
+        for byte in 1..=255 {
+            for around in [0x4040_4040_4040_4040, 0x0101_0101_0101_0101, u64::MAX] {
+                let others = around & !(0xFFFF << low);
+                let before_00 = byte << (low + 8);
+                let after_00 = byte << low;
+                assert_eq!(
+                    blank_eight(others | before_00),
+                    others | before_00 | 0x40 << low,
+                    "{byte:02X} before 00"
+                );
+                assert_eq!(
+                    blank_eight(others | after_00),
+                    others | after_00 | 0x40 << (low + 8),
+                    "00 before {byte:02X}"
+                );
+            }
+        }
+    }
+}
+
+/// What was blanked has no 00, and stays as it is when it is blanked again. The numbers are those of
+/// every choice of bytes 00, with any others.
+#[test]
+fn eights_are_blanked_once() {
+    let mut row = numbers(400).map(u64::from);
+    let mut next = || row.next().expect("a row without an end");
+    for zeros in 0..256u64 {
+        for _ in 0..200 {
+            let (mut cards, mut expected) = (0, 0);
+            for place in 0..8 {
+                let byte = 1 + next() % 255;
+                let is_zero = zeros >> place & 1 == 1;
+                cards = cards << 8 | if is_zero { 0x00 } else { byte };
+                expected = expected << 8 | if is_zero { 0x40 } else { byte };
+            }
+            let blanked = blank_eight(cards);
+            assert_eq!(blanked, expected, "{cards:016X}");
+            assert!(!blanked.to_be_bytes().contains(&0), "{cards:016X}");
+            assert_eq!(blank_eight(blanked), blanked, "{cards:016X}");
+        }
+    }
+}
+
+/// 3,200 card bytes as 400 numbers, the first byte of each highest.
+fn eights(cards: &[u8]) -> Vec<u64> {
+    assert_eq!(cards.len(), 3200);
+    cards
+        .chunks_exact(8)
+        .map(|eight| u64::from_be_bytes(array(eight)))
+        .collect()
+}
+
+/// Reading has for each eight of the card bytes what the call on them gives, from the first to the last,
+/// and nothing else changes: the bytes 00 behind the cards stay. So has taking a listing back.
+#[test]
+fn cards_are_blanked_as_eights_are() {
+    let mut row = numbers(3200);
+    let mut next = || row.next().expect("a row without an end");
+    let mut texts = vec![[0x00; 3200], [0x01; 3200], [0x80; 3200], [0xFF; 3200]];
+    for place in [0, 1, 7, 8, 79, 80, 1599, 1600, 3191, 3192, 3198, 3199] {
+        for others in [0x01, 0x80, 0xFF] {
+            let mut text = [others; 3200];
+            text[place] = 0x00;
+            texts.push(text);
+        }
+    }
+    for _ in 0..50 {
+        let choices = [0x00, 0x01, 0x40, 0x80, 0xFF];
+        texts.push([0; 3200].map(|_: u8| choices[next() as usize % 5]));
+    }
+    for text in texts {
+        let mut reel = example();
+        reel[..3200].copy_from_slice(&text);
+        let mut record = [0xA5; 3471];
+        assert!(read_reel(&reel, &mut record).is_ok());
+        let blanked: Vec<u64> = eights(&text).into_iter().map(blank_eight).collect();
+        assert_eq!(eights(&record[3..3203]), blanked);
+        assert_eq!(record[..3], example_record()[..3]);
+        assert_eq!(record[3203..], example_record()[3203..]);
+
+        let mut listing = blank_listing();
+        for (line, card) in listing.chunks_exact_mut(81).zip(text.chunks_exact(80)) {
+            for (character, &code) in line.iter_mut().zip(card) {
+                *character = page::CHARACTERS[code as usize];
+            }
+        }
+        let mut taken = [0xA5; 3471];
+        assert!(take_cards(&example_record(), &listing, &mut taken).is_ok());
+        assert_eq!(taken, record);
     }
 }

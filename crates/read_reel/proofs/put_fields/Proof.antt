@@ -3,6 +3,7 @@ use Rattle.read_reel.proofs.CopiedLaws.{size-fields}
 use Rattle.record.proofs.HeaderLaws.{size-cards}
 use Rattle.read_reel.specs.Copied.{tagBytes, fieldsCopied}
 use Rattle.reel.specs.Meaning.{blank, cardText}
+use Rattle.cards.proofs.EightLaws.{cards-put}
 use Rattle.numbers.proofs.Filling.{start, lend, close}
 use Rattle.numbers.proofs.WalkLaws.{bytes-between, copied, size-bytes}
 use Rattle.numbers.specs.Walk.{bytesAt}
@@ -25,9 +26,6 @@ part-put-cards-end c = omega (arith, c .before .before .before .before .before .
 part-put-cards-end-2 : tie.Need-part-put-cards-end-2
 part-put-cards-end-2 c = omega (arith, c .before .before .before .before .before .before .before .pre .1, c .before .before .out .given .1)
 
-put-cards-requires : tie.Need-put-cards-requires
-put-cards-requires c κs = c .put-cards-arg2 .given .2 ∙ sym (c .before .put-cards-arg .given .2)
-
 part-put-tag-end-2 : tie.Need-part-put-tag-end-2
 part-put-tag-end-2 c = omega (arith, c .before .before .before .before .before .before .before .before .before .before .before .pre .1, c .before .before .before .before .before .before .out .given .1, c .before .out2 .given .1)
 
@@ -46,7 +44,8 @@ returns c =
     let b = c .before .before .before .before .before .before .before .before .before .before .before .before .before .before .before .before .before .before .before .before in
     let s = b .args .reel .now in
     let z = bytesAt s 3200 60 in
-    let cards = c .before .before .before .before .before .before .before .before .before .before .before .put-cards .ensures ∙ ap (map blank) (bytes-between s 0 3200 3200 (omega (arith, b .pre .0)) refl) in
+    let put = c .before .before .before .before .before .before .before .before .before .before .before in
+    let cards = cards-put _ _ (put .put-cards .ensures) (put .before .before .put-cards-arg .given .2) (put .before .put-cards-arg2 .given .2) ∙ ap (map blank) (bytes-between s 0 3200 3200 (omega (arith, b .pre .0)) refl) in
     let w₀ = start _ (b .args .out .now) (b .pre .1 ∙ sym (size-fields s)) in
     let w₁ = lend (tagBytes 1 3200) (cardText s ++ (tagBytes 2 60 ++ z)) 3 w₀ (omega arith) refl (c .before .before .before .before .before .before .before .before .before .before .before .before .before .before .before .before .put-tag .ensures) in
     let w₂ = lend (cardText s) (tagBytes 2 60 ++ z) 3203 w₁ (omega arith) (size-cards s) cards in
@@ -72,7 +71,7 @@ put-fields-spec =
     (λ c. omega arith)
     (λ c. omega arith)
     part-put-cards-end-2
-    put-cards-requires
+    (λ c κs. tt)
     (λ c. omega arith)
     (λ c. omega arith)
     part-put-tag-end-2

@@ -1,0 +1,3 @@
+-- How card bytes are taken.
+pub mod Cards
+pub mod Parts
