@@ -49,19 +49,19 @@ next-part {A} l at e h =
 
 -- ## Blanks
 
-blank-byte : (b : ℕ) → b < 256 → blank b < 256
+pub blank-byte : (b : ℕ) → b < 256 → blank b < 256
 blank-byte b h = go (eqb b 0)
   where
     go : (t : Bool) → pick t 0x40 b < 256
     go true = lit< tt
     go false = h
 
-blank-bytes : (l : List ℕ) → Bytes l → Bytes (map blank l)
+pub blank-bytes : (l : List ℕ) → Bytes l → Bytes (map blank l)
 blank-bytes [] p = tt
 blank-bytes (b ∷ l) p = (blank-byte b (p .0), blank-bytes l (p .1))
 
 -- The bytes of eight in one number.
-word-bytes : (l : List ℕ) → length l ≡ 8 → Bytes l → bytesOf 8 (number l) ≡ l
+pub word-bytes : (l : List ℕ) → length l ≡ 8 → Bytes l → bytesOf 8 (number l) ≡ l
 word-bytes l n p = ap (λ (k : ℕ). bytesOf k (number l)) (sym n) ∙ bytes-number l p
 
 pub low-bytes : (l : List ℕ) → length l ≡ 8 → Bytes l → bytesOf 8 (number (reverse l)) ≡ reverse l

@@ -1,4 +1,4 @@
--- Sums and masks over all bytes of a number do the same to each: by one byte more, and a test of one byte at all of its 256 values.
+-- What is done to all bytes of a number at once is done to each: by one byte more, and a test of one byte at all of its 256 values.
 -- Assumes nothing.
 use Prim.Native.Nat.{ℕ, zero, suc, _+_, _*_, _-_, _/_, _%_, _^_, _≤_, _<_}
 use mathlib.Core.Path.{_≡_, refl, ap, _∙_}
@@ -9,7 +9,7 @@ use native.Mathlib.Nat.{pow-suc}
 use borrow.Author.Tests.{eqb-true}
 use lib.Dec.{eqb, lit<}
 use lib.ListN.{replicate}
-use lib.Bits.{bitAnd, bitOr, and-block, or-block, and-le-r, or-lt}
+use lib.Bits.{bitAnd, bitOr, and-block, or-block, and-le-l, and-le-r, or-lt, or-add-and}
 use Rattle.numbers.specs.Walk.{pick}
 use Rattle.numbers.specs.BigEndian.{number, bytesOf}
 use Rattle.numbers.proofs.BoolLaws.{and-true}
@@ -29,54 +29,61 @@ each-more f k x =
     ∙ ap number (map-append f (bytesOf k (x / 256)) (x % 256 ∷ []))
     ∙ number-last (map f (bytesOf k (x / 256))) (f (x % 256))
 
--- 7F in each of k bytes, and 80.
-abbrev pub m7 : ℕ → ℕ
-m7 zero = 0
-m7 (suc k) = m7 k * 256 + 127
+-- 01 in each of k bytes, and 80.
+abbrev pub m1 : ℕ → ℕ
+m1 zero = 0
+m1 (suc k) = m1 k * 256 + 1
 
 abbrev pub m8 : ℕ → ℕ
 m8 zero = 0
 m8 (suc k) = m8 k * 256 + 128
 
+one-le : (k : ℕ) → m1 k ≤ m8 k
+one-le zero = omega arith
+one-le (suc k) = omega (arith, one-le k)
+
 -- The high bit of each byte that isn't 00, by the masks m and n.
 unfoldable pub some : ℕ → ℕ → ℕ → ℕ
-some m n x = bitAnd (bitOr (bitAnd x m + m) x) n
+some m n x = bitAnd (bitOr (bitOr x n - m) x) n
 
 pub some-le : (m n x : ℕ) → some m n x ≤ n
 unfolding some
-some-le m n x = and-le-r (bitOr (bitAnd x m + m) x) n
+some-le m n x = and-le-r (bitOr (bitOr x n - m) x) n
+
+-- A number with the bits of n is no less than n, nor than what n isn't less than.
+pub or-le : (x n m : ℕ) → m ≤ n → m ≤ bitOr x n
+or-le x n m h = omega (arith, or-add-and x n, and-le-l x n)
 
 -- ## One byte: the test of all 256
 
 right : ℕ → ℕ → Bool
-right r _ = eqb (128 - some 127 128 r) (zeroMark r) && eqb (bitOr r (zeroMark r / 2)) (blank r)
+right r _ = eqb (128 - some 1 128 r) (zeroMark r) && eqb (bitOr r (zeroMark r / 2)) (blank r)
 
 one : (r : ℕ) → r < 256 → right r 0 ≡ true
 unfolding right some
 one r h = at-entry right (replicate 256 0) refl r h
 
-one-marked : (r : ℕ) → r < 256 → 128 - some 127 128 r ≡ zeroMark r
+one-marked : (r : ℕ) → r < 256 → 128 - some 1 128 r ≡ zeroMark r
 unfolding right
-one-marked r h = eqb-true _ _ (and-true (eqb (128 - some 127 128 r) (zeroMark r)) (eqb (bitOr r (zeroMark r / 2)) (blank r)) (one r h) .0)
+one-marked r h = eqb-true _ _ (and-true (eqb (128 - some 1 128 r) (zeroMark r)) (eqb (bitOr r (zeroMark r / 2)) (blank r)) (one r h) .0)
 
 one-blank : (r : ℕ) → r < 256 → bitOr r (zeroMark r / 2) ≡ blank r
 unfolding right
-one-blank r h = eqb-true _ _ (and-true (eqb (128 - some 127 128 r) (zeroMark r)) (eqb (bitOr r (zeroMark r / 2)) (blank r)) (one r h) .1)
+one-blank r h = eqb-true _ _ (and-true (eqb (128 - some 1 128 r) (zeroMark r)) (eqb (bitOr r (zeroMark r / 2)) (blank r)) (one r h) .1)
 
 -- ## One byte more
 
--- Masks m * 256 + 127 and n * 256 + 128 at a number a * 256 + r.
-module _ (m n a r : ℕ) (h : r < 2 ^ 8) where
-  some-step : some (m * 256 + 127) (n * 256 + 128) (a * 256 + r) ≡ some m n a * 256 + some 127 128 r
+-- Masks m * 256 + 1 and n * 256 + 128 at a number a * 256 + r.
+module _ (m n a r : ℕ) (le : m ≤ n) (h : r < 2 ^ 8) where
+  some-step : some (m * 256 + 1) (n * 256 + 128) (a * 256 + r) ≡ some m n a * 256 + some 1 128 r
   unfolding some
   some-step =
-      let l = and-le-r r 127 in
-      let e₁ : bitAnd (a * 256 + r) (m * 256 + 127) ≡ bitAnd a m * 256 + bitAnd r 127 = and-block 8 a m r 127 h (lit< tt) in
-      let e₂ : bitAnd a m * 256 + bitAnd r 127 + (m * 256 + 127) ≡ (bitAnd a m + m) * 256 + (bitAnd r 127 + 127) = omega arith in
-      let s< : bitAnd r 127 + 127 < 2 ^ 8 = omega arith in
-      let e₃ = or-block 8 (bitAnd a m + m) a (bitAnd r 127 + 127) r s< h in
-      let e₄ = and-block 8 (bitOr (bitAnd a m + m) a) n (bitOr (bitAnd r 127 + 127) r) 128 (or-lt 8 _ _ s< h) (lit< tt) in
-      ap (λ (y : ℕ). bitAnd (bitOr (y + (m * 256 + 127)) (a * 256 + r)) (n * 256 + 128)) e₁
+      let e₁ : bitOr (a * 256 + r) (n * 256 + 128) ≡ bitOr a n * 256 + bitOr r 128 = or-block 8 a n r 128 h (lit< tt) in
+      let e₂ : bitOr a n * 256 + bitOr r 128 - (m * 256 + 1) ≡ (bitOr a n - m) * 256 + (bitOr r 128 - 1) = omega (arith, or-le a n m le, or-le r 128 1 (omega arith)) in
+      let s< : bitOr r 128 - 1 < 2 ^ 8 = omega (arith, or-lt 8 r 128 h (lit< tt)) in
+      let e₃ = or-block 8 (bitOr a n - m) a (bitOr r 128 - 1) r s< h in
+      let e₄ = and-block 8 (bitOr (bitOr a n - m) a) n (bitOr (bitOr r 128 - 1) r) 128 (or-lt 8 _ _ s< h) (lit< tt) in
+      ap (λ (y : ℕ). bitAnd (bitOr (y - (m * 256 + 1)) (a * 256 + r)) (n * 256 + 128)) e₁
       ∙ (ap (λ (y : ℕ). bitAnd (bitOr y (a * 256 + r)) (n * 256 + 128)) e₂ ∙ (ap (λ (y : ℕ). bitAnd y (n * 256 + 128)) e₃ ∙ e₄))
 
 -- A number's last byte, and what stands above it.
@@ -87,17 +94,17 @@ module _ (x : ℕ) where
   split : x ≡ x / 256 * 256 + x % 256
   split = omega arith
 
-some-more : (k x : ℕ) → some (m7 (suc k)) (m8 (suc k)) x ≡ some (m7 k) (m8 k) (x / 256) * 256 + some 127 128 (x % 256)
-some-more k x = ap (some (m7 (suc k)) (m8 (suc k))) (split x) ∙ some-step (m7 k) (m8 k) (x / 256) (x % 256) (last< x)
+some-more : (k x : ℕ) → some (m1 (suc k)) (m8 (suc k)) x ≡ some (m1 k) (m8 k) (x / 256) * 256 + some 1 128 (x % 256)
+some-more k x = ap (some (m1 (suc k)) (m8 (suc k))) (split x) ∙ some-step (m1 k) (m8 k) (x / 256) (x % 256) (one-le k) (last< x)
 
 -- ## All bytes
 
 -- What is left of 80 in each byte is its mark.
-pub marked : (k x : ℕ) → m8 k - some (m7 k) (m8 k) x ≡ each zeroMark k x
+pub marked : (k x : ℕ) → m8 k - some (m1 k) (m8 k) x ≡ each zeroMark k x
 marked zero x = omega (arith, some-le 0 0 x)
 marked (suc k) x =
-    let e : m8 (suc k) - some (m7 (suc k)) (m8 (suc k)) x ≡ (m8 k - some (m7 k) (m8 k) (x / 256)) * 256 + (128 - some 127 128 (x % 256)) =
-    omega (arith, some-more k x, some-le (m7 k) (m8 k) (x / 256), some-le 127 128 (x % 256)) in
+    let e : m8 (suc k) - some (m1 (suc k)) (m8 (suc k)) x ≡ (m8 k - some (m1 k) (m8 k) (x / 256)) * 256 + (128 - some 1 128 (x % 256)) =
+    omega (arith, some-more k x, some-le (m1 k) (m8 k) (x / 256), some-le 1 128 (x % 256)) in
     e ∙ rw (marked k (x / 256), one-marked (x % 256) (last< x), each-more zeroMark k x)
 
 -- A mark is 80 or 00, so half of all of them is half of each.

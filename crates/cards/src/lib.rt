@@ -8,14 +8,14 @@ ghost use Rattle.numbers.specs.BigEndian.{number, bytesOf};
 ghost use Rattle.cards.specs.Cards.{blank, isCardText, cardsPut};
 ghost use Rattle.cards.specs.Parts.{zeroMark};
 
-// 80 for each byte 00 of eight, and 00 for every other: 7F more than a byte's low seven bits has the high bit where they aren't all 0, and
-// no byte's sum reaches the byte above it.
+// 80 for each byte 00 of eight, and 00 for every other. A byte whose high bit is set, less 1, has lost that bit where the other seven are
+// 0, and has borrowed nothing of the byte above it.
 fn zero_marks(cards: u64) -> u64
     ensures { λ r. ⌜ r ≡ number (map zeroMark (bytesOf 8 cards)) ⌝ }
 {
-    let low = cards & 0x7f7f_7f7f_7f7f_7f7f;
-    let sum = low + 0x7f7f_7f7f_7f7f_7f7f;
-    let some = (sum | cards) & 0x8080_8080_8080_8080;
+    let high = cards | 0x8080_8080_8080_8080;
+    let less = high - 0x0101_0101_0101_0101;
+    let some = (less | cards) & 0x8080_8080_8080_8080;
     0x8080_8080_8080_8080 - some
 }
 
@@ -78,12 +78,12 @@ pub fn put_cards(cards: &[u8], out: &mut [u8])
         return;
     }
     let mut at = 0;
-    let mut left: usize = 400;
-    while 0 < left {
+    let mut steps: usize = 400;
+    while 0 < steps {
         let e = at + 8;
         put_eight(&cards[at..e], &mut out[at..e]);
         at = e;
-        left -= 1;
+        steps -= 1;
     }
 }
 
@@ -95,13 +95,13 @@ pub fn is_card_text(cards: &[u8]) -> bool
         return false;
     }
     let mut at = 0;
-    let mut left: usize = 400;
+    let mut words: usize = 400;
     let mut zeros: u64 = 0;
-    while 0 < left {
+    while 0 < words {
         let e = at + 8;
         zeros = zeros | zero_marks(word_of(&cards[at..e]));
         at = e;
-        left -= 1;
+        words -= 1;
     }
     zeros == 0
 }

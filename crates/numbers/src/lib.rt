@@ -74,18 +74,18 @@ pub fn bytes32(n: u32) -> [u8; 4]
 }
 
 // The eight bytes of a number, the lowest first.
-pub fn le_bytes64(n: u64) -> [u8; 8]
-    ensures { λ r. ⌜ r ≡ reverse (bytesOf 8 n) ⌝ }
+pub fn le_bytes64(x: u64) -> [u8; 8]
+    ensures { λ r. ⌜ r ≡ reverse (bytesOf 8 x) ⌝ }
 {
     [
-        (n % 256) as u8,
-        (n / 256 % 256) as u8,
-        (n / 0x1_0000 % 256) as u8,
-        (n / 0x100_0000 % 256) as u8,
-        (n / 0x1_0000_0000 % 256) as u8,
-        (n / 0x100_0000_0000 % 256) as u8,
-        (n / 0x1_0000_0000_0000 % 256) as u8,
-        (n / 0x100_0000_0000_0000 % 256) as u8,
+        (x % 256) as u8,
+        (x / 256 % 256) as u8,
+        (x / 0x1_0000 % 256) as u8,
+        (x / 0x100_0000 % 256) as u8,
+        (x / 0x1_0000_0000 % 256) as u8,
+        (x / 0x100_0000_0000 % 256) as u8,
+        (x / 0x1_0000_0000_0000 % 256) as u8,
+        (x / 0x100_0000_0000_0000 % 256) as u8,
     ]
 }
 

@@ -17,11 +17,11 @@ use Rattle.cards.proofs.is_card_text.Statement.{statement}
 use Rattle.cards.proofs.is_card_text.Tie as tie
 
 abbrev Inv-loop : tie.InvT-loop
-Inv-loop cards at₀ left₀ zeros₀ at left zeros =
-    (at + left * 8 ≡ cardBytes) × ((eqb zeros 0 && noZero (drop at cards)) ≡ noZero cards)
+Inv-loop cards at₀ words₀ zeros₀ at words zeros =
+    (at + words * 8 ≡ cardBytes) × ((eqb zeros 0 && noZero (drop at cards)) ≡ noZero cards)
 
 abbrev μ-loop : tie.MeasureT-loop
-μ-loop cards at₀ left₀ zeros₀ at left zeros = left
+μ-loop cards at₀ words₀ zeros₀ at words zeros = words
 
 other : tie.Need-returns Inv-loop μ-loop
 unfolding isCardText

@@ -15,11 +15,11 @@ use Rattle.cards.proofs.put_cards.Statement.{statement}
 use Rattle.cards.proofs.put_cards.Tie as tie
 
 abbrev Inv-loop : tie.InvT-loop
-Inv-loop cards out₀ at₀ left₀ out at left =
-    (at + left * 8 ≡ cardBytes) × (length out ≡ cardBytes) × Filling (map blank cards) out at (map blank (drop at cards))
+Inv-loop cards out₀ at₀ steps₀ out at steps =
+    (at + steps * 8 ≡ cardBytes) × (length out ≡ cardBytes) × Filling (map blank cards) out at (map blank (drop at cards))
 
 abbrev μ-loop : tie.MeasureT-loop
-μ-loop cards out₀ at₀ left₀ out at left = left
+μ-loop cards out₀ at₀ steps₀ out at steps = steps
 
 other-cards : tie.Need-returns Inv-loop μ-loop
 unfolding cardsPut
