@@ -38,14 +38,14 @@ either-order = low-blanked
 
 -- ## Worked examples: 00 beside 00, 01, 80 and FF, and the bytes that a borrow would change
 
-ex-zeros : number (map blank (bytesOf 8 0)) ≡ 0x4040_4040_4040_4040
-ex-zeros = refl
+pub example-zeros : number (map blank (bytesOf 8 0)) ≡ 0x4040_4040_4040_4040
+example-zeros = refl
 
-ex-none : number (map blank (bytesOf 8 0x0102_7f80_81fe_ff40)) ≡ 0x0102_7f80_81fe_ff40
-ex-none = refl
+pub example-none : number (map blank (bytesOf 8 0x0102_7f80_81fe_ff40)) ≡ 0x0102_7f80_81fe_ff40
+example-none = refl
 
-ex-borrow : number (map blank (bytesOf 8 0x0100_0100_8000_ff00)) ≡ 0x0140_0140_8040_ff40
-ex-borrow = refl
+pub example-borrow : number (map blank (bytesOf 8 0x0100_0100_8000_ff00)) ≡ 0x0140_0140_8040_ff40
+example-borrow = refl
 
-ex-first : number (map blank (bytesOf 8 0x00c1_c2c3_c4c5_c6c7)) ≡ 0x40c1_c2c3_c4c5_c6c7
-ex-first = refl
+pub example-first : number (map blank (bytesOf 8 0x00c1_c2c3_c4c5_c6c7)) ≡ 0x40c1_c2c3_c4c5_c6c7
+example-first = refl

@@ -26,7 +26,7 @@ pub fn blank_eight(cards: u64) -> u64
     cards | zero_marks(cards) / 2
 }
 
-// Eight card bytes as one number, the first lowest. The compiler makes one fetch of a function that does no more than this.
+// Eight card bytes as one number, the first lowest.
 fn word_of(cards: &[u8]) -> u64
     requires { ⌜ length (now cards) ≡ 8 ⌝ }
     ensures { λ r. ⌜ r ≡ number (reverse (now (cards .entry))) ⌝ }

@@ -47,7 +47,7 @@ pub fn le32(a: u8, b: u8, c: u8, d: u8) -> u32
     a as u32 + b as u32 * 0x100 + c as u32 * 0x1_0000 + d as u32 * 0x100_0000
 }
 
-// The number of eight bytes, the first lowest.
+// The number of eight bytes, the first lowest. As two halves the compiler makes one fetch of it, of bytes that stand together.
 pub fn le64(a: u8, b: u8, c: u8, d: u8, e: u8, f: u8, g: u8, h: u8) -> u64
     ensures { λ r. ⌜ r ≡ number (h ∷ g ∷ f ∷ e ∷ d ∷ c ∷ b ∷ a ∷ []) ⌝ }
 {
