@@ -22,3 +22,4 @@ echo "Processor: $model, $(nproc) cores; memory: $memory GB; $(rustc --version |
 build/cargo/bench/release/bench ${reader:+--segyio "$reader"} "$@"
 build/cargo/bench/release/bench nearest "$@"
 build/cargo/bench/release/bench growth "$@"
+build/cargo/bench/release/bench cards "$@"

@@ -1,6 +1,7 @@
 //! Measures the library's reading and writing of whole reels, exactly and to the nearest, beside other ways
-//! to do the same.
+//! to do the same; and all its calls that put or judge cards, on a small reel.
 
+mod cards;
 mod library;
 mod nearest;
 mod passes;
@@ -25,7 +26,9 @@ use tables::{Call, Row};
 const USAGE: &str = "usage: bench [--mb SIZE] [--runs COUNT] [--codes 1,2,3,...] [--segyio PYTHON]
        bench growth [--mb MOST] [--runs COUNT]
        bench nearest [--mb SIZE] [--runs COUNT] [--codes 1,2,3,...] [--samples N]
+       bench cards [--runs COUNT]
        bench versions OLD OLD NEW NEW [--mb SIZE] [--runs COUNT] [--codes 1,2,3,...] [--samples N]
+       bench versions OLD OLD NEW NEW --small [--runs COUNT]
        bench one read|write|nearest CODE [--not-normal] [--kind fit|half|rounded|beyond] [--mb SIZE]
                  [--who library|same|tuned|independent]";
 
@@ -139,6 +142,7 @@ struct Options {
     runs: Option<usize>,
     codes: Vec<u32>,
     samples: u16,
+    small: bool,
     not_normal: bool,
     kind: Kind,
     who: Who,
@@ -154,8 +158,14 @@ fn main() {
         [] => compare(&options),
         ["growth"] => growth(&options),
         ["nearest"] => nearest::compare(&options),
+        ["cards"] => cards::compare(&options),
         ["versions", old, old_again, new, new_again] => {
-            versions::compare(&options, [old, old_again, new, new_again])
+            let paths = [old, old_again, new, new_again];
+            if options.small {
+                versions::compare_small(&options, paths);
+            } else {
+                versions::compare(&options, paths);
+            }
         }
         ["one", call, code] => {
             let call = match call {
@@ -189,6 +199,7 @@ fn options() -> Option<Options> {
         runs: None,
         codes: reels::SAMPLES.map(|(code, _)| code).to_vec(),
         samples: SAMPLES,
+        small: false,
         not_normal: false,
         kind: Kind::Fit,
         who: Who::Library,
@@ -207,6 +218,7 @@ fn options() -> Option<Options> {
                     .map(code_of)
                     .collect::<Option<_>>()?
             }
+            "--small" => options.small = true,
             "--not-normal" => options.not_normal = true,
             "--kind" => {
                 options.kind = match arguments.next()?.as_str() {
@@ -426,6 +438,22 @@ fn best(runs: usize, mut seconds_of: impl FnMut(Who) -> Option<f64>) -> [Option<
                 (Some(before), Some(now)) => Some(f64::min(before, now)),
                 _ => seconds,
             };
+        }
+    }
+    best
+}
+
+/// The best seconds of so many, all in turn in each run, each run beginning with another of them.
+fn in_turns(
+    runs: usize,
+    count: usize,
+    mut seconds_of: impl FnMut(usize, usize) -> f64,
+) -> Vec<f64> {
+    let mut best = vec![f64::INFINITY; count];
+    for run in 0..runs {
+        for turn in 0..count {
+            let turn = (run + turn) % count;
+            best[turn] = best[turn].min(seconds_of(run, turn));
         }
     }
     best

@@ -3,7 +3,7 @@
 
 use crate::reels::{self, Kind, KINDS};
 use crate::tables::{self, Call};
-use crate::{call, timed, Options, Who, MEGABYTE};
+use crate::{call, in_turns, timed, Options, Who, MEGABYTE};
 
 /// The size of the reels, in megabytes, and how many runs there are.
 const SIZE: usize = 32;
@@ -52,15 +52,10 @@ pub fn compare(options: &Options) {
             turns.push((Who::Library, Call::Nearest, record));
             turns.push((Who::Same, Call::Nearest, record));
         }
-        let mut best = vec![f64::INFINITY; turns.len()];
-        for run in 0..runs {
-            for turn in 0..turns.len() {
-                let turn = (run + turn) % turns.len();
-                let (who, what, record) = turns[turn];
-                let seconds = timed(who, what, code, record, &mut out);
-                best[turn] = best[turn].min(seconds);
-            }
-        }
+        let best = in_turns(runs, turns.len(), |_, turn| {
+            let (who, what, record) = turns[turn];
+            timed(who, what, code, record, &mut out)
+        });
         for (k, (kind, _, _)) in KINDS.into_iter().enumerate() {
             rows.push(Rounding {
                 code,

@@ -3,8 +3,8 @@
 
 use independent::{NearestWritten, ReelRead, Refused, Taken};
 
-const CARD_BYTES: usize = 3_200;
-const REEL_HEADERS: usize = 3_600;
+pub const CARD_BYTES: usize = 3_200;
+pub const REEL_HEADERS: usize = 3_600;
 const TRACE_HEADER: usize = 240;
 const BINARY_FIELDS: usize = 60;
 const TRACE_FIELDS: usize = 180;
@@ -27,7 +27,7 @@ const MOST_SAMPLES: u16 = 8_000;
 const MOST_INTERVAL: u16 = 32_767;
 pub const MOST_TRACES: usize = 100_000;
 
-const FIELD_HEAD: usize = 3;
+pub const FIELD_HEAD: usize = 3;
 pub const PAIR_BYTES: usize = 6;
 const RECORD_HEAD: usize = 2 * FIELD_HEAD + CARD_BYTES + BINARY_FIELDS;
 const RECORD_END: usize = FIELD_HEAD + 4;

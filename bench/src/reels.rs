@@ -1,9 +1,8 @@
 //! The reels that are read and written, and the records that are written to the nearest, made on the spot
 //! and the same at every run.
 
-use crate::passes::{held_pairs, sample_bytes, MOST_TRACES, PAIR_BYTES};
+use crate::passes::{held_pairs, sample_bytes, CARD_BYTES, MOST_TRACES, PAIR_BYTES, REEL_HEADERS};
 
-const REEL_HEADERS: usize = 3_600;
 const TRACE_HEADER: usize = 240;
 const INTERVAL: u16 = 2_000;
 
@@ -53,6 +52,21 @@ pub const KINDS: [(Kind, &str, &str); 4] = [
         "1 in 8 beyond",
         "the same, but 1 in 8, at random, is 1 to 8 bits beyond the range",
     ),
+];
+
+/// Which card bytes of a small reel are 00.
+#[derive(Clone, Copy)]
+pub enum Zeros {
+    No,
+    All,
+    Third,
+}
+
+/// These kinds, for the reader of a table. All other card bytes are drawn from 01 to FF.
+pub const ZEROS: [(Zeros, &str); 3] = [
+    (Zeros::No, "no 00"),
+    (Zeros::All, "all 00"),
+    (Zeros::Third, "1 in 3 is 00, at random"),
 ];
 
 /// How many bits values have before the point, the least and the most: of those that are within the range
@@ -257,6 +271,21 @@ pub fn make_not_normal(samples: u16, bytes: usize, one_in: u32) -> Vec<u8> {
     reel
 }
 
+/// A reel of a code, of one trace, with any bytes on its cards.
+pub fn make_small(code: u32, samples: u16, zeros: Zeros) -> Vec<u8> {
+    let mut reel = make(code, samples, 0);
+    let mut random = Random(1964);
+    for byte in &mut reel[..CARD_BYTES] {
+        let other = 1 + random.below(255) as u8;
+        *byte = match zeros {
+            Zeros::All => 0,
+            Zeros::Third if random.below(3) == 0 => 0,
+            Zeros::No | Zeros::Third => other,
+        };
+    }
+    reel
+}
+
 /// A reel of a code, of about so many bytes, or of the most traces that there may be. All words of code 1
 /// are normal.
 pub fn make(code: u32, samples: u16, bytes: usize) -> Vec<u8> {
@@ -267,7 +296,7 @@ pub fn make(code: u32, samples: u16, bytes: usize) -> Vec<u8> {
     let mut random = Random(1975 + u64::from(code));
 
     let (headers, behind) = reel.split_at_mut(REEL_HEADERS);
-    headers[..3_200].fill(0x40);
+    headers[..CARD_BYTES].fill(0x40);
     headers[3_216..3_218].copy_from_slice(&INTERVAL.to_be_bytes());
     headers[3_220..3_222].copy_from_slice(&samples.to_be_bytes());
     headers[3_224..3_226].copy_from_slice(&(code as u16).to_be_bytes());

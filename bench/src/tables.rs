@@ -1,8 +1,9 @@
 //! What is printed, in Markdown, as docs/BENCHMARKS.md has it.
 
+use crate::cards::{self, CALLS, PLACES};
 use crate::nearest::Rounding;
-use crate::reels::{Kind, KINDS};
-use crate::versions::Compared;
+use crate::reels::{Kind, KINDS, ZEROS};
+use crate::versions::{Compared, ComparedSmall};
 use crate::{reels, Grown, Who, ALL};
 
 #[derive(Clone, Copy, PartialEq)]
@@ -122,6 +123,67 @@ pub fn nearest(rows: &[Rounding], megabytes: usize, samples: u16, runs: usize) {
             same / library,
             exact / library
         );
+    }
+}
+
+/// Loops over cards, and calls of the library on a small reel and its record.
+pub fn cards(loops: &[cards::Row], calls: &[cards::Row], runs: usize) {
+    println!(
+        "\nCards of {}, by which of them are 00; {}.\n",
+        small_reel(),
+        small_runs(runs)
+    );
+    println!("- bytes: a test for each byte, of which rustc makes vectors of 16 bytes;");
+    println!("- words of eight: the library's steps, of which rustc makes vectors of two words;");
+    println!("- no vectors: the same, but one byte or one word at a time.");
+    for (title, rows) in [
+        ("3,200 card bytes with 40 in place of each 00", loops),
+        ("The library on that reel and its record", calls),
+    ] {
+        println!("\n{title}, ns:\n");
+        println!("| | {} |", ZEROS.map(|(_, name)| name).join(" | "));
+        println!("|---{}|", "|---".repeat(ZEROS.len()));
+        for row in rows {
+            let cells = row.seconds.map(|seconds| format!("{:.0}", seconds * 1e9));
+            println!("| {} | {} |", row.name, cells.join(" | "));
+        }
+    }
+}
+
+fn small_reel() -> String {
+    let (code, samples) = (cards::CODE, cards::SAMPLES);
+    format!("a reel of code {code} with 1 trace of {samples} samples")
+}
+
+fn small_runs(runs: usize) -> String {
+    format!("best of {runs} runs of {CALLS} calls in a row, all in turn in each run, each run beginning with another and taking the next of {PLACES} places for the buffers")
+}
+
+/// Two versions on a small reel and its record.
+pub fn small_versions(rows: &[ComparedSmall], runs: usize) {
+    println!("Calls on {} and on its record, no card byte 00; {}. There are two copies of both versions. The faster copy counts; the slower one is given over it.", small_reel(), small_runs(runs));
+    println!(
+        "\n| call | old, ns | new, ns | old over new | old's slower copy | new's slower copy |"
+    );
+    println!("|---|---|---|---|---|---|");
+    for row in rows {
+        let [old, new] = [row.old, row.new].map(sorted);
+        let ns = |seconds| cell(seconds, |s| format!("{:.0}", s * 1e9));
+        let over = |a: Option<f64>, b: Option<f64>| {
+            cell(a.zip(b).map(|(a, b)| a / b), |ratio| format!("{ratio:.3}"))
+        };
+        println!(
+            "| {} | {} | {} | {} | {} | {} |",
+            row.name,
+            ns(old[0]),
+            ns(new[0]),
+            over(old[0], new[0]),
+            over(old[1], old[0]),
+            over(new[1], new[0])
+        );
+    }
+    if let Some(row) = rows.iter().find(|row| !row.same_bytes) {
+        println!("\nA version gives other bytes in {}.", row.name);
     }
 }
 

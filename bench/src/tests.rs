@@ -1,9 +1,11 @@
 //! The Rust that is written after the library answers as the independent implementation does,
-//! refusals and every byte of the output too; and in nearest writing as the library does.
+//! refusals and every byte of the output too; and in nearest writing and on cards as the library does.
 
-use crate::passes::{held_pairs, PAIR_BYTES};
-use crate::reels::{self, Kind, Random, KINDS};
+use crate::cards::{self, LOOPS};
+use crate::passes::{held_pairs, CARD_BYTES, FIELD_HEAD, PAIR_BYTES, REEL_HEADERS};
+use crate::reels::{self, Kind, Random, Zeros, KINDS, ZEROS};
 use crate::tables::{name, Call};
+use crate::versions::Version;
 use crate::{call, Answer, Who};
 
 /// Who is compared with the independent implementation. There is no tuned Rust of nearest writing.
@@ -412,5 +414,67 @@ fn nearest_writing_of_pairs_about_the_limits() {
     let samples = 532 * mantissas.len() as u64;
     for changed in all {
         assert!(changed > samples / 20 && changed < samples, "{all:?}");
+    }
+}
+
+/// The cards of the benchmark: each kind has as many 00 as it says, and all loops and calls agree on it.
+#[test]
+fn cards_of_the_benchmark() {
+    for (zeros, _) in ZEROS {
+        let cards = &reels::make_small(1, 1, zeros)[..CARD_BYTES];
+        let count = cards.iter().filter(|&&byte| byte == 0).count();
+        match zeros {
+            Zeros::No => assert_eq!(count, 0),
+            Zeros::All => assert_eq!(count, CARD_BYTES),
+            Zeros::Third => assert!((900..1_200).contains(&count), "{count}"),
+        }
+        cards::agree(&Version::linked(), &mut cards::lents(zeros));
+    }
+}
+
+/// The cards of a reel's record, on which the library, all loops and the others agree.
+fn blanked(reel: &[u8]) -> Vec<u8> {
+    let room = crate::record_length(reel, 1);
+    let (answer, record) = agreed_output(Call::Read, 1, reel, room);
+    let mut given = vec![0xA5; room];
+    assert_eq!(call(Who::Library, Call::Read, 1, reel, &mut given), answer);
+    assert!(given == record, "the library gives other bytes");
+    let held = &record[FIELD_HEAD..][..CARD_BYTES];
+    for (name, blanking) in LOOPS {
+        let mut out = [0xA5; CARD_BYTES];
+        blanking(reel.first_chunk().expect("cards"), &mut out);
+        assert!(out == held, "{name}: other bytes");
+    }
+    held.to_vec()
+}
+
+/// A single 00 at any place among other bytes, and a single other byte among 00.
+#[test]
+fn blanking_one_card_byte_at_any_place() {
+    let mut reel = reels::make_small(1, 1, Zeros::No);
+    reel.truncate(REEL_HEADERS);
+    for byte in [0x01, 0x40, 0x7F, 0x80, 0xFF] {
+        for (around, alone) in [(byte, 0x00), (0x00, byte)] {
+            for place in 0..CARD_BYTES {
+                reel[..CARD_BYTES].fill(around);
+                reel[place] = alone;
+                let mut expected = [if around == 0 { 0x40 } else { around }; CARD_BYTES];
+                expected[place] = if alone == 0 { 0x40 } else { alone };
+                assert!(blanked(&reel) == expected, "{alone:02X} at {place}");
+            }
+        }
+    }
+}
+
+/// A single 00 at any place among any other bytes.
+#[test]
+fn blanking_one_card_byte_among_any() {
+    let mut reel = reels::make_small(1, 1, Zeros::No);
+    for place in 0..CARD_BYTES {
+        let mut expected = reel[..CARD_BYTES].to_vec();
+        expected[place] = 0x40;
+        let before = std::mem::take(&mut reel[place]);
+        assert!(blanked(&reel) == expected, "00 at {place}");
+        reel[place] = before;
     }
 }

@@ -1,10 +1,11 @@
 //! Two versions of the library in one process, each loaded twice, as shared objects that
 //! `bench/versions.sh` makes of static libraries. Where a loop comes to lie matters, so the copies lie
-//! differently, and the faster one counts.
+//! differently, and the faster one counts. The version that is linked with this can be called as they are.
 
-use crate::reels::{self, Kind};
+use crate::cards::{self, Lent, Small, CODE, PLACES, SMALL};
+use crate::reels::{self, Kind, Zeros};
 use crate::tables::{self, Call};
-use crate::{kinds, record_length, reel_of, Options, MEGABYTE};
+use crate::{in_turns, kinds, record_length, reel_of, Options, MEGABYTE};
 use std::ffi::{c_char, c_int, c_void, CStr, CString};
 use std::hash::{DefaultHasher, Hasher};
 use std::hint::black_box;
@@ -28,6 +29,35 @@ struct Answer {
 
 type ReadReel = unsafe extern "C" fn(*const u8, usize, *mut u8, usize) -> Answer;
 type WriteReel = unsafe extern "C" fn(*const u8, usize, u32, *mut u8, usize) -> Answer;
+type TakeCards = unsafe extern "C" fn(*const u8, usize, *const u8, usize, *mut u8, usize) -> Answer;
+
+// The version that is linked with this.
+extern "C" {
+    fn aukpocket_read_reel(from: *const u8, length: usize, to: *mut u8, room: usize) -> Answer;
+    fn aukpocket_write_reel(
+        from: *const u8,
+        length: usize,
+        code: u32,
+        to: *mut u8,
+        room: usize,
+    ) -> Answer;
+    fn aukpocket_write_nearest(
+        from: *const u8,
+        length: usize,
+        code: u32,
+        to: *mut u8,
+        room: usize,
+    ) -> Answer;
+    fn aukpocket_list_cards(from: *const u8, length: usize, to: *mut u8, room: usize) -> Answer;
+    fn aukpocket_take_cards(
+        from: *const u8,
+        length: usize,
+        listing: *const u8,
+        listing_length: usize,
+        to: *mut u8,
+        room: usize,
+    ) -> Answer;
+}
 
 extern "C" {
     fn dlopen(file: *const c_char, mode: c_int) -> *mut c_void;
@@ -37,14 +67,27 @@ extern "C" {
 /// The machine's number for binding all names when it is loaded.
 const RTLD_NOW: c_int = 2;
 
-/// The calls of a version. One before CR 5 has no nearest writing.
-struct Version {
+/// The calls of a version. One before CR 1 has no listings, one before CR 5 no nearest writing.
+pub struct Version {
     read: ReadReel,
     write: WriteReel,
     nearest: Option<WriteReel>,
+    list: Option<ReadReel>,
+    take: Option<TakeCards>,
 }
 
 impl Version {
+    /// The one that is linked with this.
+    pub fn linked() -> Version {
+        Version {
+            read: aukpocket_read_reel,
+            write: aukpocket_write_reel,
+            nearest: Some(aukpocket_write_nearest),
+            list: Some(aukpocket_list_cards),
+            take: Some(aukpocket_take_cards),
+        }
+    }
+
     fn load(path: &str) -> Version {
         let file = CString::new(path).expect("a path");
         // SAFETY: it is a static library of this project as a shared object, which runs nothing on loading.
@@ -61,6 +104,8 @@ impl Version {
         let [read, write] = [c"aukpocket_read_reel", c"aukpocket_write_reel"]
             .map(|name| find(name).unwrap_or_else(|| panic!("{path} has no {name:?}")));
         let nearest = find(c"aukpocket_write_nearest");
+        let list = find(c"aukpocket_list_cards");
+        let take = find(c"aukpocket_take_cards");
         // SAFETY: these are the types of the functions in every version's header, but for what an answer
         // has at its end, for which there is room.
         unsafe {
@@ -68,6 +113,8 @@ impl Version {
                 read: mem::transmute::<*mut c_void, ReadReel>(read),
                 write: mem::transmute::<*mut c_void, WriteReel>(write),
                 nearest: nearest.map(|found| mem::transmute::<*mut c_void, WriteReel>(found)),
+                list: list.map(|found| mem::transmute::<*mut c_void, ReadReel>(found)),
+                take: take.map(|found| mem::transmute::<*mut c_void, TakeCards>(found)),
             }
         }
     }
@@ -89,6 +136,27 @@ impl Version {
         };
         let seconds = start.elapsed().as_secs_f64();
         (answer.number == 0 && answer.length == out.len() as u64).then_some(seconds)
+    }
+
+    /// Whether there is such a call on the small reel or its record, and it is taken with so long an output.
+    pub fn small(&self, call: Small, lent: &mut Lent) -> bool {
+        let (from, length) = (lent.input.as_ptr(), lent.input.len());
+        let (listing, listing_length) = (lent.listing.as_ptr(), lent.listing.len());
+        let (to, room) = (lent.out.as_mut_ptr(), lent.out.len());
+        // SAFETY: all buffers are lent for the call with their lengths.
+        let answer = unsafe {
+            match (call, self.nearest, self.list, self.take) {
+                (Small::ReadHeaders | Small::Read, ..) => (self.read)(from, length, to, room),
+                (Small::Write, ..) => (self.write)(from, length, CODE, to, room),
+                (Small::Nearest, Some(write), ..) => write(from, length, CODE, to, room),
+                (Small::List, _, Some(list), _) => list(from, length, to, room),
+                (Small::Take, .., Some(take)) => {
+                    take(from, length, listing, listing_length, to, room)
+                }
+                _ => return false,
+            }
+        };
+        answer.number == 0 && answer.length == room as u64
     }
 }
 
@@ -170,6 +238,55 @@ pub fn compare(options: &Options, paths: [&str; 4]) {
         }
     }
     tables::versions(&rows, megabytes, options.samples, runs);
+}
+
+/// The best seconds of each copy in a call on the small reel or its record.
+pub struct ComparedSmall {
+    pub name: &'static str,
+    pub old: [Option<f64>; 2],
+    pub new: [Option<f64>; 2],
+    pub same_bytes: bool,
+}
+
+/// All calls on the small reel and its record by each copy in turn, each run beginning with another of them;
+/// the best run counts.
+pub fn compare_small(options: &Options, paths: [&str; 4]) {
+    let versions = paths.map(Version::load);
+    let runs = options.runs.unwrap_or(cards::RUNS);
+    let mut places = cards::in_places(&cards::lents(Zeros::No));
+    let mut turns = Vec::new();
+    let mut other_bytes = [false; SMALL.len()];
+    for (call, _) in SMALL {
+        let lent = &mut places[0][call as usize];
+        for (who, version) in versions.iter().enumerate() {
+            lent.out.fill(1);
+            // One that has no such call gets no turn.
+            if version.small(call, lent) {
+                turns.push((call, who));
+                other_bytes[call as usize] |= lent.out != lent.given;
+            }
+        }
+    }
+
+    let best = in_turns(runs, turns.len(), |run, turn| {
+        let (call, who) = turns[turn];
+        let lent = &mut places[run % PLACES][call as usize];
+        cards::timed(|| assert!(versions[who].small(call, lent)))
+    });
+    let mut seconds = [[None; 4]; SMALL.len()];
+    for ((call, who), best) in turns.into_iter().zip(best) {
+        seconds[call as usize][who] = Some(best);
+    }
+    let rows = SMALL.map(|(call, name)| {
+        let [a, b, c, d] = seconds[call as usize];
+        ComparedSmall {
+            name,
+            old: [a, b],
+            new: [c, d],
+            same_bytes: !other_bytes[call as usize],
+        }
+    });
+    tables::small_versions(&rows, runs);
 }
 
 fn lower(best: &mut Option<f64>, seconds: f64) {

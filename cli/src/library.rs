@@ -2,7 +2,7 @@
 //!
 //! A call is lent slices and answers with numbers. It keeps no reference, allocates nothing, and leaves its output as it was where it
 //! refuses. A slice is never null, even an empty one, and one that is lent for writing overlaps no other: so what the header asks of its
-//! caller holds for every call that compiles. `blank_eight` alone is lent nothing: it takes a number and gives a number.
+//! caller holds for every call that compiles. `blank_eight` takes a number, gives a number and refuses nothing.
 
 /// What the library declares, as the header has it.
 mod c {

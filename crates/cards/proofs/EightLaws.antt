@@ -12,12 +12,12 @@ use lib.Bits.{bitAnd, bitOr, or-add-and, and-le-l, and-le-r}
 use Rattle.numbers.specs.Walk.{pick, bytesAt}
 use Rattle.numbers.specs.BigEndian.{number, bytesOf}
 use Rattle.numbers.specs.Terms.{All, Bytes}
-use Rattle.numbers.proofs.BoolLaws.{and-true, and-both, and-false}
+use Rattle.numbers.proofs.BoolLaws.{and-true, and-both, and-false, and-right, and-assoc, same-test}
 use Rattle.numbers.proofs.WalkLaws.{bytes-part}
 use Rattle.numbers.proofs.ByteLaws.{bytes-last, bytes-number}
 use Rattle.cards.specs.Cards.{cardBytes, blank, noZero, isCardText, cardsPut}
 use Rattle.cards.specs.Parts.{zeroMark}
-use Rattle.cards.proofs.LaneLaws.{each, each-more}
+use Rattle.cards.proofs.EachLaws.{each, each-more}
 
 -- ## Lists
 
@@ -76,31 +76,18 @@ low-blanked l n p =
 
 -- ## No byte is 00
 
-same-test : (a b : Bool) → (a ≡ true → b ≡ true) → (b ≡ true → a ≡ true) → a ≡ b
-same-test true b f g = sym (f refl)
-same-test false true f g = g refl
-same-test false false f g = refl
-
 swap : (a b c : Bool) → (b && (a && c)) ≡ ((a && b) && c)
 swap true b c = refl
 swap false b c = and-false b
 
-group : (a b c : Bool) → (a && (b && c)) ≡ ((a && b) && c)
-group true b c = refl
-group false b c = refl
-
 -- Of a list in two parts, of a list with one byte more, and of the reversed list.
 pub zero-append : (l r : List ℕ) → noZero (l ++ r) ≡ noZero l && noZero r
 zero-append [] r = refl
-zero-append (b ∷ l) r = ap (λ (t : Bool). not (eqb b 0) && t) (zero-append l r) ∙ group (not (eqb b 0)) (noZero l) (noZero r)
+zero-append (b ∷ l) r = ap (λ (t : Bool). not (eqb b 0) && t) (zero-append l r) ∙ and-assoc (not (eqb b 0)) (noZero l) (noZero r)
 
 zero-aux : (l r : List ℕ) → noZero (reverseAux l r) ≡ noZero l && noZero r
 zero-aux [] r = refl
 zero-aux (b ∷ l) r = zero-aux l (b ∷ r) ∙ swap (not (eqb b 0)) (noZero l) (noZero r)
-
-pub and-right : (a : Bool) → (a && true) ≡ a
-and-right true = refl
-and-right false = refl
 
 zero-reverse : (l : List ℕ) → noZero (reverse l) ≡ noZero l
 zero-reverse l = zero-aux l [] ∙ and-right (noZero l)
@@ -138,7 +125,7 @@ or-none a b =
 pub zero-turn : (z m : ℕ) (part rest : List ℕ) → eqb m 0 ≡ noZero part → (eqb (bitOr z m) 0 && noZero rest) ≡ (eqb z 0 && noZero (part ++ rest))
 zero-turn z m part rest e =
     ap (λ (t : Bool). t && noZero rest) (or-none z m ∙ ap (λ (t : Bool). eqb z 0 && t) e)
-    ∙ sym (group (eqb z 0) (noZero part) (noZero rest)) ∙ ap (λ (t : Bool). eqb z 0 && t) (sym (zero-append part rest))
+    ∙ sym (and-assoc (eqb z 0) (noZero part) (noZero rest)) ∙ ap (λ (t : Bool). eqb z 0 && t) (sym (zero-append part rest))
 
 -- ## Card bytes
 

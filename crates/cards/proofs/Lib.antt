@@ -1,4 +1,4 @@
 -- A word of eight card bytes: what one step does to each of its bytes, and what it says of all of them.
-pub mod LaneLaws
+pub mod EachLaws
 pub mod EightLaws
 pub mod Theorems

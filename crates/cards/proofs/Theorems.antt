@@ -10,7 +10,7 @@ use Rattle.numbers.specs.BigEndian.{number, bytesOf}
 use Rattle.numbers.specs.Terms.{Bytes}
 use Rattle.numbers.proofs.ByteLaws.{bytes-of, length-bytes}
 use Rattle.cards.specs.Cards.{blank}
-use Rattle.cards.proofs.LaneLaws.{each, each-more}
+use Rattle.cards.proofs.EachLaws.{each, each-more}
 use Rattle.cards.proofs.EightLaws.{blank-byte, blank-bytes, word-bytes, low-blanked}
 
 -- The eight bytes of the number, the first highest, are the blanks of the eight card bytes.

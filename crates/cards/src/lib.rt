@@ -16,14 +16,14 @@ fn zero_marks(cards: u64) -> u64
     let high = cards | 0x8080_8080_8080_8080;
     let less = high - 0x0101_0101_0101_0101;
     let some = (less | cards) & 0x8080_8080_8080_8080;
-    0x8080_8080_8080_8080 - some
+    some ^ 0x8080_8080_8080_8080
 }
 
 // Eight card bytes as one number, the first highest: 40 for each 00, and every other byte as it was.
 pub fn blank_eight(cards: u64) -> u64
     ensures { λ r. ⌜ r ≡ number (map blank (bytesOf 8 cards)) ⌝ }
 {
-    cards | zero_marks(cards) / 2
+    cards ^ zero_marks(cards) / 2
 }
 
 // Eight card bytes as one number, the first lowest.

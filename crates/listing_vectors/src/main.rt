@@ -1,7 +1,7 @@
 // Runs vectors of listings and of card bytes. The input is a row of cases without anything between them:
 //
 //     1 byte     call: 1 lists the cards, 2 takes a listing back, 3 blanks eight card bytes
-//     4 bytes    room, the length of the output, big-endian, at most 60,000
+//     4 bytes    room, the length of the output, big-endian, at most 60,000; 0 for call 3
 //     4 bytes    length of the record, big-endian, at most 60,000; 8 for call 3
 //     4 bytes    length of the listing, big-endian, at most 60,000; 0 for calls 1 and 3
 //     the record, for call 3 the eight card bytes
@@ -11,12 +11,12 @@
 //
 //     taken LENGTH DIGEST              call 1
 //     taken T N LENGTH DIGEST          call 2
-//     refused NUMBER BESIDE DIGEST     either
-//     blanked NUMBER                   call 3: the eight bytes as one number
+//     refused NUMBER BESIDE DIGEST     calls 1 and 2
+//     blanked NUMBER                   call 3: the eight bytes as one number, the first highest
 //
 // DIGEST is that of the whole output after the call, all its room. A digest is 0 at first, and each byte b makes
-// (digest * 31 + b) mod 2^32 of it. All numbers are decimal. A case that is cut short, or longer than 60,000, or of another call, is
-// answered by `bad case`, and is the last.
+// (digest * 31 + b) mod 2^32 of it. All numbers are decimal. A case that is cut short, or longer than 60,000, or of another call, or of
+// call 3 with another length than 8, is answered by `bad case`, and is the last.
 use libc::STDIN_FILENO;
 use libc::STDOUT_FILENO;
 use listing::Listed;

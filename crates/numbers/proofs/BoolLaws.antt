@@ -23,9 +23,24 @@ pub and-false : (a : Bool) → (a && false) ≡ false
 and-false true = refl
 and-false false = refl
 
+pub and-right : (a : Bool) → (a && true) ≡ a
+and-right true = refl
+and-right false = refl
+
 pub or-true : (a : Bool) → (a || true) ≡ true
 or-true true = refl
 or-true false = refl
+
+-- three tests together, however they are grouped
+pub and-assoc : (a b c : Bool) → (a && (b && c)) ≡ ((a && b) && c)
+and-assoc true b c = refl
+and-assoc false b c = refl
+
+-- two tests that pass in the same cases are the same
+pub same-test : (a b : Bool) → (a ≡ true → b ≡ true) → (b ≡ true → a ≡ true) → a ≡ b
+same-test true b f g = sym (f refl)
+same-test false true f g = g refl
+same-test false false f g = refl
 
 -- a number that is found in a list is one of its numbers, and the other way round
 pub among-is : (n : ℕ) (ms : List ℕ) → isAmong n ms ≡ true → Among n ms

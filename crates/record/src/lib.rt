@@ -94,8 +94,8 @@ fn check_field(record: &[u8], tag: u8, size: usize, at: usize) -> Check
     Check::Fine
 }
 
-// 13: the first card byte 00, byte by byte.
-fn find_card_zero(record: &[u8]) -> Check
+// 13: the first card byte 00.
+fn check_card_bytes(record: &[u8]) -> Check
     requires { ⌜ 3203 ≤ length (now «record») ⌝ }
     ensures { λ r. ⌜ r ≡ firstOf (walk (cardCause (now («record» .entry))) 1 3200 3) ⌝ }
 {
@@ -112,17 +112,6 @@ fn find_card_zero(record: &[u8]) -> Check
         left -= 1;
     }
     Check::Fine
-}
-
-// 13: the first card byte 00, for which only a card text that has one is searched.
-fn check_card_bytes(record: &[u8]) -> Check
-    requires { ⌜ 3203 ≤ length (now «record») ⌝ }
-    ensures { λ r. ⌜ r ≡ firstOf (walk (cardCause (now («record» .entry))) 1 3200 3) ⌝ }
-{
-    if cards::is_card_text(&record[3..3203]) {
-        return Check::Fine;
-    }
-    find_card_zero(record)
 }
 
 // 12 and 13 of tag 01.
@@ -342,11 +331,26 @@ pub fn check_front(record: &[u8]) -> Check
     check_binary(record)
 }
 
+// The same, for which a card text that has no 00 is looked at by words of eight. What writes exactly goes without: with the words the
+// compiler has no register left for a constant of its loop over samples.
+fn judge_front(record: &[u8]) -> Check
+    ensures { λ r. ⌜ r ≡ then (cardsCauses (now («record» .entry))) (binaryCauses (now («record» .entry))) ⌝ }
+{
+    let a = check_field(record, 1, 3200, 0);
+    let Check::Fine = a else {
+        return a;
+    };
+    if cards::is_card_text(&record[3..3203]) {
+        return check_binary(record);
+    }
+    check_front(record)
+}
+
 // 12 and 13.
 fn check_form(record: &[u8]) -> Check
     ensures { λ r. ⌜ r ≡ formCauses (now («record» .entry)) ⌝ }
 {
-    let a = check_front(record);
+    let a = judge_front(record);
     let Check::Fine = a else {
         return a;
     };

@@ -1,5 +1,5 @@
 -- `cards::blank_eight` meets its contract. Assumes nothing.
-use Rattle.cards.proofs.LaneLaws.{blanked}
+use Rattle.cards.proofs.EachLaws.{blanked}
 use Rattle.cards.proofs.blank_eight.Statement.{statement}
 use Rattle.cards.proofs.blank_eight.Tie as tie
 

@@ -7,12 +7,13 @@ use native.Mathlib.Omega.{arith}
 use borrow.Author.Tests.{eq-eqb, ne-eqb}
 use lib.Dec.{eqb}
 use lib.ListN.{length, take, drop, drop-of-length-le}
+use Rattle.numbers.proofs.BoolLaws.{and-right}
 use Rattle.numbers.proofs.ByteLaws.{all-bytes}
 use Rattle.numbers.proofs.WalkLaws.{all-take, all-drop}
 use Rattle.cards.specs.Cards.{cardBytes, noZero, isCardText}
 use Rattle.cards.specs.Parts.{zeroMark}
-use Rattle.cards.proofs.LaneLaws.{each}
-use Rattle.cards.proofs.EightLaws.{eight, next-part, and-right, low-marks, zero-turn}
+use Rattle.cards.proofs.EachLaws.{each}
+use Rattle.cards.proofs.EightLaws.{eight, next-part, low-marks, zero-turn}
 use Rattle.cards.proofs.is_card_text.Statement.{statement}
 use Rattle.cards.proofs.is_card_text.Tie as tie
 

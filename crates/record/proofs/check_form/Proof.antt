@@ -12,12 +12,12 @@ use Rattle.record.proofs.check_form.Statement.{statement}
 use Rattle.record.proofs.check_form.Tie as tie
 
 front : (c : tie.After-enum-told) → let s = c .before .before .before .before .args .«record» .now in then (cardsCauses s) (binaryCauses s) ≡ Fine
-front c = sym (c .before .before .check-front .ensures) ∙ c .enum-told .given .1
+front c = sym (c .before .before .judge-front .ensures) ∙ c .enum-told .given .1
 
 returns : tie.Need-returns
 returns c =
     let t = c .enum-told2 .given .1 in
-    t ∙ sym (form-stop (c .before .before .before .before .args .«record» .now) (sym (c .before .before .check-front .ensures) ∙ t))
+    t ∙ sym (form-stop (c .before .before .before .before .args .«record» .now) (sym (c .before .before .judge-front .ensures) ∙ t))
 
 returns-2 : tie.Need-returns-2
 returns-2 c =

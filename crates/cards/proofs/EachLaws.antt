@@ -9,7 +9,7 @@ use native.Mathlib.Nat.{pow-suc}
 use borrow.Author.Tests.{eqb-true}
 use lib.Dec.{eqb, lit<}
 use lib.ListN.{replicate}
-use lib.Bits.{bitAnd, bitOr, and-block, or-block, and-le-l, and-le-r, or-lt, or-add-and}
+use lib.Bits.{bitAnd, bitOr, bitXor, and-block, or-block, xor-block, and-le-l, and-le-r, or-lt, or-add-and}
 use Rattle.numbers.specs.Walk.{pick}
 use Rattle.numbers.specs.BigEndian.{number, bytesOf}
 use Rattle.numbers.proofs.BoolLaws.{and-true}
@@ -29,16 +29,16 @@ each-more f k x =
     ∙ ap number (map-append f (bytesOf k (x / 256)) (x % 256 ∷ []))
     ∙ number-last (map f (bytesOf k (x / 256))) (f (x % 256))
 
--- 01 in each of k bytes, and 80.
-abbrev pub m1 : ℕ → ℕ
-m1 zero = 0
-m1 (suc k) = m1 k * 256 + 1
+-- 01 in each of k bytes; 80 in each, the high bit.
+abbrev pub ones : ℕ → ℕ
+ones zero = 0
+ones (suc k) = ones k * 256 + 1
 
-abbrev pub m8 : ℕ → ℕ
-m8 zero = 0
-m8 (suc k) = m8 k * 256 + 128
+abbrev pub highs : ℕ → ℕ
+highs zero = 0
+highs (suc k) = highs k * 256 + 128
 
-one-le : (k : ℕ) → m1 k ≤ m8 k
+one-le : (k : ℕ) → ones k ≤ highs k
 one-le zero = omega arith
 one-le (suc k) = omega (arith, one-le k)
 
@@ -57,19 +57,19 @@ or-le x n m h = omega (arith, or-add-and x n, and-le-l x n)
 -- ## One byte: the test of all 256
 
 right : ℕ → ℕ → Bool
-right r _ = eqb (128 - some 1 128 r) (zeroMark r) && eqb (bitOr r (zeroMark r / 2)) (blank r)
+right r _ = eqb (bitXor (some 1 128 r) 128) (zeroMark r) && eqb (bitXor r (zeroMark r / 2)) (blank r)
 
 one : (r : ℕ) → r < 256 → right r 0 ≡ true
 unfolding right some
 one r h = at-entry right (replicate 256 0) refl r h
 
-one-marked : (r : ℕ) → r < 256 → 128 - some 1 128 r ≡ zeroMark r
+one-marked : (r : ℕ) → r < 256 → bitXor (some 1 128 r) 128 ≡ zeroMark r
 unfolding right
-one-marked r h = eqb-true _ _ (and-true (eqb (128 - some 1 128 r) (zeroMark r)) (eqb (bitOr r (zeroMark r / 2)) (blank r)) (one r h) .0)
+one-marked r h = eqb-true _ _ (and-true (eqb (bitXor (some 1 128 r) 128) (zeroMark r)) (eqb (bitXor r (zeroMark r / 2)) (blank r)) (one r h) .0)
 
-one-blank : (r : ℕ) → r < 256 → bitOr r (zeroMark r / 2) ≡ blank r
+one-blank : (r : ℕ) → r < 256 → bitXor r (zeroMark r / 2) ≡ blank r
 unfolding right
-one-blank r h = eqb-true _ _ (and-true (eqb (128 - some 1 128 r) (zeroMark r)) (eqb (bitOr r (zeroMark r / 2)) (blank r)) (one r h) .1)
+one-blank r h = eqb-true _ _ (and-true (eqb (bitXor (some 1 128 r) 128) (zeroMark r)) (eqb (bitXor r (zeroMark r / 2)) (blank r)) (one r h) .1)
 
 -- ## One byte more
 
@@ -94,18 +94,23 @@ module _ (x : ℕ) where
   split : x ≡ x / 256 * 256 + x % 256
   split = omega arith
 
-some-more : (k x : ℕ) → some (m1 (suc k)) (m8 (suc k)) x ≡ some (m1 k) (m8 k) (x / 256) * 256 + some 1 128 (x % 256)
-some-more k x = ap (some (m1 (suc k)) (m8 (suc k))) (split x) ∙ some-step (m1 k) (m8 k) (x / 256) (x % 256) (one-le k) (last< x)
+some-more : (k x : ℕ) → some (ones (suc k)) (highs (suc k)) x ≡ some (ones k) (highs k) (x / 256) * 256 + some 1 128 (x % 256)
+some-more k x = ap (some (ones (suc k)) (highs (suc k))) (split x) ∙ some-step (ones k) (highs k) (x / 256) (x % 256) (one-le k) (last< x)
 
 -- ## All bytes
 
 -- What is left of 80 in each byte is its mark.
-pub marked : (k x : ℕ) → m8 k - some (m1 k) (m8 k) x ≡ each zeroMark k x
-marked zero x = omega (arith, some-le 0 0 x)
+pub marked : (k x : ℕ) → bitXor (some (ones k) (highs k) x) (highs k) ≡ each zeroMark k x
+marked zero x = ap (λ (y : ℕ). bitXor y 0) none ∙ refl
+  where
+    none : some 0 0 x ≡ 0
+    none = omega (arith, some-le 0 0 x)
 marked (suc k) x =
-    let e : m8 (suc k) - some (m1 (suc k)) (m8 (suc k)) x ≡ (m8 k - some (m1 k) (m8 k) (x / 256)) * 256 + (128 - some 1 128 (x % 256)) =
-    omega (arith, some-more k x, some-le (m1 k) (m8 k) (x / 256), some-le 1 128 (x % 256)) in
-    e ∙ rw (marked k (x / 256), one-marked (x % 256) (last< x), each-more zeroMark k x)
+    let r = x % 256 in
+    let s< : some 1 128 r < 2 ^ 8 = omega (arith, some-le 1 128 r) in
+    ap (λ (y : ℕ). bitXor y (highs (suc k))) (some-more k x)
+    ∙ (xor-block 8 (some (ones k) (highs k) (x / 256)) (highs k) (some 1 128 r) 128 s< (lit< tt)
+    ∙ rw (marked k (x / 256), one-marked r (last< x), each-more zeroMark k x))
 
 -- A mark is 80 or 00, so half of all of them is half of each.
 pick-even : (t : Bool) → pick t 0x80 0 % 2 ≡ 0
@@ -129,14 +134,14 @@ pick-half< false = lit< tt
 half< : (b : ℕ) → zeroMark b / 2 < 2 ^ 8
 half< b = pick-half< (eqb b 0)
 
--- 40 over each byte 00, and no bit over any other.
-pub blanked : (k x : ℕ) → x < 256 ^ k → bitOr x (each zeroMark k x / 2) ≡ each blank k x
+-- 40 in place of each byte 00, and every other as it was.
+pub blanked : (k x : ℕ) → x < 256 ^ k → bitXor x (each zeroMark k x / 2) ≡ each blank k x
 blanked zero zero h = refl
 blanked zero (suc x) h = absurd (omega arith)
 blanked (suc k) x h =
     let a = x / 256 in
     let A = each zeroMark k a / 2 in
     let B = zeroMark (x % 256) / 2 in
-    ap (bitOr x) (half-more k x) ∙ (ap (λ (y : ℕ). bitOr y (A * 256 + B)) (split x)
-    ∙ (or-block 8 a A (x % 256) B (last< x) (half< (x % 256))
+    ap (bitXor x) (half-more k x) ∙ (ap (λ (y : ℕ). bitXor y (A * 256 + B)) (split x)
+    ∙ (xor-block 8 a A (x % 256) B (last< x) (half< (x % 256))
     ∙ rw (blanked k a (omega (arith, pow-suc 256 k)), one-blank (x % 256) (last< x), each-more blank k x)))
