@@ -135,12 +135,12 @@ fn blank(byte: u8) -> u8 {
     }
 }
 
-/// As the library does it: 7F more than a byte's low seven bits has the high bit where they aren't all 0.
+/// As the library does it: a byte whose high bit is set, less 1, has lost that bit where the other seven are 0.
 fn blank_eight(cards: u64) -> u64 {
-    let low = cards & 0x7F7F_7F7F_7F7F_7F7F;
-    let sum = low + 0x7F7F_7F7F_7F7F_7F7F;
-    let some = (sum | cards) & 0x8080_8080_8080_8080;
-    cards | ((0x8080_8080_8080_8080 - some) / 2)
+    let high = cards | 0x8080_8080_8080_8080;
+    let less = high - 0x0101_0101_0101_0101;
+    let some = (less | cards) & 0x8080_8080_8080_8080;
+    cards ^ ((some ^ 0x8080_8080_8080_8080) / 2)
 }
 
 fn bytes(cards: &CardBytes, out: &mut CardBytes) {
