@@ -8,6 +8,7 @@ use Rattle.numbers.proofs.CauseLaws.{then-stop, then-next}
 use Rattle.numbers.proofs.WalkLaws.{bytes-between}
 use Rattle.numbers.specs.declared.Check.the-variants.{Fine}
 use mathlib.Core.Path.{_≡_, refl, sym, ap, _∙_}
+use native.Mathlib.Omega.{arith}
 use borrow.Author.Needs.{needs}
 use Rattle.record.proofs.judge_front.Statement.{statement}
 use Rattle.record.proofs.judge_front.Tie as tie
@@ -24,7 +25,7 @@ returns c =
     cards ∙ then-stop _ _ (sym cards ∙ t)
 
 part-end : tie.Need-part-is-card-text-end
-part-end c = field-room (c .before .before .before .before .args .«record» .now) 1 3200 0 (fine c)
+part-end c = omega (arith, field-room (c .before .before .before .before .args .«record» .now) 1 3200 0 (fine c))
 
 returns-2 : tie.Need-returns-2
 unfolding cardsCauses
