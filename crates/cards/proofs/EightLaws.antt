@@ -1,17 +1,18 @@
 -- Eight card bytes as one number with the first byte lowest: their blanks, and whether one is 00. Assumes nothing.
-use Prim.Native.Nat.{ℕ, zero, suc, _+_, _*_, _-_, _/_, _%_, _^_, _≤_, _<_}
-use mathlib.Core.Path.{_≡_, refl, sym, ap, ap₂, _∙_}
+use Prim.Native.Nat.{ℕ, zero, suc, _+_, _*_, _-_, _/_, _%_, _≤_, _<_}
+use mathlib.Core.Path.{_≡_, refl, sym, ap, _∙_}
 use mathlib.Core.Bool.{Bool, true, false, not, _&&_}
-use mathlib.Core.List.{List, [], _∷_, _++_, map, map-append, reverse, reverseAux, reverse-reverse}
+use mathlib.Core.List.{List, [], _∷_, _++_, map, reverse, reverseAux, reverse-reverse}
 use native.Mathlib.Omega.{arith}
 use borrow.Author.Tests.{eqb-true, eq-eqb, ne-eqb}
-use lib.Dec.{eqb, lit<}
+use lib.Dec.{eqb}
 use lib.ListN.{length, getD, take, drop, length-map, length-reverse, take-append-drop}
 use lib.Seq.{take-all, drop-drop}
-use lib.Bits.{bitAnd, bitOr, or-add-and, and-le-l, and-le-r}
+use lib.Bits.{bitOr, or-add-and, and-le-l, and-le-r}
 use Rattle.numbers.specs.Walk.{pick, bytesAt}
 use Rattle.numbers.specs.BigEndian.{number, bytesOf}
 use Rattle.numbers.specs.Terms.{All, Bytes}
+use Rattle.numbers.proofs.AllLaws.{all-map}
 use Rattle.numbers.proofs.BoolLaws.{and-true, and-both, and-false, and-right, and-assoc, same-test}
 use Rattle.numbers.proofs.WalkLaws.{bytes-part}
 use Rattle.numbers.proofs.ByteLaws.{bytes-last, bytes-number}
@@ -49,16 +50,16 @@ next-part {A} l at e h =
 
 -- ## Blanks
 
-pub blank-byte : (b : ℕ) → b < 256 → blank b < 256
-blank-byte b h = go (eqb b 0)
+-- A card byte as it is taken is a byte other than 00.
+pub blank-some : (b : ℕ) → b < 256 → (0 < blank b) × (blank b < 256)
+blank-some zero h = (omega arith, omega arith)
+blank-some (suc b) h = rw (ne-eqb (suc b) 0 no) (omega arith, h)
   where
-    go : (t : Bool) → pick t 0x40 b < 256
-    go true = lit< tt
-    go false = h
+    no : suc b ≡ 0 → ⊥
+    no e = omega arith
 
 pub blank-bytes : (l : List ℕ) → Bytes l → Bytes (map blank l)
-blank-bytes [] p = tt
-blank-bytes (b ∷ l) p = (blank-byte b (p .0), blank-bytes l (p .1))
+blank-bytes = all-map (λ b. b < 256) (λ b. b < 256) blank (λ b h. blank-some b h .1)
 
 -- The bytes of eight in one number.
 pub word-bytes : (l : List ℕ) → length l ≡ 8 → Bytes l → bytesOf 8 (number l) ≡ l

@@ -11,7 +11,7 @@ use Rattle.numbers.specs.Terms.{Bytes}
 use Rattle.numbers.proofs.ByteLaws.{bytes-of, length-bytes}
 use Rattle.cards.specs.Cards.{blank}
 use Rattle.cards.proofs.EachLaws.{each, each-more}
-use Rattle.cards.proofs.EightLaws.{blank-byte, blank-bytes, word-bytes, low-blanked}
+use Rattle.cards.proofs.EightLaws.{blank-some, blank-bytes, word-bytes, low-blanked}
 
 -- The eight bytes of the number, the first highest, are the blanks of the eight card bytes.
 pub eight-blanked : (x : ℕ) → bytesOf 8 (number (map blank (bytesOf 8 x))) ≡ map blank (bytesOf 8 x)
@@ -21,10 +21,10 @@ eight-blanked x = word-bytes (map blank (bytesOf 8 x)) (length-map (bytesOf 8 x)
 each-byte : (k i x : ℕ) → i < k → each blank k x / 256 ^ i % 256 ≡ blank (x / 256 ^ i % 256)
 each-byte zero i x h = absurd (omega arith)
 each-byte (suc k) zero x h =
-    let b : blank (x % 256) < 256 = blank-byte (x % 256) (omega arith) in
+    let b : blank (x % 256) < 256 = blank-some (x % 256) (omega arith) .1 in
     rw (div-one, div-one, each-more blank k x) (mul-add-mod-self-right (each blank k (x / 256)) 256 (blank (x % 256)) ∙ mod-eq-of-lt b)
 each-byte (suc k) (suc i) x h =
-    let b : blank (x % 256) < 256 = blank-byte (x % 256) (omega arith) in
+    let b : blank (x % 256) < 256 = blank-some (x % 256) (omega arith) .1 in
     let down : (n : ℕ) → n / 256 ^ suc i ≡ n / 256 / 256 ^ i =
     λ n. ap (λ (p : ℕ). n / p) (pow-suc 256 i ∙ mul-comm (256 ^ i) 256) ∙ sym (div-div-eq-div-mul n 256 (256 ^ i)) in
     rw (down (each blank (suc k) x), down x, each-more blank k x, digits-div (each blank k (x / 256)) b) (each-byte k i (x / 256) (omega arith))

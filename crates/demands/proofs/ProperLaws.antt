@@ -24,6 +24,7 @@ use Rattle.numbers.proofs.AllLaws.{all-each, all-map}
 use Rattle.formats.specs.Codes.{isCode}
 use Rattle.value.specs.Pair.{pairOf, isCanonical, pairLength, pairIn}
 use Rattle.sample_theorems.proofs.Pairs.{value-pair-back}
+use Rattle.cards.proofs.EightLaws.{blank-some}
 use Rattle.reel.specs.Layout.{Field, cardBytes, binaryWidths, binaryFields, traceWidths, traceFields, fieldNumber, firstTrace, number16, samplesOf, intervalOf, codeOf, strideOf, tracesOf}
 use Rattle.reel.specs.Causes.{mostTraces, neither, traceCauses, causesOf}
 use Rattle.reel.specs.Meaning.{blank, cardText, binaryNumbers, filled, traceNumber, unscaledFields, headerOf, traceMeaning, meaningOf}
@@ -123,11 +124,6 @@ held-proper r h e =
     }
 
 -- ## What a reel means
-
--- A card byte with 40 in place of 00 is a byte other than 00.
-blank-some : (b : ℕ) → b < 256 → (0 < blank b) × (blank b < 256)
-blank-some zero h = (omega arith, omega arith)
-blank-some (suc b) h = rw (some-not b) (omega arith, h)
 
 -- The card text is 3,200 bytes other than 00.
 card-text : (s : List ℕ) → Bytes s → All (λ b. (0 < b) × (b < 256)) (cardText s)

@@ -4,7 +4,6 @@ use mathlib.Core.List.{List, [], _∷_, _++_, map, append-nil}
 use Prim.Native.Nat.{ℕ, zero, suc, _+_, _*_, _<_}
 use native.Mathlib.Nat.{not-suc-le-zero}
 use native.Mathlib.Omega.{arith}
-use borrow.Author.Tests.{ne-eqb}
 use lib.ListN.{length, getD, drop, length-map}
 use lib.Seq.{take-all}
 use Rattle.numbers.specs.Walk.{walk, flat, bytesAt}
@@ -13,6 +12,7 @@ use Rattle.numbers.specs.declared.Check.the-variants.{Fine}
 use Rattle.numbers.proofs.WalkLaws.{cons-eq, at-zero, at-suc, walk-same, walk-at, map-walk, all-take, all-drop, all-at, split, size-bytes, bytes-part}
 use Rattle.numbers.proofs.ByteLaws.{bytes-append, bytes-at}
 use Rattle.numbers.proofs.AllLaws.{all-map, all-flat}
+use Rattle.cards.proofs.EightLaws.{blank-some}
 use Rattle.reel.specs.Layout.{cardBytes}
 use Rattle.reel.specs.Meaning.{blank}
 use Rattle.code_page.specs.Page.{charOf, codeIn, OneToOne}
@@ -105,14 +105,6 @@ module _ (t listing : List ℕ) where
       sym (byte-of (textOf t listing) (j * 80) 80 i m)
       ∙ ap (λ (x : List ℕ). getD x i 0) (part-at (cardOf t listing) lineLength cardLength cardCount (size-card (cardByte t) listing) j l)
       ∙ mapped-of (cardByte t) listing (j * 81) 80 i m
-
--- A card byte taken back is neither 00 nor above FF.
-pub blank-some : (b : ℕ) → b < 256 → (0 < blank b) × (blank b < 256)
-blank-some zero h = (omega arith, omega arith)
-blank-some (suc b) h = rw (ne-eqb (suc b) 0 (λ e. some e)) (omega arith, h)
-  where
-    some : suc b ≡ 0 → ⊥
-    some e = omega arith
 
 -- So each byte of the text of a listing, by a table that takes the 256 codes to the 256 characters one to one.
 pub text-some : (t listing : List ℕ) → OneToOne t → Bytes listing → All (λ b. (0 < b) × (b < 256)) (textOf t listing)
