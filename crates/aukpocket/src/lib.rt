@@ -7,7 +7,8 @@ ghost use Rattle.numbers.specs.BigEndian.{number, bytesOf};
 ghost use Rattle.cards.specs.Cards.{blank};
 ghost use Rattle.sample.specs.Calls as single;
 ghost use Rattle.record.specs.Answer.{saidBy, countedBy};
-ghost use Rattle.read_reel.specs.Reading.{readOutcome};
+ghost use Rattle.reel.specs.declared.Kind.the-variants.{Eagle};
+ghost use Rattle.read_reel.specs.Reading.{readOutcome, readOutcomeBy};
 ghost use Rattle.write_reel.specs.Writing.{writeOutcome};
 ghost use Rattle.write_reel.specs.Nearest.{nearestOutcome};
 ghost use Rattle.look_up.specs.LookUp.{lookUpOutcome};
@@ -134,12 +135,20 @@ fn nearest_answer(answer: Counted) -> ReelAnswer
     }
 }
 
-// Reads a reel into the front of a record buffer.
+// Reads a plain reel into the front of a record buffer.
 #[no_mangle]
 pub extern "C" fn aukpocket_read_reel(reel: &[u8], out: &mut [u8]) -> ReelAnswer
     ensures { λ r. ⌜ reelIn r (now (out .exit)) ≡ readHanded (readOutcome (now (reel .entry)) (now (out .entry))) ⌝ }
 {
     read_answer(read_reel::read_reel(reel, out))
+}
+
+// Reads an Eagle reel into the front of a record buffer.
+#[no_mangle]
+pub extern "C" fn aukpocket_read_eagle(reel: &[u8], out: &mut [u8]) -> ReelAnswer
+    ensures { λ r. ⌜ reelIn r (now (out .exit)) ≡ readHanded (readOutcomeBy Eagle (now (reel .entry)) (now (out .entry))) ⌝ }
+{
+    read_answer(read_reel::read_eagle(reel, out))
 }
 
 // Writes a record under a target code as a reel, into the front of a reel buffer.

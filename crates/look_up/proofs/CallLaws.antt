@@ -25,6 +25,7 @@ use Rattle.reel.specs.Causes.{causesOf, reelJudged}
 use Rattle.reel.specs.declared.Judged.the-variants as reel
 use Rattle.reel.proofs.CheckLaws.{Sound, inside}
 use Rattle.reel.proofs.JudgedLaws.{own}
+use Rattle.reel.specs.declared.Kind.the-variants.{Plain}
 use Rattle.look_up.specs.LookUp.{found, fieldIn, fieldAt, isNone, headerNumber, foundNumber, fieldCauses, lookUpCauses, numberSaid, lookUpOutcome, lookedUp}
 use Rattle.look_up.specs.Parts.{widthOf, theField, OnReel, Own, InHeader}
 use Rattle.look_up.specs.declared.Answer.the-variants as answer
@@ -135,5 +136,5 @@ taken-is s k b w e h =
 
 pub own-numbers : (s : List ℕ) {code n i v w t : ℕ} → reelJudged s ≡ reel.Fine code n i v w t → Own s n i w × (t ≡ tracesOf s)
 own-numbers s e =
-    let o = own s e in
+    let o = own Plain s e in
     (record { fine = o .fine; samples = sym (o .n-is); interval = sym (o .i-is); stride = sym (o .w-is) }, sym (o .t-is))

@@ -11,16 +11,17 @@ use Rattle.numbers.specs.Terms.{Bytes}
 use Rattle.numbers.specs.Outcome.{taken, Outcome}
 use Rattle.numbers.specs.declared.Place.{Place}
 use Rattle.numbers.specs.declared.Check.the-variants as check
-use Rattle.reel.specs.Layout.{firstTrace, samplesOf, intervalOf, codeOf, stride, strideOf, tracesOf}
+use Rattle.reel.specs.Layout.{firstTrace, samplesOf, intervalOf, codeOf, stride, strideIn, strideBy, tracesBy}
 use Rattle.formats.specs.Codes.{sampleBytes, isCode}
-use Rattle.reel.specs.Causes.{mostSamples, mostTraces, causesOf}
-use Rattle.reel.specs.NotNormal.{notNormalAmong, notNormalOf}
-use Rattle.reel.proofs.CheckLaws.{Numbers, reel-fine, inside}
+use Rattle.reel.specs.Causes.{mostSamples, mostTraces, causesBy}
+use Rattle.reel.specs.NotNormal.{notNormalAmong, notNormalBy}
+use Rattle.reel.proofs.CheckLaws.{Numbers, fine-by, inside-by, stride-holds}
 use Rattle.reel.proofs.JudgedLaws.{Own}
+use Rattle.reel.specs.declared.Kind.{Kind}
 use Rattle.record.specs.Form.{heldStride}
-use Rattle.record.specs.Record.{reelRecord, recordLength}
+use Rattle.record.specs.Record.{recordBy, recordLength}
 use Rattle.record.specs.Answer.{countedOutcome}
-use Rattle.read_reel.specs.Reading.{recordLengthOf, readCauses, readEnd, readOutcome}
+use Rattle.read_reel.specs.Reading.{recordLengthBy, readCausesBy, readEndBy, readOutcomeBy}
 use Rattle.read_reel.specs.Copied.{recordCopied}
 use Rattle.record.specs.declared.Counted.the-variants.{Taken, Refused}
 use Rattle.read_reel.proofs.RecordLaws.{record-is}
@@ -31,16 +32,16 @@ pub record Fit (s : List ℕ) (code n i v w t : ℕ) : Type 0 where
   pub width : v ≡ sampleBytes code
   pub n-high : n ≤ mostSamples
   pub i-high : i ≤ 32767
-  pub strides : w ≡ stride n v
+  pub strides : stride n v ≤ w
   pub few : t ≤ mostTraces
   pub room : firstTrace + t * w ≤ length s
   pub size : t * heldStride n ≤ 100000 * 48186
 
-pub fit : (s : List ℕ) (code n i v w t : ℕ) → Own s code n i v w t → Fit s code n i v w t
-fit s code n i v w t o =
-    let h = reel-fine s (o .fine) in
+pub fit : (k : Kind) (s : List ℕ) (code n i v w t : ℕ) → Own k s code n i v w t → Fit s code n i v w t
+fit x s code n i v w t o =
+    let h = fine-by x s (o .fine) in
     let k : Numbers code n i = subst (λ (x : ℕ). Numbers code n x) (o .i-is) (subst (λ (x : ℕ). Numbers code x (intervalOf s)) (o .n-is) (subst (λ (x : ℕ). Numbers x (samplesOf s) (intervalOf s)) (o .code-is) (h .numbers))) in
-    let r = inside s h in
+    let r = inside-by x s h in
     let few : t ≤ mostTraces = subst (λ (x : ℕ). x ≤ mostTraces) (o .t-is) (h .few) in
     let most : heldStride n ≤ 48186 = omega (arith, k .n-high) in
     record {
@@ -48,47 +49,47 @@ fit s code n i v w t o =
       width = sym (o .v-is) ∙ ap sampleBytes (o .code-is);
       n-high = k .n-high;
       i-high = k .i-high;
-      strides = sym (o .w-is) ∙ ap₂ stride (o .n-is) (o .v-is);
+      strides = subst (λ (y : ℕ). stride n v ≤ y) (ap₂ (strideIn x) (sym (o .n-is)) (sym (o .v-is)) ∙ o .w-is) (stride-holds x n v);
       few = few;
-      room = subst (λ (x : ℕ). firstTrace + x * w ≤ length s) (o .t-is) (subst (λ (x : ℕ). firstTrace + tracesOf s * x ≤ length s) (o .w-is) r);
+      room = subst (λ (x : ℕ). firstTrace + x * w ≤ length s) (o .t-is) (subst (λ (y : ℕ). firstTrace + tracesBy x s * y ≤ length s) (o .w-is) r);
       size = mul-le-mul few most;
     }
 
 -- ## The ends
 
-module _ (s out : List ℕ) where
-  pub refused-end : (number : ℕ) (place : Place) → causesOf s ≡ check.Refused number place → countedOutcome (Refused number place) out ≡ readOutcome s out
+module _ (kind : Kind) (s out : List ℕ) where
+  pub refused-end : (number : ℕ) (place : Place) → causesBy kind s ≡ check.Refused number place → countedOutcome (Refused number place) out ≡ readOutcomeBy kind s out
   refused-end number place e = rw e
 
-  module _ (code n i v w t : ℕ) (o : Own s code n i v w t) where
-    length-is : recordLengthOf s ≡ recordLength t n
+  module _ (code n i v w t : ℕ) (o : Own kind s code n i v w t) where
+    length-is : recordLengthBy kind s ≡ recordLength t n
     length-is = ap₂ recordLength (o .t-is) (o .n-is)
 
-    pub short-end : length out < recordLength t n → countedOutcome (Refused 10 (record { 0 = recordLength t n })) out ≡ readOutcome s out
+    pub short-end : length out < recordLength t n → countedOutcome (Refused 10 (record { 0 = recordLength t n })) out ≡ readOutcomeBy kind s out
     short-end l = rw (o .fine, length-is, lt-ltb (length out) (recordLength t n) l)
 
-    pub taken-end : Bytes s → (ys : List ℕ) (k : ℕ) → ys ≡ recordCopied s code n i w t → k ≡ notNormalAmong s code n w t firstTrace → recordLength t n ≤ length out
-        → countedOutcome (Taken t n (recordLength t n) k) (ys ++ drop (recordLength t n) out) ≡ readOutcome s out
+    pub taken-end : Bytes s → (ys : List ℕ) (k : ℕ) → ys ≡ recordCopied kind s code n i w t → k ≡ notNormalAmong s code n w t firstTrace → recordLength t n ≤ length out
+        → countedOutcome (Taken t n (recordLength t n) k) (ys ++ drop (recordLength t n) out) ≡ readOutcomeBy kind s out
     taken-end b ys k e count l =
         let size = recordLength t n in
-        let r : reelRecord s ≡ ys = record-is s b ∙ copied-is ∙ sym e in
-        let fine : readCauses s (length out) ≡ check.Fine = rw (o .fine, length-is, le-ltb (length out) size l) in
-        sym (ap (readEnd s out) fine ∙ ap (λ (x : ℕ). made x (samplesOf s) (recordLengthOf s) (notNormalOf s) (reelRecord s)) (o .t-is) ∙ ap (λ (x : ℕ). made t x (recordLengthOf s) (notNormalOf s) (reelRecord s)) (o .n-is)
-        ∙ ap₂ (λ (x : ℕ) (y : List ℕ). made t n x (notNormalOf s) y) length-is r ∙ ap (λ (x : ℕ). made t n size x ys) (counted-is ∙ sym count))
+        let r : recordBy kind s ≡ ys = record-is kind s b ∙ copied-is ∙ sym e in
+        let fine : readCausesBy kind s (length out) ≡ check.Fine = rw (o .fine, length-is, le-ltb (length out) size l) in
+        sym (ap (readEndBy kind s out) fine ∙ ap (λ (x : ℕ). made x (samplesOf s) (recordLengthBy kind s) (notNormalBy kind s) (recordBy kind s)) (o .t-is) ∙ ap (λ (x : ℕ). made t x (recordLengthBy kind s) (notNormalBy kind s) (recordBy kind s)) (o .n-is)
+        ∙ ap₂ (λ (x : ℕ) (y : List ℕ). made t n x (notNormalBy kind s) y) length-is r ∙ ap (λ (x : ℕ). made t n size x ys) (counted-is ∙ sym count))
       where
         made : ℕ → ℕ → ℕ → ℕ → List ℕ → Outcome
         made a b size x y = record { said = taken (a ∷ b ∷ size ∷ x ∷ []); bytes = y ++ drop size out }
 
         -- by the reel's own numbers, which are those of the code
-        by-numbers : {A : Type 0} (f : ℕ → ℕ → ℕ → ℕ → ℕ → A) → f (codeOf s) (samplesOf s) (intervalOf s) (strideOf s) (tracesOf s) ≡ f code n i w t
+        by-numbers : {A : Type 0} (f : ℕ → ℕ → ℕ → ℕ → ℕ → A) → f (codeOf s) (samplesOf s) (intervalOf s) (strideBy kind s) (tracesBy kind s) ≡ f code n i w t
         by-numbers f =
-            ap (λ (x : ℕ). f x (samplesOf s) (intervalOf s) (strideOf s) (tracesOf s)) (o .code-is)
-            ∙ ap (λ (x : ℕ). f code x (intervalOf s) (strideOf s) (tracesOf s)) (o .n-is)
-            ∙ ap (λ (x : ℕ). f code n x (strideOf s) (tracesOf s)) (o .i-is)
+            ap (λ (x : ℕ). f x (samplesOf s) (intervalOf s) (strideBy kind s) (tracesBy kind s)) (o .code-is)
+            ∙ ap (λ (x : ℕ). f code x (intervalOf s) (strideBy kind s) (tracesBy kind s)) (o .n-is)
+            ∙ ap (λ (x : ℕ). f code n x (strideBy kind s) (tracesBy kind s)) (o .i-is)
             ∙ ap₂ (λ (x y : ℕ). f code n i x y) (o .w-is) (o .t-is)
 
-        copied-is : recordCopied s (codeOf s) (samplesOf s) (intervalOf s) (strideOf s) (tracesOf s) ≡ recordCopied s code n i w t
-        copied-is = by-numbers (recordCopied s)
+        copied-is : recordCopied kind s (codeOf s) (samplesOf s) (intervalOf s) (strideBy kind s) (tracesBy kind s) ≡ recordCopied kind s code n i w t
+        copied-is = by-numbers (recordCopied kind s)
 
-        counted-is : notNormalOf s ≡ notNormalAmong s code n w t firstTrace
+        counted-is : notNormalBy kind s ≡ notNormalAmong s code n w t firstTrace
         counted-is = by-numbers (λ c n i w t. notNormalAmong s c n w t firstTrace)

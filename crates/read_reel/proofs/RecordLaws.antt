@@ -11,12 +11,13 @@ use Rattle.numbers.specs.BigEndian.{bytesOf}
 use Rattle.numbers.proofs.WalkLaws.{size-walk, map-walk}
 use Rattle.formats.specs.Codes.{sampleBytes, wordLength}
 use Rattle.formats.specs.Value.{exactValue}
-use Rattle.reel.specs.Layout.{cardBytes, firstTrace, traceHeader, samplesOf, intervalOf, codeOf, strideOf, tracesOf}
-use Rattle.reel.specs.Meaning.{cardText, binaryNumbers, traceNumber, headerOf, traceMeaning, meaningOf}
-use Rattle.record.specs.Record.{field, binaryBytes, samplesField, traceBytes, recordOf, reelRecord}
+use Rattle.reel.specs.Layout.{cardBytes, firstTrace, traceHeader, samplesOf, intervalOf, codeOf, strideBy, tracesBy}
+use Rattle.reel.specs.Meaning.{cardTextBy, binaryNumbers, traceNumber, headerOf, traceMeaning, meaningBy}
+use Rattle.reel.specs.declared.Kind.{Kind}
+use Rattle.record.specs.Record.{field, binaryBytes, samplesField, traceBytes, recordOf, recordBy}
 use Rattle.value.specs.Pair.{valueBytes}
 use Rattle.record.specs.Form.{binarySize, codePlace}
-use Rattle.record.proofs.HeaderLaws.{size-cards}
+use Rattle.record.proofs.HeaderLaws.{size-text}
 use Rattle.record.proofs.StoredLaws.{size-binary, code-stored}
 use Rattle.read_samples.specs.Samples.{sampleCopied, places, samplePairs}
 use Rattle.read_reel.specs.Copied.{tagBytes, fieldsCopied, headCopied, recordTraceCopied, recordCopied}
@@ -33,20 +34,20 @@ field-is tag k l e = ap (λ (x : ℕ). tag ∷ (bytesOf 2 x ++ l)) e
 
 -- ## The first two fields
 
-head-is : (s : List ℕ) → Bytes s → headCopied s ≡ field 1 (cardText s) ++ field 2 (binaryBytes 0 (binaryNumbers s))
+head-is : (k : Kind) (s : List ℕ) → Bytes s → headCopied k s ≡ field 1 (cardTextBy k s) ++ field 2 (binaryBytes 0 (binaryNumbers s))
 unfolding headCopied fieldsCopied binaryNumbers
-head-is s h =
-    let cards = tagBytes 1 cardBytes ++ cardText s in
+head-is k s h =
+    let cards = tagBytes 1 cardBytes ++ cardTextBy k s in
     let front = cards ++ tagBytes 2 binarySize in
     let copy = bytesAt s (bytePlace 0 3201) binarySize in
     let binary = binaryBytes 0 (binaryNumbers s) in
-    let joined : tagBytes 1 cardBytes ++ (cardText s ++ (tagBytes 2 binarySize ++ copy)) ≡ front ++ (copy ++ []) = sym (append-assoc cards (tagBytes 2 binarySize) copy) ∙ ap (λ (l : List ℕ). front ++ l) (sym (append-nil copy)) in
-    let size : codePlace ≡ length front + (3225 - 3201) = simp (length-append, size-cards) in
+    let joined : tagBytes 1 cardBytes ++ (cardTextBy k s ++ (tagBytes 2 binarySize ++ copy)) ≡ front ++ (copy ++ []) = sym (append-assoc cards (tagBytes 2 binarySize) copy) ∙ ap (λ (l : List ℕ). front ++ l) (sym (append-nil copy)) in
+    let size : codePlace ≡ length front + (3225 - 3201) = simp (length-append, size-text) in
     ap (λ (l : List ℕ). overwritten l codePlace (bytesOf 2 0)) joined
     ∙ code-stored s h 0 0 front [] codePlace size
     ∙ ap (λ (l : List ℕ). front ++ l) (append-nil binary)
     ∙ append-assoc cards (tagBytes 2 binarySize) binary
-    ∙ sym (ap₂ (λ (x y : List ℕ). x ++ y) (field-is 1 cardBytes (cardText s) (size-cards s)) (field-is 2 binarySize binary (size-binary s h 0 0)))
+    ∙ sym (ap₂ (λ (x y : List ℕ). x ++ y) (field-is 1 cardBytes (cardTextBy k s) (size-text k s)) (field-is 2 binarySize binary (size-binary s h 0 0)))
 
 -- ## Traces
 
@@ -74,16 +75,16 @@ module _ (s : List ℕ) (code n i : ℕ) where
 
 -- ## The record
 
-pub record-is : (s : List ℕ) → Bytes s → reelRecord s ≡ recordCopied s (codeOf s) (samplesOf s) (intervalOf s) (strideOf s) (tracesOf s)
-unfolding recordOf meaningOf recordCopied
-record-is s b =
+pub record-is : (k : Kind) (s : List ℕ) → Bytes s → recordBy k s ≡ recordCopied k s (codeOf s) (samplesOf s) (intervalOf s) (strideBy k s) (tracesBy k s)
+unfolding recordOf meaningBy recordCopied
+record-is k s b =
     let code = codeOf s in
     let n = samplesOf s in
     let i = intervalOf s in
-    let w = strideOf s in
-    let t = tracesOf s in
+    let w = strideBy k s in
+    let t = tracesBy k s in
     let z = traces-walk s code n i w t firstTrace in
     let v : field 5 (bytesOf 4 (length (walk (traceMeaning s code n i) w t firstTrace))) ≡ tagBytes 5 4 ++ bytesOf 4 t =
-    ap (λ (k : ℕ). field 5 (bytesOf 4 k)) (size-walk (traceMeaning s code n i) w t firstTrace) ∙ field-is 5 4 (bytesOf 4 t) refl in
-    sym (append-assoc (field 1 (cardText s)) (field 2 (binaryBytes 0 (binaryNumbers s))) _)
-    ∙ ap₂ (λ (k l : List ℕ). k ++ l) (sym (head-is s b)) (ap₂ (λ (k l : List ℕ). k ++ l) z v)
+    ap (λ (x : ℕ). field 5 (bytesOf 4 x)) (size-walk (traceMeaning s code n i) w t firstTrace) ∙ field-is 5 4 (bytesOf 4 t) refl in
+    sym (append-assoc (field 1 (cardTextBy k s)) (field 2 (binaryBytes 0 (binaryNumbers s))) _)
+    ∙ ap₂ (λ (x y : List ℕ). x ++ y) (sym (head-is k s b)) (ap₂ (λ (x y : List ℕ). x ++ y) z v)

@@ -6,7 +6,8 @@ use Rattle.numbers.specs.Places.{bytePlace}
 use Rattle.numbers.specs.BigEndian.{bytesOf}
 use Rattle.value.specs.Pair.{pairLength}
 use Rattle.reel.specs.Layout.{cardBytes, firstTrace, traceHeader}
-use Rattle.reel.specs.Meaning.{cardText, traceNumber, headerOf}
+use Rattle.reel.specs.Meaning.{cardTextBy, traceNumber, headerOf}
+use Rattle.reel.specs.declared.Kind.{Kind}
 use Rattle.headers.specs.Header.{headerSize, headerBytes}
 use Rattle.record.specs.Form.{binarySize, codePlace}
 use Rattle.read_samples.specs.Samples.{places, samplePairs}
@@ -16,12 +17,12 @@ abbrev pub tagBytes : ℕ → ℕ → List ℕ
 tagBytes tag size = tag ∷ bytesOf 2 size
 
 -- The first two fields of the record: the card text, and the binary fields, from 3201 on, as they are on the reel.
-unfoldable pub fieldsCopied : List ℕ → List ℕ
-fieldsCopied s = tagBytes 1 cardBytes ++ (cardText s ++ (tagBytes 2 binarySize ++ bytesAt s (bytePlace 0 3201) binarySize))
+unfoldable pub fieldsCopied : Kind → List ℕ → List ℕ
+fieldsCopied k s = tagBytes 1 cardBytes ++ (cardTextBy k s ++ (tagBytes 2 binarySize ++ bytesAt s (bytePlace 0 3201) binarySize))
 
 -- The same with 0 in place of the format code.
-unfoldable pub headCopied : List ℕ → List ℕ
-headCopied s = overwritten (fieldsCopied s) codePlace (bytesOf 2 0)
+unfoldable pub headCopied : Kind → List ℕ → List ℕ
+headCopied k s = overwritten (fieldsCopied k s) codePlace (bytesOf 2 0)
 
 -- A trace.
 unfoldable pub recordTraceCopied : List ℕ → ℕ → ℕ → ℕ → ℕ → List ℕ
@@ -29,6 +30,6 @@ recordTraceCopied s code n i at =
     tagBytes 3 headerSize ++ (headerBytes (headerOf (traceNumber s n i at)) ++ (tagBytes 4 (pairLength * n) ++ samplePairs s code n (at + traceHeader)))
 
 -- The record of t traces of w bytes each.
-unfoldable pub recordCopied : List ℕ → ℕ → ℕ → ℕ → ℕ → ℕ → List ℕ
-recordCopied s code n i w t =
-    headCopied s ++ (flat (map (recordTraceCopied s code n i) (places w t firstTrace)) ++ (tagBytes 5 4 ++ bytesOf 4 t))
+unfoldable pub recordCopied : Kind → List ℕ → ℕ → ℕ → ℕ → ℕ → ℕ → List ℕ
+recordCopied k s code n i w t =
+    headCopied k s ++ (flat (map (recordTraceCopied s code n i) (places w t firstTrace)) ++ (tagBytes 5 4 ++ bytesOf 4 t))

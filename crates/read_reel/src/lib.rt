@@ -1,4 +1,4 @@
-// Reading a whole reel into a record. Two passes: `reel::judge_reel` looks for a cause against the reel, and then the record is
+// Reading a whole reel, plain or Eagle, into a record. Two passes: `reel` looks for a cause against the reel, and then the record is
 // written. Each function that writes is lent exactly the bytes that it writes.
 ghost use mathlib.Core.Path.{_≡_};
 ghost use mathlib.Core.Bool.{true};
@@ -9,19 +9,22 @@ ghost use Rattle.numbers.specs.Walk.{flat, overwritten};
 ghost use Rattle.numbers.specs.Places.{placeNo};
 ghost use Rattle.numbers.specs.BigEndian.{bytesOf};
 ghost use Rattle.formats.specs.Codes.{isCode, sampleBytes};
-ghost use Rattle.reel.specs.Layout.{firstTrace, traceHeader, stride};
-ghost use Rattle.reel.specs.Causes.{mostSamples, mostTraces, reelJudged};
+ghost use Rattle.reel.specs.Layout.{cardBytes, firstTrace, traceHeader, stride};
+ghost use Rattle.reel.specs.Causes.{mostSamples, mostTraces, judgedBy};
+ghost use Rattle.reel.specs.Meaning.{cardTextBy};
+ghost use Rattle.reel.specs.declared.Kind.the-variants.{Eagle};
 ghost use Rattle.reel.specs.NotNormal.{notNormalIn, notNormalAmong};
 ghost use Rattle.read_samples.specs.Samples.{places};
 ghost use Rattle.record.specs.Form.{tracesPlace, heldStride};
 ghost use Rattle.record.specs.Record.{recordLength};
 ghost use Rattle.record.specs.Answer.{countedOutcome};
-ghost use Rattle.read_reel.specs.Reading.{readOutcome};
+ghost use Rattle.read_reel.specs.Reading.{readOutcome, readOutcomeBy};
 ghost use Rattle.read_reel.specs.Copied.{tagBytes, fieldsCopied, headCopied, recordTraceCopied, recordCopied};
 use numbers::ByteNo;
 use numbers::Place;
 use record::Counted;
 use reel::Judged;
+use reel::Kind;
 
 // A field's tag, and the length of its content.
 fn put_tag(tag: u8, size: u16, out: &mut [u8])
@@ -68,7 +71,7 @@ fn put_traces(
     t: usize,
     out: &mut [u8],
 ) -> usize
-    requires { ⌜ (isCode code ≡ true) × (n ≤ mostSamples) × (w ≡ stride n (sampleBytes code)) × (m ≡ heldStride n) × (firstTrace + t * w ≤ length (now reel)) × (length (now out) ≡ t * m) ⌝ }
+    requires { ⌜ (isCode code ≡ true) × (n ≤ mostSamples) × (stride n (sampleBytes code) ≤ w) × (m ≡ heldStride n) × (firstTrace + t * w ≤ length (now reel)) × (length (now out) ≡ t * m) ⌝ }
     ensures { λ r. ⌜ (r ≡ notNormalAmong (now (reel .entry)) code n w t firstTrace) × (now (out .exit) ≡ flat (map (recordTraceCopied (now (reel .entry)) code n i) (places w t firstTrace))) ⌝ }
 {
     let mut at = 3600;
@@ -98,41 +101,63 @@ fn put_count(t: u32, out: &mut [u8])
     slices::put32(t, &mut out[3..7]);
 }
 
-// The card bytes and the binary header's 27 fields, each behind its tag.
-fn put_fields(reel: &[u8], out: &mut [u8])
+// The card text: on an Eagle reel columns 79 and 80 of card 40, which hold a check, are blanks.
+fn put_text(kind: Kind, reel: &[u8], out: &mut [u8])
+    requires { ⌜ (firstTrace ≤ length (now reel)) × (length (now out) ≡ cardBytes) ⌝ }
+    ensures { λ _. ⌜ now (out .exit) ≡ cardTextBy kind (now (reel .entry)) ⌝ }
+{
+    cards::put_cards(&reel[0..3200], out);
+    match kind {
+        Kind::Plain => {}
+        Kind::Eagle => put_over(0x4040, Place(3198), out),
+    }
+}
+
+// The card text and the binary header's 27 fields, each behind its tag.
+fn put_fields(kind: Kind, reel: &[u8], out: &mut [u8])
     requires { ⌜ (firstTrace ≤ length (now reel)) × (length (now out) ≡ tracesPlace) ⌝ }
-    ensures { λ _. ⌜ now (out .exit) ≡ fieldsCopied (now (reel .entry)) ⌝ }
+    ensures { λ _. ⌜ now (out .exit) ≡ fieldsCopied kind (now (reel .entry)) ⌝ }
 {
     put_tag(1, 3200, &mut out[0..3]);
-    cards::put_cards(&reel[0..3200], &mut out[3..3203]);
+    put_text(kind, reel, &mut out[3..3203]);
     put_tag(2, 60, &mut out[3203..3206]);
     slices::copy(&reel[3200..3260], &mut out[3206..3266]);
 }
 
 // The same, the format code replaced by 0. Byte number 1 would stand at the place 6 of the record.
-fn put_head(reel: &[u8], out: &mut [u8])
+fn put_head(kind: Kind, reel: &[u8], out: &mut [u8])
     requires { ⌜ (firstTrace ≤ length (now reel)) × (length (now out) ≡ tracesPlace) ⌝ }
-    ensures { λ _. ⌜ now (out .exit) ≡ headCopied (now (reel .entry)) ⌝ }
+    ensures { λ _. ⌜ now (out .exit) ≡ headCopied kind (now (reel .entry)) ⌝ }
 {
-    put_fields(reel, out);
+    put_fields(kind, reel, out);
     put_over(0, places::field_at(Place(6), ByteNo(3225)), out);
 }
 
-// The record of t traces of n samples, which fills out; and how many of their words are not normal.
-fn put_record(reel: &[u8], code: usize, n: u16, i: u16, w: usize, t: usize, out: &mut [u8]) -> usize
-    requires { ⌜ (isCode code ≡ true) × (n ≤ mostSamples) × (w ≡ stride n (sampleBytes code)) × (t ≤ mostTraces) × (firstTrace + t * w ≤ length (now reel)) × (length (now out) ≡ recordLength t n) ⌝ }
-    ensures { λ r. ⌜ (r ≡ notNormalAmong (now (reel .entry)) code n w t firstTrace) × (now (out .exit) ≡ recordCopied (now (reel .entry)) code n i w t) ⌝ }
+// The record of t traces of n samples, w bytes apart, which fills out; and how many of their words are not normal.
+fn put_record(
+    kind: Kind,
+    reel: &[u8],
+    code: usize,
+    n: u16,
+    i: u16,
+    w: usize,
+    t: usize,
+    out: &mut [u8],
+) -> usize
+    requires { ⌜ (isCode code ≡ true) × (n ≤ mostSamples) × (stride n (sampleBytes code) ≤ w) × (t ≤ mostTraces) × (firstTrace + t * w ≤ length (now reel)) × (length (now out) ≡ recordLength t n) ⌝ }
+    ensures { λ r. ⌜ (r ≡ notNormalAmong (now (reel .entry)) code n w t firstTrace) × (now (out .exit) ≡ recordCopied kind (now (reel .entry)) code n i w t) ⌝ }
 {
     let m = 186 + 6 * n as usize;
     let e = 3266 + t * m;
-    put_head(reel, &mut out[0..3266]);
+    put_head(kind, reel, &mut out[0..3266]);
     let count = put_traces(reel, code, n, i, w, m, t, &mut out[3266..e]);
     put_count(t as u32, &mut out[e..e + 7]);
     count
 }
 
-// A reel to which no cause of 1 to 9, 18 and 19 applies, by its own numbers.
+// A reel to which no cause of 1 to 9, 18, 19 and 20 applies, by its own numbers.
 fn read_checked(
+    kind: Kind,
     reel: &[u8],
     code: usize,
     n: usize,
@@ -142,8 +167,8 @@ fn read_checked(
     t: usize,
     out: &mut [u8],
 ) -> Counted
-    requires { ⌜ reelJudged (now reel) ≡ Judged.Fine code n i v w t ⌝ }
-    ensures { λ r. ⌜ countedOutcome r (now (out .exit)) ≡ readOutcome (now (reel .entry)) (now (out .entry)) ⌝ }
+    requires { ⌜ judgedBy kind (now reel) ≡ Judged.Fine code n i v w t ⌝ }
+    ensures { λ r. ⌜ countedOutcome r (now (out .exit)) ≡ readOutcomeBy kind (now (reel .entry)) (now (out .entry)) ⌝ }
 {
     let length = 3273 + t * (186 + 6 * n);
     if out.len() < length {
@@ -152,7 +177,16 @@ fn read_checked(
             place: Place(length),
         };
     }
-    let count = put_record(reel, code, n as u16, i as u16, w, t, &mut out[..length]);
+    let count = put_record(
+        kind,
+        reel,
+        code,
+        n as u16,
+        i as u16,
+        w,
+        t,
+        &mut out[..length],
+    );
     Counted::Taken {
         traces: t,
         samples: n,
@@ -161,11 +195,11 @@ fn read_checked(
     }
 }
 
-// Reads a reel into the front of a record buffer.
-pub fn read_reel(reel: &[u8], out: &mut [u8]) -> Counted
-    ensures { λ r. ⌜ countedOutcome r (now (out .exit)) ≡ readOutcome (now (reel .entry)) (now (out .entry)) ⌝ }
+// A reel by what judging it found.
+fn read_judged(kind: Kind, c: Judged, reel: &[u8], out: &mut [u8]) -> Counted
+    requires { ⌜ c ≡ judgedBy kind (now reel) ⌝ }
+    ensures { λ r. ⌜ countedOutcome r (now (out .exit)) ≡ readOutcomeBy kind (now (reel .entry)) (now (out .entry)) ⌝ }
 {
-    let c = reel::judge_reel(reel);
     match c {
         Judged::Refused { number, place } => Counted::Refused { number, place },
         Judged::Fine {
@@ -175,6 +209,30 @@ pub fn read_reel(reel: &[u8], out: &mut [u8]) -> Counted
             width,
             stride,
             traces,
-        } => read_checked(reel, code, samples, interval, width, stride, traces, out),
+        } => read_checked(
+            kind,
+            reel,
+            code,
+            samples,
+            interval,
+            width,
+            stride,
+            traces,
+            out,
+        ),
     }
+}
+
+// Reads a plain reel into the front of a record buffer.
+pub fn read_reel(reel: &[u8], out: &mut [u8]) -> Counted
+    ensures { λ r. ⌜ countedOutcome r (now (out .exit)) ≡ readOutcome (now (reel .entry)) (now (out .entry)) ⌝ }
+{
+    read_judged(Kind::Plain, reel::judge_reel(reel), reel, out)
+}
+
+// Reads an Eagle reel into the front of a record buffer.
+pub fn read_eagle(reel: &[u8], out: &mut [u8]) -> Counted
+    ensures { λ r. ⌜ countedOutcome r (now (out .exit)) ≡ readOutcomeBy Eagle (now (reel .entry)) (now (out .entry)) ⌝ }
+{
+    read_judged(Kind::Eagle, reel::judge_eagle(reel), reel, out)
 }

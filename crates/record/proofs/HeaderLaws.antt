@@ -2,11 +2,13 @@
 use mathlib.Core.Path.{_≡_, refl}
 use mathlib.Core.List.{List, _∷_, _++_, map}
 use Prim.Native.Nat.{ℕ}
-use lib.ListN.{length, replicate, length-map}
+use lib.ListN.{length, replicate, length-append, length-map}
 use lib.IntN.{pos}
 use Rattle.numbers.proofs.WalkLaws.{size-bytes}
 use Rattle.reel.specs.Layout.{fieldsFrom, binaryWidths, binaryFields, fieldNumber}
-use Rattle.reel.specs.Meaning.{cardText, binaryNumbers}
+use Rattle.reel.specs.Meaning.{cardTextBy, cardText, binaryNumbers}
+use Rattle.reel.specs.declared.Kind.{Kind}
+use Rattle.reel.specs.declared.Kind.the-variants.{Plain, Eagle}
 use Rattle.record.specs.Record.{withCode}
 use Rattle.headers.proofs.NumberLaws.{total}
 
@@ -39,7 +41,11 @@ pub parts : (total binary-front ≡ 24) × (total binary-back ≡ 34)
 unfolding binary-front binary-back
 parts = (refl, refl)
 
--- the card text has 3,200 bytes
+-- the card text of either kind of reel has 3,200 bytes
+pub size-text : (k : Kind) (s : List ℕ) → length (cardTextBy k s) ≡ 3200
+unfolding cardTextBy
+size-text Plain s = simp (length-map, size-bytes)
+size-text Eagle s = simp (length-append, length-map, size-bytes)
+
 pub size-cards : (s : List ℕ) → length (cardText s) ≡ 3200
-unfolding cardText
-size-cards s = simp (length-map, size-bytes)
+size-cards s = size-text Plain s

@@ -8,7 +8,9 @@ use Rattle.numbers.specs.Walk.{flat}
 use Rattle.numbers.specs.BigEndian.{bytesOf}
 use Rattle.value.specs.Pair.{pairLength, valueBytes}
 use Rattle.reel.specs.Layout.{binaryWidths}
-use Rattle.reel.specs.Meaning.{Trace, Meaning, meaningOf}
+use Rattle.reel.specs.Meaning.{Trace, Meaning, meaningBy}
+use Rattle.reel.specs.declared.Kind.{Kind}
+use Rattle.reel.specs.declared.Kind.the-variants.{Plain}
 use Rattle.headers.specs.Header.{numberBytes, headerBytes}
 
 -- A tagged field: one byte of tag, two bytes of length, the content.
@@ -37,9 +39,12 @@ recordOf m =
     field 1 (m .cards)
     ++ (field 2 (binaryBytes 0 (m .binary)) ++ (flat (map traceBytes (m .traces)) ++ field 5 (bytesOf 4 (length (m .traces)))))
 
--- The record of a reel is that of what it means.
+-- The record of a reel, of a kind and plain, is that of what it means.
+abbrev pub recordBy : Kind → List ℕ → List ℕ
+recordBy k s = recordOf (meaningBy k s)
+
 abbrev pub reelRecord : List ℕ → List ℕ
-reelRecord s = recordOf (meaningOf s)
+reelRecord s = recordBy Plain s
 
 -- A record of t traces of n samples is 3273 + t × (186 + 6n) bytes.
 abbrev pub recordLength : ℕ → ℕ → ℕ

@@ -5,7 +5,7 @@ use mathlib.Core.Bool.{Bool, true, false, not, _&&_}
 use Prim.Native.Nat.{ℕ, zero, suc, _+_, _-_, _*_, _≤_, _<_}
 use native.Mathlib.Nat.{mul-le-mul, div-mul-le-self}
 use native.Mathlib.Omega.{arith}
-use borrow.Author.Tests.{leb-true, ne-eqb, ltb-false, not-false}
+use borrow.Author.Tests.{leb-true, le-leb, eqb-true, eq-eqb, ne-eqb, ltb-false, not-false}
 use lib.Dec.{T, leb, ltb, eqb}
 use lib.ListN.{length}
 use Rattle.numbers.specs.Walk.{pick, walk}
@@ -18,11 +18,14 @@ use Rattle.formats.specs.Value.{isBad, wordNumber, exactValue}
 use Rattle.sample.specs.Reading.{badNumber, pairTaken, readWord}
 use Rattle.sample.specs.declared.Sample.the-variants as sample
 use Rattle.numbers.proofs.SignLaws.{below-or}
+use Rattle.numbers.proofs.BoolLaws.{and-true, and-both, same-test}
 use mathlib.Core.Logic.{⊎-elim}
 use Rattle.formats.proofs.CodeLaws.{width-high}
-use Rattle.reel.specs.Layout.{firstTrace, traceHeader, elevationScalar, coordinateScalar, number16, samplesOf, codeOf, intervalOf, stride, strideOf, overIn, tracesOf}
+use Rattle.reel.specs.Layout.{firstTrace, traceHeader, elevationScalar, coordinateScalar, number16, samplesOf, codeOf, intervalOf, stride, trailerBytes, strideIn, strideBy, overIn, tracesBy, tracesOf, strideOf}
 use Rattle.reel.specs.Parts.{wordRefused, traceHeaderCauses}
-use Rattle.reel.specs.Causes.{mostSamples, mostTraces, within, neither, limitCauses, sizeCauses, scalarCause, wordCause, traceCauses, behindCauses, causesOf}
+use Rattle.reel.specs.Causes.{mostSamples, mostTraces, within, neither, allows, limitCausesBy, limitCauses, sizeCauses, scalarCause, wordCause, traceCauses, traceCausesBy, behindCausesBy, causesBy, causesOf}
+use Rattle.reel.specs.declared.Kind.{Kind}
+use Rattle.reel.specs.declared.Kind.the-variants.{Plain, Eagle}
 
 -- ## Rows
 
@@ -83,40 +86,65 @@ pub record Numbers (code n i : ℕ) : Type 0 where
   pub i-low : 1 ≤ i
   pub i-high : i ≤ 32767
 
-pub header-fine : (code n i : ℕ) → limitCauses code n i ≡ Fine → Numbers code n i
-header-fine code n i e =
-    let a = then-fine (refuseIf (not (isCode code)) 2 3224) _ e in
+-- from 1 to 1 is 1 alone
+pub one-within : (n : ℕ) → within 1 1 n ≡ eqb n 1
+one-within n =
+    same-test (within 1 1 n) (eqb n 1)
+    (λ e. let t = and-true (leb 1 n) (leb n 1) e in eq-eqb n 1 (omega (arith, leb-true 1 n (t .0), leb-true n 1 (t .1))))
+    (λ e. let q = eqb-true n 1 e in and-both (leb 1 n) (leb n 1) (le-leb 1 n (omega (arith, q))) (le-leb n 1 (omega (arith, q))))
+
+-- what a kind allows is a code; on an Eagle reel it is 1
+pub allowed-code : (k : Kind) (code : ℕ) → allows k code ≡ true → isCode code ≡ true
+allowed-code Plain code e = e
+allowed-code Eagle code e = ap isCode (eqb-true code 1 e)
+
+pub header-fine : (k : Kind) (code n i : ℕ) → limitCausesBy k code n i ≡ Fine → Numbers code n i
+header-fine k code n i e =
+    let a = then-fine (refuseIf (not (allows k code)) 2 3224) _ e in
     let b = then-fine (refuseIf (not (within 1 mostSamples n)) 3 3220) _ (a .1) in
     let c = then-fine (refuseIf (not (within 1 32767 i)) 4 3216) _ (b .1) in
     let y = in-limits 1 mostSamples n 3 3220 (b .0) in
     let z = in-limits 1 32767 i 4 3216 (c .0) in
-    record { is-code = not-false (isCode code) (passed (not (isCode code)) 2 3224 (a .0)); n-low = y .0; n-high = y .1; i-low = z .0; i-high = z .1 }
+    record { is-code = allowed-code k code (not-false (allows k code) (passed (not (allows k code)) 2 3224 (a .0))); n-low = y .0; n-high = y .1; i-low = z .0; i-high = z .1 }
 
--- a trace is from 240 to 32,240 bytes
+-- a trace is from 240 to 32,240 bytes, and with a trailer 960 more
 pub stride-high : (code n : ℕ) → n ≤ mostSamples → stride n (sampleBytes code) ≤ 32240
 stride-high code n h = let l = mul-le-mul h (width-high code) in omega arith
 
--- what a reel is to which no cause applies
-pub record Sound (s : List ℕ) : Type 0 where
+-- of either kind it has its header and its samples
+pub stride-holds : (k : Kind) (n v : ℕ) → stride n v ≤ strideIn k n v
+stride-holds Plain n v = omega arith
+stride-holds Eagle n v = omega arith
+
+-- and at most a trailer more
+pub stride-most : (k : Kind) (n v : ℕ) → strideIn k n v ≤ stride n v + trailerBytes
+stride-most Plain n v = omega arith
+stride-most Eagle n v = omega arith
+
+-- what a reel of a kind is to which no cause applies
+pub record SoundBy (k : Kind) (s : List ℕ) : Type 0 where
   pub long : firstTrace ≤ length s
   pub numbers : Numbers (codeOf s) (samplesOf s) (intervalOf s)
-  pub whole : overIn (length s) (strideOf s) ≡ 0
-  pub few : tracesOf s ≤ mostTraces
-  pub traces : firstOf (walk (traceCauses s (codeOf s) (samplesOf s) (intervalOf s)) (strideOf s) (tracesOf s) firstTrace) ≡ Fine
+  pub allowed : allows k (codeOf s) ≡ true
+  pub whole : overIn (length s) (strideBy k s) ≡ 0
+  pub few : tracesBy k s ≤ mostTraces
+  pub traces : firstOf (walk (traceCausesBy k s (codeOf s) (samplesOf s) (intervalOf s)) (strideBy k s) (tracesBy k s) firstTrace) ≡ Fine
 
-pub reel-fine : (s : List ℕ) → causesOf s ≡ Fine → Sound s
-unfolding causesOf behindCauses
-reel-fine s e =
+pub fine-by : (k : Kind) (s : List ℕ) → causesBy k s ≡ Fine → SoundBy k s
+unfolding causesBy behindCausesBy
+fine-by k s e =
     let a = then-fine (refuseIf (ltb (length s) firstTrace) 1 (length s)) _ e in
-    let b = then-fine (limitCauses (codeOf s) (samplesOf s) (intervalOf s)) _ (a .1) in
-    let c = then-fine (sizeCauses (length s) (strideOf s) (tracesOf s) (overIn (length s) (strideOf s))) _ (b .1) in
-    let d = then-fine (refuseIf (ltb 0 (overIn (length s) (strideOf s))) 5 (length s - overIn (length s) (strideOf s))) _ (c .0) in
-    let f = then-fine (refuseIf (ltb mostTraces (tracesOf s)) 6 (firstTrace + mostTraces * strideOf s)) _ (d .1) in
+    let b = then-fine (limitCausesBy k (codeOf s) (samplesOf s) (intervalOf s)) _ (a .1) in
+    let c = then-fine (sizeCauses (length s) (strideBy k s) (tracesBy k s) (overIn (length s) (strideBy k s))) _ (b .1) in
+    let d = then-fine (refuseIf (ltb 0 (overIn (length s) (strideBy k s))) 5 (length s - overIn (length s) (strideBy k s))) _ (c .0) in
+    let f = then-fine (refuseIf (ltb mostTraces (tracesBy k s)) 6 (firstTrace + mostTraces * strideBy k s)) _ (d .1) in
+    let g = then-fine (refuseIf (not (allows k (codeOf s))) 2 3224) _ (b .0) in
     record {
       long = ltb-false (length s) firstTrace (passed _ _ _ (a .0));
-      numbers = header-fine (codeOf s) (samplesOf s) (intervalOf s) (b .0);
-      whole = none (ltb-false 0 (overIn (length s) (strideOf s)) (passed _ _ _ (d .0)));
-      few = ltb-false mostTraces (tracesOf s) (passed _ _ _ (f .0));
+      numbers = header-fine k (codeOf s) (samplesOf s) (intervalOf s) (b .0);
+      allowed = not-false (allows k (codeOf s)) (passed (not (allows k (codeOf s))) 2 3224 (g .0));
+      whole = none (ltb-false 0 (overIn (length s) (strideBy k s)) (passed _ _ _ (d .0)));
+      few = ltb-false mostTraces (tracesBy k s) (passed _ _ _ (f .0));
       traces = c .1;
     }
   where
@@ -124,5 +152,15 @@ reel-fine s e =
     none h = omega arith
 
 -- the traces end where the reel ends
+pub inside-by : (k : Kind) (s : List ℕ) → SoundBy k s → firstTrace + tracesBy k s * strideBy k s ≤ length s
+inside-by k s h = omega (arith, h .long, div-mul-le-self (length s - firstTrace) (strideBy k s))
+
+-- the same of a plain reel
+abbrev pub Sound : List ℕ → Type 0
+Sound s = SoundBy Plain s
+
+pub reel-fine : (s : List ℕ) → causesOf s ≡ Fine → Sound s
+reel-fine = fine-by Plain
+
 pub inside : (s : List ℕ) → Sound s → firstTrace + tracesOf s * strideOf s ≤ length s
-inside s h = omega (arith, h .long, div-mul-le-self (length s - firstTrace) (strideOf s))
+inside = inside-by Plain

@@ -43,9 +43,9 @@ module _ (s : List ℕ) (code n : ℕ) where
     among-most t at = sum-most (λ p. notNormalIn s code n (p + traceHeader)) w n (λ p. in-most (p + traceHeader)) t at
 
 -- and no more than the reel has bytes
-pub among-room : (s : List ℕ) (code n w t at : ℕ) → w ≡ stride n (sampleBytes code) → firstTrace + t * w ≤ length s → notNormalAmong s code n w t at ≤ length s
+pub among-room : (s : List ℕ) (code n w t at : ℕ) → stride n (sampleBytes code) ≤ w → firstTrace + t * w ≤ length s → notNormalAmong s code n w t at ≤ length s
 among-room s code n w t at e room =
     le-trans (among-most s code n w t at) (le-trans (mul-le-mul-left t few) (omega (arith, room)))
   where
     few : n ≤ w
-    few = rw e (let l : n * 1 ≤ n * sampleBytes code = mul-le-mul-left n (width-low code) in omega (arith, l, mul-one n))
+    few = let l : n * 1 ≤ n * sampleBytes code = mul-le-mul-left n (width-low code) in omega (arith, e, l, mul-one n)

@@ -1,5 +1,6 @@
--- The causes 1 to 9, 18 and 19 against a reel, in the order of document 01's table and, for 18 and 19, of document 02 (CR 2, CR 4), each
--- with what stands beside it.
+-- The causes 1 to 9, 18, 19 and 20 against a reel, in the order of document 01's table and, for 18, 19 and 20, of document 02 (CR 2, CR 4,
+-- CR 7), each with what stands beside it. The kind of the reel, plain or Eagle, is a parameter; the names without it are those of plain reels,
+-- to which 20 doesn't apply. 9 and 19 don't apply to Eagle reels, which have code 1.
 use Prim.Native.Nat.{ℕ, _+_, _-_, _*_}
 use mathlib.Core.List.{List, [], _∷_}
 use mathlib.Core.Bool.{Bool, not, _&&_}
@@ -10,13 +11,15 @@ use Rattle.numbers.specs.Cause.{refuseIf, then, firstOf}
 use Rattle.numbers.specs.Places.{bytePlace}
 use Rattle.numbers.specs.declared.Check.{Check}
 use Rattle.numbers.specs.declared.Check.the-variants.{Fine, Refused}
+use Rattle.reel.specs.declared.Kind.{Kind}
+use Rattle.reel.specs.declared.Kind.the-variants.{Plain, Eagle}
 use Rattle.reel.specs.declared.Judged.{Judged}
 use Rattle.reel.specs.declared.Judged.the-variants as variant
 use Rattle.formats.specs.Codes.{wordLength, isCode, sampleBytes}
 use Rattle.scalars.specs.Scalar.{isAllowed}
 use Rattle.formats.specs.Value.{isBad, wordNumber}
 use Rattle.sample.specs.Reading.{badNumber}
-use Rattle.reel.specs.Layout.{Field, firstTrace, traceHeader, elevationScalar, coordinateScalar, fieldNumber, number16, intervalOf, samplesOf, codeOf, strideOf, wholeIn, overIn, tracesOf}
+use Rattle.reel.specs.Layout.{Field, firstTrace, traceHeader, elevationScalar, coordinateScalar, fieldNumber, number16, intervalOf, samplesOf, codeOf, stride, trailerBytes, strideBy, wholeIn, overIn, tracesBy}
 
 -- The most samples of a trace, and the most traces of a reel.
 abbrev pub mostSamples : ℕ
@@ -37,14 +40,22 @@ within a b n = leb a n && leb n b
 abbrev pub neither : ℕ → ℕ → Bool
 neither n m = not (eqb n 0) && not (eqb n m)
 
--- 2, 3, 4: format code none of 1, 2, 3, 4, 5, 8, place 3224; N not 1 to 8,000, place 3220; interval not 1 to 32,767, place 3216.
-abbrev pub limitCauses : ℕ → ℕ → ℕ → Check
-limitCauses code n i =
+-- The format codes of a kind of reel: 1, 2, 3, 4, 5, 8; on an Eagle reel "Format code 1 is the only one allowed" (document 02, CR 7).
+abbrev pub allows : Kind → ℕ → Bool
+allows Plain code = isCode code
+allows Eagle code = eqb code 1
+
+-- 2, 3, 4: format code not allowed, place 3224; N not 1 to 8,000, place 3220; interval not 1 to 32,767, place 3216.
+abbrev pub limitCausesBy : Kind → ℕ → ℕ → ℕ → Check
+limitCausesBy k code n i =
     firstOf
-    (refuseIf (not (isCode code)) 2 (bytePlace 0 3225)
+    (refuseIf (not (allows k code)) 2 (bytePlace 0 3225)
     ∷ refuseIf (not (within 1 mostSamples n)) 3 (bytePlace 0 3221)
     ∷ refuseIf (not (within 1 mostInterval i)) 4 (bytePlace 0 3217)
     ∷ [])
+
+abbrev pub limitCauses : ℕ → ℕ → ℕ → Check
+limitCauses code n i = limitCausesBy Plain code n i
 
 -- 5, 6, of a reel of `size` bytes with t whole traces of w bytes and `over` bytes behind them: bytes after the last whole trace, at the
 -- first of them; more than 100,000 traces, at trace 100,001.
@@ -73,23 +84,42 @@ traceCauses s code n i at =
     (then (scalarCause s at coordinateScalar)
     (firstOf (walk (wordCause s code) (sampleBytes code) n (at + traceHeader))))))
 
--- 5 and 6, then trace by trace 7, 8, 18, then 9 or 19, of traces of w bytes.
-unfoldable pub behindCauses : List ℕ → ℕ → ℕ → ℕ → ℕ → Check
-behindCauses s code n i w =
-    then (sizeCauses (length s) w (wholeIn (length s) w) (overIn (length s) w))
-    (firstOf (walk (traceCauses s code n i) w (wholeIn (length s) w) firstTrace))
+-- 20: "a trailer's last two bytes differ from FFFF, their place" (document 02, CR 7), of the trailer at the place `at`: the place of the first
+-- of the two, whichever differs.
+abbrev pub trailerCause : List ℕ → ℕ → Check
+trailerCause s at = refuseIf (not (eqb (number16 s (at + (trailerBytes - 2))) 0xFFFF)) 20 (at + (trailerBytes - 2))
 
--- 1 to 6 in that order; then trace by trace 7, 8, 18, then 9 or 19.
-unfoldable pub causesOf : List ℕ → Check
-causesOf s =
+-- The causes of the trace at a place; on an Eagle reel 20, "in each trace after its samples", where the trailer stands.
+abbrev pub traceCausesBy : Kind → List ℕ → ℕ → ℕ → ℕ → ℕ → Check
+traceCausesBy Plain = traceCauses
+traceCausesBy Eagle = λ s code n i at. then (traceCauses s code n i at) (trailerCause s (at + stride n (sampleBytes code)))
+
+-- 5 and 6, then trace by trace 7, 8, 18, then 9 or 19, then 20, of traces of w bytes.
+unfoldable pub behindCausesBy : Kind → List ℕ → ℕ → ℕ → ℕ → ℕ → Check
+behindCausesBy k s code n i w =
+    then (sizeCauses (length s) w (wholeIn (length s) w) (overIn (length s) w))
+    (firstOf (walk (traceCausesBy k s code n i) w (wholeIn (length s) w) firstTrace))
+
+abbrev pub behindCauses : List ℕ → ℕ → ℕ → ℕ → ℕ → Check
+behindCauses s code n i w = behindCausesBy Plain s code n i w
+
+-- 1 to 6 in that order; then trace by trace 7, 8, 18, then 9 or 19, then 20.
+unfoldable pub causesBy : Kind → List ℕ → Check
+causesBy k s =
     then (refuseIf (ltb (length s) firstTrace) 1 (length s))
-    (then (limitCauses (codeOf s) (samplesOf s) (intervalOf s))
-    (behindCauses s (codeOf s) (samplesOf s) (intervalOf s) (strideOf s)))
+    (then (limitCausesBy k (codeOf s) (samplesOf s) (intervalOf s))
+    (behindCausesBy k s (codeOf s) (samplesOf s) (intervalOf s) (strideBy k s)))
+
+abbrev pub causesOf : List ℕ → Check
+causesOf s = causesBy Plain s
 
 -- A reel to which no cause applies, with its own numbers; or the first cause.
-abbrev pub reelFound : List ℕ → Check → Judged
-reelFound s Fine = variant.Fine (codeOf s) (samplesOf s) (intervalOf s) (sampleBytes (codeOf s)) (strideOf s) (tracesOf s)
-reelFound s (Refused number place) = variant.Refused number place
+abbrev pub foundBy : Kind → List ℕ → Check → Judged
+foundBy k s Fine = variant.Fine (codeOf s) (samplesOf s) (intervalOf s) (sampleBytes (codeOf s)) (strideBy k s) (tracesBy k s)
+foundBy k s (Refused number place) = variant.Refused number place
+
+abbrev pub judgedBy : Kind → List ℕ → Judged
+judgedBy k s = foundBy k s (causesBy k s)
 
 abbrev pub reelJudged : List ℕ → Judged
-reelJudged s = reelFound s (causesOf s)
+reelJudged s = judgedBy Plain s

@@ -1,5 +1,5 @@
--- The layout of a reel: 3,200 card bytes, 400 binary header bytes, then traces of 240 header bytes and N samples each. A reel is given
--- as the list of its bytes.
+-- The layout of a reel: 3,200 card bytes, 400 binary header bytes, then traces of 240 header bytes and N samples each; on an Eagle reel
+-- each trace ends with a trailer of 960 bytes. A reel is given as the list of its bytes.
 use Prim.Native.Nat.{ℕ, _+_, _-_, _*_, _/_, _%_}
 use mathlib.Core.List.{List, [], _∷_, _++_}
 use lib.ListN.{length, replicate}
@@ -9,6 +9,8 @@ use Rattle.numbers.specs.BigEndian.{number}
 use Rattle.numbers.specs.TwosComplement.{signedOf}
 use Rattle.numbers.specs.Places.{bytePlace}
 use Rattle.formats.specs.Codes.{sampleBytes}
+use Rattle.reel.specs.declared.Kind.{Kind}
+use Rattle.reel.specs.declared.Kind.the-variants.{Plain, Eagle}
 -- The card bytes, 40 cards of 80, which `Cards` defines: 3,200.
 pub use Rattle.cards.specs.Cards.{cardBytes}
 
@@ -82,8 +84,21 @@ codeOf s = number16 s (bytePlace 0 3225)
 abbrev pub stride : ℕ → ℕ → ℕ
 stride n v = traceHeader + n * v
 
+-- The bytes of a trailer: "Each trace is followed by a 960-byte trailer" (document 02, CR 7), on an Eagle reel.
+abbrev pub trailerBytes : ℕ
+trailerBytes = 960
+
+-- From one trace to the next on a reel of a kind, plain or Eagle, with the trailer as part of the trace.
+abbrev pub strideIn : Kind → ℕ → ℕ → ℕ
+strideIn Plain n v = stride n v
+strideIn Eagle n v = stride n v + trailerBytes
+
+-- The same of a reel, by its own numbers; and of a plain reel.
+abbrev pub strideBy : Kind → List ℕ → ℕ
+strideBy k s = strideIn k (samplesOf s) (sampleBytes (codeOf s))
+
 abbrev pub strideOf : List ℕ → ℕ
-strideOf s = stride (samplesOf s) (sampleBytes (codeOf s))
+strideOf s = strideBy Plain s
 
 -- In a reel of `size` bytes: the whole traces of w bytes behind the headers, and the bytes behind the last whole trace.
 abbrev pub wholeIn : ℕ → ℕ → ℕ
@@ -92,6 +107,9 @@ wholeIn size w = (size - firstTrace) / w
 abbrev pub overIn : ℕ → ℕ → ℕ
 overIn size w = (size - firstTrace) % w
 
--- T, the whole traces of a reel by its own numbers.
+-- T, the whole traces of a reel by its own numbers; and of a plain reel.
+abbrev pub tracesBy : Kind → List ℕ → ℕ
+tracesBy k s = wholeIn (length s) (strideBy k s)
+
 abbrev pub tracesOf : List ℕ → ℕ
-tracesOf s = wholeIn (length s) (strideOf s)
+tracesOf s = tracesBy Plain s

@@ -1,5 +1,6 @@
--- What a reel means, from its bytes alone and never from a record.
-use Prim.Native.Nat.{ℕ, _+_}
+-- What a reel means, from its bytes alone and never from a record. The kind of the reel, plain or Eagle, is a parameter; the names without it
+-- are those of plain reels.
+use Prim.Native.Nat.{ℕ, _+_, _-_}
 use mathlib.Core.Path.{_≡_}
 use mathlib.Core.List.{List, [], _∷_, _++_, map}
 use lib.Dec.{eqb}
@@ -8,15 +9,22 @@ use lib.ListN.{length}
 use Rattle.numbers.specs.Walk.{pick, walk, bytesAt}
 use Rattle.formats.specs.Value.{exactValue}
 use Rattle.scalars.specs.Scalar.{scaledValues}
-use Rattle.reel.specs.Layout.{Field, cardBytes, firstTrace, traceHeader, binaryFields, traceFields, elevationScalar, coordinateScalar, fieldNumber, intervalOf, samplesOf, codeOf, strideOf, tracesOf}
+use Rattle.reel.specs.Layout.{Field, cardBytes, firstTrace, traceHeader, binaryFields, traceFields, elevationScalar, coordinateScalar, fieldNumber, intervalOf, samplesOf, codeOf, strideBy, tracesBy}
 use Rattle.formats.specs.Codes.{wordLength, sampleBytes}
 use Rattle.reel.specs.Causes.{within}
+use Rattle.reel.specs.declared.Kind.{Kind}
+use Rattle.reel.specs.declared.Kind.the-variants.{Plain, Eagle}
 -- How a card byte is taken, which `Cards` defines: 00 as the EBCDIC blank 40.
 pub use Rattle.cards.specs.Cards.{blank}
 
--- The card text: the 3,200 card bytes with 40 in place of 00.
-unfoldable pub cardText : List ℕ → List ℕ
-cardText s = map blank (bytesAt s 0 cardBytes)
+-- The card text: the 3,200 card bytes with 40 in place of 00. On an Eagle reel "Columns 79 and 80 of card 40 hold a check and are taken as
+-- blanks" (document 02, CR 7): they are the last two card bytes.
+unfoldable pub cardTextBy : Kind → List ℕ → List ℕ
+cardTextBy Plain s = map blank (bytesAt s 0 cardBytes)
+cardTextBy Eagle s = map blank (bytesAt s 0 (cardBytes - 2)) ++ (0x40 ∷ 0x40 ∷ [])
+
+abbrev pub cardText : List ℕ → List ℕ
+cardText s = cardTextBy Plain s
 
 -- The fields that begin at another byte number.
 abbrev pub otherThan : ℕ → List Field → List Field
@@ -91,13 +99,17 @@ pub record Meaning : Type 0 where
   pub binary : List ℤ
   pub traces : List Trace
 
-unfoldable pub meaningOf : List ℕ → Meaning
-meaningOf s =
+-- That of a reel of a kind: a trailer carries no meaning, so that an Eagle reel's traces are as a plain reel's, but stand further apart.
+unfoldable pub meaningBy : Kind → List ℕ → Meaning
+meaningBy k s =
     record {
-      cards = cardText s;
+      cards = cardTextBy k s;
       binary = binaryNumbers s;
-      traces = walk (traceMeaning s (codeOf s) (samplesOf s) (intervalOf s)) (strideOf s) (tracesOf s) firstTrace;
+      traces = walk (traceMeaning s (codeOf s) (samplesOf s) (intervalOf s)) (strideBy k s) (tracesBy k s) firstTrace;
     }
+
+abbrev pub meaningOf : List ℕ → Meaning
+meaningOf s = meaningBy Plain s
 
 -- Two meanings are the same when card text, header numbers, T, the scaled values of elevations and coordinates, and sample values all
 -- agree. N is one of the header numbers.
@@ -110,6 +122,6 @@ pub record SameMeaning (m₁ m₂ : Meaning) : Type 0 where
   pub coordinates : map (λ (t : Trace). t .header .coordinates) (m₁ .traces) ≡ map (λ (t : Trace). t .header .coordinates) (m₂ .traces)
   pub values : map (λ (t : Trace). t .values) (m₁ .traces) ≡ map (λ (t : Trace). t .values) (m₂ .traces)
 
--- Two reels to which no cause of 1 to 9, 18 and 19 applies mean the same when their meanings are the same.
+-- Two plain reels to which no cause of 1 to 9, 18 and 19 applies mean the same when their meanings are the same.
 abbrev pub MeanTheSame : List ℕ → List ℕ → Type 0
 MeanTheSame s₁ s₂ = SameMeaning (meaningOf s₁) (meaningOf s₂)

@@ -1,4 +1,4 @@
-// A reel's causes, 1 to 9, 18 and 19, and its own numbers.
+// A reel's causes, 1 to 9, 18, 19 and 20, and its own numbers: of a plain reel, and of an Eagle reel, whose traces end with a trailer.
 ghost use mathlib.Core.Path.{_≡_};
 ghost use Prim.Native.Nat.{_+_, _-_, _*_, _/_, _%_, _^_, _<_, _≤_};
 ghost use lib.ListN.{length};
@@ -8,13 +8,21 @@ ghost use Rattle.numbers.specs.Cause.{refuseIf, then, firstOf};
 ghost use Rattle.numbers.specs.declared.Check.the-variants.{Fine};
 ghost use Rattle.numbers.specs.Places.{placeNo, byteNo, bytePlace};
 ghost use Rattle.formats.specs.Codes.{isCode, sampleBytes};
-ghost use Rattle.reel.specs.Layout.{traceHeader, number16, stride};
-ghost use Rattle.reel.specs.Causes.{within, neither, limitCauses, sizeCauses, scalarCause, wordCause, traceCauses, behindCauses, causesOf, reelJudged};
+ghost use Rattle.reel.specs.Layout.{traceHeader, number16, trailerBytes, strideIn};
+ghost use Rattle.reel.specs.Causes.{mostSamples, within, neither, allows, limitCausesBy, sizeCauses, scalarCause, wordCause, traceCauses, trailerCause, traceCausesBy, behindCausesBy, causesBy, judgedBy, reelJudged};
+ghost use Rattle.reel.specs.declared.Kind.the-variants.{Eagle};
 ghost use Rattle.reel.specs.Parts.{wordRefused, traceHeaderCauses};
 use numbers::ByteNo;
 use numbers::Check;
 use numbers::Place;
 use sample::Sample;
+
+// The kinds of reels: plain, in the 1975 layout; and Eagle, in the layout of source document 004 (document 02, CR 7), where a trailer of 960
+// bytes stands behind the samples of each trace.
+pub enum Kind {
+    Plain,
+    Eagle,
+}
 
 // What checking a reel finds: its own numbers, where no cause applies, or the first cause. The numbers are the format code, N, the
 // interval, the bytes of a sample, the bytes from trace to trace, and T.
@@ -93,11 +101,22 @@ pub fn check_code(code: usize, number: u8, place: Place) -> Check
     Check::Refused { number, place }
 }
 
-// 2, 3 and 4: the format code, N and the interval.
-fn check_header(code: usize, n: usize, i: usize) -> Check
-    ensures { λ r. ⌜ r ≡ limitCauses code n i ⌝ }
+// 2: the format code isn't one of the kind's.
+fn check_allowed(kind: Kind, code: usize) -> Check
+    ensures { λ r. ⌜ r ≡ refuseIf (not (allows kind code)) 2 (bytePlace 0 3225) ⌝ }
 {
-    let a = check_code(code, 2, places::field_at(Place(0), ByteNo(3225)));
+    let place = places::field_at(Place(0), ByteNo(3225));
+    match kind {
+        Kind::Plain => check_code(code, 2, place),
+        Kind::Eagle => check_limits(code, 1, 1, 2, place),
+    }
+}
+
+// 2, 3 and 4: the format code, N and the interval.
+fn check_header(kind: Kind, code: usize, n: usize, i: usize) -> Check
+    ensures { λ r. ⌜ r ≡ limitCausesBy kind code n i ⌝ }
+{
+    let a = check_allowed(kind, code);
     let Check::Fine = a else {
         return a;
     };
@@ -197,15 +216,59 @@ fn check_trace(reel: &[u8], code: usize, n: usize, i: usize, v: usize, at: usize
     Check::Fine
 }
 
-// 7, 8, 18, and 9 or 19, trace by trace.
-fn check_traces(reel: &[u8], code: usize, n: usize, i: usize, v: usize, w: usize, t: usize) -> Check
-    requires { ⌜ (v ≡ sampleBytes code) × (w ≡ stride n v) × (3600 + t * w ≤ length (now reel)) ⌝ }
-    ensures { λ r. ⌜ r ≡ firstOf (walk (traceCauses (now (reel .entry)) code n i) w t 3600) ⌝ }
+// 20: the last two bytes of the trailer at a place differ from FFFF.
+fn check_trailer(reel: &[u8], at: usize) -> Check
+    requires { ⌜ at + trailerBytes ≤ length (now reel) ⌝ }
+    ensures { λ r. ⌜ r ≡ trailerCause (now (reel .entry)) at ⌝ }
+{
+    let place = Place(at + 958);
+    if slices::number16_at(reel, place) == 0xFFFF {
+        return Check::Fine;
+    }
+    Check::Refused { number: 20, place }
+}
+
+// The causes of the trace at a place, and on an Eagle reel that of its trailer behind them.
+fn check_whole(
+    kind: Kind,
+    reel: &[u8],
+    code: usize,
+    n: usize,
+    i: usize,
+    v: usize,
+    at: usize,
+) -> Check
+    requires { ⌜ (v ≡ sampleBytes code) × (at + strideIn kind n v ≤ length (now reel)) ⌝ }
+    ensures { λ r. ⌜ r ≡ traceCausesBy kind (now (reel .entry)) code n i at ⌝ }
+{
+    let a = check_trace(reel, code, n, i, v, at);
+    let Check::Fine = a else {
+        return a;
+    };
+    match kind {
+        Kind::Plain => Check::Fine,
+        Kind::Eagle => check_trailer(reel, at + (240 + n * v)),
+    }
+}
+
+// 7, 8, 18, then 9 or 19, then 20, trace by trace.
+fn check_traces(
+    kind: Kind,
+    reel: &[u8],
+    code: usize,
+    n: usize,
+    i: usize,
+    v: usize,
+    w: usize,
+    t: usize,
+) -> Check
+    requires { ⌜ (v ≡ sampleBytes code) × (w ≡ strideIn kind n v) × (3600 + t * w ≤ length (now reel)) ⌝ }
+    ensures { λ r. ⌜ r ≡ firstOf (walk (traceCausesBy kind (now (reel .entry)) code n i) w t 3600) ⌝ }
 {
     let mut at = 3600;
     let mut left = t;
     while 0 < left {
-        let c = check_trace(reel, code, n, i, v, at);
+        let c = check_whole(kind, reel, code, n, i, v, at);
         let Check::Fine = c else {
             return c;
         };
@@ -215,10 +278,18 @@ fn check_traces(reel: &[u8], code: usize, n: usize, i: usize, v: usize, w: usize
     Check::Fine
 }
 
-// 5 to 9, 18 and 19.
-fn check_behind(reel: &[u8], code: usize, n: usize, i: usize, v: usize, w: usize) -> Check
-    requires { ⌜ (v ≡ sampleBytes code) × (w ≡ stride n v) × (w ≤ 40000) × (3600 ≤ length (now reel)) ⌝ }
-    ensures { λ r. ⌜ r ≡ behindCauses (now (reel .entry)) code n i w ⌝ }
+// 5 to 9, 18, 19 and 20.
+fn check_behind(
+    kind: Kind,
+    reel: &[u8],
+    code: usize,
+    n: usize,
+    i: usize,
+    v: usize,
+    w: usize,
+) -> Check
+    requires { ⌜ (v ≡ sampleBytes code) × (w ≡ strideIn kind n v) × (w ≤ 40000) × (3600 ≤ length (now reel)) ⌝ }
+    ensures { λ r. ⌜ r ≡ behindCausesBy kind (now (reel .entry)) code n i w ⌝ }
 {
     let size = reel.len();
     let t = (size - 3600) / w;
@@ -226,25 +297,36 @@ fn check_behind(reel: &[u8], code: usize, n: usize, i: usize, v: usize, w: usize
     let Check::Fine = a else {
         return a;
     };
-    check_traces(reel, code, n, i, v, w, t)
+    check_traces(kind, reel, code, n, i, v, w, t)
 }
 
-// 2 to 9, 18 and 19.
-fn check_numbers(reel: &[u8], code: usize, n: usize, i: usize) -> Check
-    requires { ⌜ 3600 ≤ length (now reel) ⌝ }
-    ensures { λ r. ⌜ r ≡ then (limitCauses code n i) (behindCauses (now (reel .entry)) code n i (stride n (sampleBytes code))) ⌝ }
+// The bytes from one trace to the next, of n samples of v bytes.
+fn stride_in(kind: Kind, n: usize, v: usize) -> usize
+    requires { ⌜ n * v ≤ 4 * 65536 ⌝ }
+    ensures { λ r. ⌜ r ≡ strideIn kind n v ⌝ }
 {
-    let a = check_header(code, n, i);
+    match kind {
+        Kind::Plain => 240 + n * v,
+        Kind::Eagle => 240 + n * v + 960,
+    }
+}
+
+// 2 to 9, 18, 19 and 20.
+fn check_numbers(kind: Kind, reel: &[u8], code: usize, n: usize, i: usize) -> Check
+    requires { ⌜ 3600 ≤ length (now reel) ⌝ }
+    ensures { λ r. ⌜ r ≡ then (limitCausesBy kind code n i) (behindCausesBy kind (now (reel .entry)) code n i (strideIn kind n (sampleBytes code))) ⌝ }
+{
+    let a = check_header(kind, code, n, i);
     let Check::Fine = a else {
         return a;
     };
     let v = formats::width_of(code);
-    check_behind(reel, code, n, i, v, 240 + n * v)
+    check_behind(kind, reel, code, n, i, v, stride_in(kind, n, v))
 }
 
-// The causes 1 to 9, 18 and 19.
-fn check_causes(reel: &[u8]) -> Check
-    ensures { λ r. ⌜ r ≡ causesOf (now (reel .entry)) ⌝ }
+// The causes 1 to 9, 18, 19 and 20.
+fn check_causes(kind: Kind, reel: &[u8]) -> Check
+    ensures { λ r. ⌜ r ≡ causesBy kind (now (reel .entry)) ⌝ }
 {
     let size = reel.len();
     if size < 3600 {
@@ -254,6 +336,7 @@ fn check_causes(reel: &[u8]) -> Check
         };
     }
     check_numbers(
+        kind,
         reel,
         binary_number(reel, ByteNo(3225)),
         binary_number(reel, ByteNo(3221)),
@@ -262,15 +345,15 @@ fn check_causes(reel: &[u8]) -> Check
 }
 
 // The reel's own numbers.
-fn own_numbers(reel: &[u8]) -> Judged
-    requires { ⌜ causesOf (now reel) ≡ Fine ⌝ }
-    ensures { λ r. ⌜ r ≡ reelJudged (now (reel .entry)) ⌝ }
+fn own_numbers(kind: Kind, reel: &[u8]) -> Judged
+    requires { ⌜ causesBy kind (now reel) ≡ Fine ⌝ }
+    ensures { λ r. ⌜ r ≡ judgedBy kind (now (reel .entry)) ⌝ }
 {
     let code = binary_number(reel, ByteNo(3225));
     let samples = binary_number(reel, ByteNo(3221));
     let interval = binary_number(reel, ByteNo(3217));
     let width = formats::width_of(code);
-    let stride = 240 + samples * width;
+    let stride = stride_in(kind, samples, width);
     Judged::Fine {
         code,
         samples,
@@ -281,13 +364,27 @@ fn own_numbers(reel: &[u8]) -> Judged
     }
 }
 
-// Whether a cause of 1 to 9, 18 and 19 applies to a reel, and its own numbers where none does.
+// Whether a cause applies to a reel of a kind, and its own numbers where none does.
+fn judge(kind: Kind, reel: &[u8]) -> Judged
+    ensures { λ r. ⌜ r ≡ judgedBy kind (now (reel .entry)) ⌝ }
+{
+    let c = check_causes(kind, reel);
+    match c {
+        Check::Refused { number, place } => Judged::Refused { number, place },
+        Check::Fine => own_numbers(kind, reel),
+    }
+}
+
+// Whether a cause of 1 to 9, 18 and 19 applies to a plain reel, and its own numbers where none does.
 pub fn judge_reel(reel: &[u8]) -> Judged
     ensures { λ r. ⌜ r ≡ reelJudged (now (reel .entry)) ⌝ }
 {
-    let c = check_causes(reel);
-    match c {
-        Check::Refused { number, place } => Judged::Refused { number, place },
-        Check::Fine => own_numbers(reel),
-    }
+    judge(Kind::Plain, reel)
+}
+
+// Whether a cause of 1 to 8, 18 and 20 applies to an Eagle reel, and its own numbers where none does.
+pub fn judge_eagle(reel: &[u8]) -> Judged
+    ensures { λ r. ⌜ r ≡ judgedBy Eagle (now (reel .entry)) ⌝ }
+{
+    judge(Kind::Eagle, reel)
 }

@@ -49,7 +49,7 @@ put-trace-requires c κs =
     )
 
 -- a trace's words that are not normal, with those of the traces before it, are no more than the reel has bytes
-more-room : (reel : List ℕ) (code n w t left at count k : ℕ) → w ≡ stride n (sampleBytes code) → firstTrace + t * w ≤ length reel → 0 < left
+more-room : (reel : List ℕ) (code n w t left at count k : ℕ) → stride n (sampleBytes code) ≤ w → firstTrace + t * w ≤ length reel → 0 < left
     → count + notNormalAmong reel code n w left at ≡ notNormalAmong reel code n w t firstTrace → k ≡ notNormalIn reel code n (at + traceHeader)
     → (count + k ≤ length reel) × (count + k + notNormalAmong reel code n w (left - 1) (at + w) ≡ notNormalAmong reel code n w t firstTrace)
 more-room reel code n w t left at count k e room some i is =

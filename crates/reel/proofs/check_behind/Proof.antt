@@ -1,6 +1,7 @@
 -- `reel::check_behind` meets its contract. Assumes nothing.
-use Prim.Native.Nat.{_-_}
-use Rattle.reel.specs.Causes.{behindCauses}
+use Prim.Native.Nat.{_-_, _<_}
+use Rattle.reel.proofs.CheckLaws.{stride-holds}
+use Rattle.reel.specs.Causes.{behindCausesBy}
 use Rattle.reel.specs.Layout.{firstTrace}
 use Rattle.numbers.proofs.CauseLaws.{then-stop, then-next}
 use lib.ListN.{length}
@@ -11,6 +12,10 @@ use borrow.Author.Needs.{needs}
 use Rattle.reel.proofs.check_behind.Statement.{statement}
 use Rattle.reel.proofs.check_behind.Tie as tie
 
+-- a trace has a header, so that there is something to divide by
+some : (c : tie.Start) → 0 < c .args .w
+some c = let a = c .args in omega (arith, c .pre .1, stride-holds (a .kind) (a .n) (a .v))
+
 check-size-requires : tie.Need-check-size-requires
 check-size-requires c κs =
     let s = c .before in
@@ -18,7 +23,7 @@ check-size-requires c κs =
     (omega (arith, mod-le (size - firstTrace) (s .args .w)), s .pre .2)
 
 returns : tie.Need-returns
-unfolding behindCauses
+unfolding behindCausesBy
 returns c = let e = c .before .before .check-size .ensures in e ∙ then-stop _ _ (sym e ∙ c .enum-told2 .given .1)
 
 check-traces-requires : tie.Need-check-traces-requires
@@ -28,7 +33,7 @@ check-traces-requires c κs =
     (s .pre .0, s .pre .1, omega (arith, div-mul-le-self (size - firstTrace) (s .args .w), s .pre .3))
 
 returns-2 : tie.Need-returns-2
-unfolding behindCauses
+unfolding behindCausesBy
 returns-2 c = c .check-traces .ensures ∙ then-next _ _ (sym (c .before .before .before .check-size .ensures) ∙ c .before .enum-told .given .1)
 
 pub check-behind-spec : {M : Type 1} → statement M
@@ -36,9 +41,9 @@ check-behind-spec =
     tie.close
     (tie.spec
     (λ c. search needs)
+    (λ c. omega (arith, some (c .before)))
     (λ c. search needs)
-    (λ c. search needs)
-    (λ c. search needs)
+    (λ c. omega (arith, some (c .before)))
     check-size-requires
     (λ c. search needs)
     (λ c. search needs)

@@ -1,6 +1,6 @@
 -- `reel::check_causes` meets its contract. Assumes nothing.
-use Rattle.reel.specs.Causes.{limitCauses, behindCauses, causesOf}
-use Rattle.reel.specs.Layout.{firstTrace, codeOf, samplesOf, stride}
+use Rattle.reel.specs.Causes.{limitCausesBy, behindCausesBy, causesBy}
+use Rattle.reel.specs.Layout.{firstTrace, codeOf, samplesOf, strideIn}
 use Rattle.formats.specs.Codes.{sampleBytes}
 use Rattle.numbers.specs.declared.Check.{Check}
 use Rattle.numbers.proofs.CauseLaws.{then-next}
@@ -15,14 +15,16 @@ use Rattle.reel.proofs.check_causes.Statement.{statement}
 use Rattle.reel.proofs.check_causes.Tie as tie
 
 returns : tie.Need-returns
-unfolding causesOf
+unfolding causesBy
 returns c = rw (lt-ltb (length (c .before .before .args .reel .now)) firstTrace (c .if1 .taken))
 
 returns-2 : tie.Need-returns-2
-unfolding causesOf
+unfolding causesBy
 returns-2 c =
-    let s = c .before .before .before .before .before .before .args .reel .now in
-    let f : ℕ → ℕ → ℕ → Check = λ x y z. then (limitCauses x y z) (behindCauses s x y z (stride y (sampleBytes x))) in
+    let a = c .before .before .before .before .before .before .args in
+    let s = a .reel .now in
+    let k = a .kind in
+    let f : ℕ → ℕ → ℕ → Check = λ x y z. then (limitCausesBy k x y z) (behindCausesBy k s x y z (strideIn k y (sampleBytes x))) in
     let e₁ = ap (λ (x : ℕ). f x (c .before .before .binary-number2 .result) (c .before .binary-number3 .result)) (c .before .before .before .binary-number .ensures .0) in
     let e₂ = ap (λ (x : ℕ). f (codeOf s) x (c .before .binary-number3 .result)) (c .before .before .binary-number2 .ensures .0) in
     let e₃ = ap (λ (x : ℕ). f (codeOf s) (samplesOf s) x) (c .before .binary-number3 .ensures .0) in

@@ -1,7 +1,7 @@
 -- `reel::check_numbers` meets its contract. Assumes nothing.
-use Rattle.reel.proofs.CheckLaws.{header-fine}
-use Rattle.reel.specs.Causes.{behindCauses}
-use Rattle.reel.specs.Layout.{stride}
+use Rattle.reel.proofs.CheckLaws.{header-fine, stride-most}
+use Rattle.reel.specs.Causes.{behindCausesBy}
+use Rattle.reel.specs.Layout.{strideIn}
 use Rattle.numbers.proofs.CauseLaws.{then-stop, then-next}
 use native.Mathlib.Nat.{mul-le-mul}
 use Prim.Native.Nat.{ℕ, _*_, _≤_}
@@ -15,26 +15,26 @@ use Rattle.reel.proofs.check_numbers.Tie as tie
 small : (c : tie.After-width-of) → c .before .before .before .before .before .args .n * c .width-of .result ≤ 32000
 small c =
     let a = c .before .before .before .before .before .args in
-    let f = header-fine (a .code) (a .n) (a .i) (sym (c .before .before .before .check-header .ensures) ∙ c .before .enum-told .given .1) in
+    let f = header-fine (a .kind) (a .code) (a .n) (a .i) (sym (c .before .before .before .check-header .ensures) ∙ c .before .enum-told .given .1) in
     mul-le-mul (f .n-high) (c .width-of .ensures .2)
 
 returns : tie.Need-returns
 returns c = let e = c .before .before .check-header .ensures in e ∙ then-stop _ _ (sym e ∙ c .enum-told2 .given .1)
 
-mul-check-behind : tie.Need-mul-check-behind
-mul-check-behind c = omega (arith, small c)
-
-add-check-behind : tie.Need-add-check-behind
-add-check-behind c = omega (arith, small c)
+stride-in-requires : tie.Need-stride-in-requires
+stride-in-requires c κs = omega (arith, small c)
 
 check-behind-requires : tie.Need-check-behind-requires
-check-behind-requires c κs = (c .width-of .ensures .0, refl, omega (arith, small c), c .before .before .before .before .before .pre)
+check-behind-requires c κs =
+    let s = c .before .before .before .before .before .before in
+    let a = s .args in
+    (c .before .width-of .ensures .0, c .stride-in .ensures, omega (arith, c .stride-in .ensures, small (c .before), stride-most (a .kind) (a .n) (c .before .width-of .result)), s .pre)
 
 returns-2 : tie.Need-returns-2
 returns-2 c =
-    let a = c .before .before .before .before .before .before .args in
-    let h = c .before .before in
-    c .check-behind .ensures ∙ ap (λ (x : ℕ). behindCauses (a .reel .now) (a .code) (a .n) (a .i) (stride (a .n) x)) (c .before .width-of .ensures .0)
+    let a = c .before .before .before .before .before .before .before .args in
+    let h = c .before .before .before in
+    c .check-behind .ensures ∙ ap (behindCausesBy (a .kind) (a .reel .now) (a .code) (a .n) (a .i)) (c .before .stride-in .ensures ∙ ap (strideIn (a .kind) (a .n)) (c .before .before .width-of .ensures .0))
     ∙ then-next _ _ (sym (h .before .before .check-header .ensures) ∙ h .enum-told .given .1)
 
 pub check-numbers-spec : {M : Type 1} → statement M
@@ -46,7 +46,6 @@ check-numbers-spec =
     (λ c. search needs)
     returns
     (λ c κs. search needs)
-    mul-check-behind
-    add-check-behind
+    stride-in-requires
     check-behind-requires
     returns-2)

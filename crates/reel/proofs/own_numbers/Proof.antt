@@ -1,5 +1,5 @@
 -- `reel::own_numbers` meets its contract. Assumes nothing.
-use Rattle.reel.proofs.CheckLaws.{Sound, reel-fine}
+use Rattle.reel.proofs.CheckLaws.{SoundBy, fine-by, stride-holds}
 use native.Mathlib.Nat.{mul-le-mul, le-of-lt}
 use Prim.Native.Nat.{_*_, _≤_}
 use native.Mathlib.Omega.{arith}
@@ -7,25 +7,27 @@ use borrow.Author.Needs.{needs}
 use Rattle.reel.proofs.own_numbers.Statement.{statement}
 use Rattle.reel.proofs.own_numbers.Tie as tie
 
-fine : (c : tie.Start) → Sound (c .args .reel .now)
-fine c = reel-fine (c .args .reel .now) (c .pre)
+fine : (c : tie.Start) → SoundBy (c .args .kind) (c .args .reel .now)
+fine c = fine-by (c .args .kind) (c .args .reel .now) (c .pre)
 
 small : (c : tie.After-width-of) → c .before .before .binary-number2 .result * c .width-of .result ≤ 65536 * 4
 small c = mul-le-mul (le-of-lt (c .before .before .binary-number2 .ensures .1)) (c .width-of .ensures .2)
 
-mul-stride : tie.Need-mul-stride
-mul-stride c = omega (arith, small c)
+stride-in-requires : tie.Need-stride-in-requires
+stride-in-requires c κs = omega (arith, small c)
 
-add-stride : tie.Need-add-stride
-add-stride c = omega (arith, small c)
+sub-t10 : tie.Need-sub-t10
+sub-t10 c = fine (c .before .before .before .before .before .before) .long
 
-sub-t9 : tie.Need-sub-t9
-sub-t9 c = fine (c .before .before .before .before .before) .long
+-- a trace has a header, so that there is something to divide by
+some : tie.Need-div-t11
+some c = let a = c .before .before .before .before .before .before .args in omega (arith, c .stride-in .ensures, stride-holds (a .kind) (c .before .before .before .binary-number2 .result) (c .before .width-of .result))
 
 returns : tie.Need-returns
 returns c =
-    let s = c .before .before .before .before .before in
-    rw (s .pre, c .before .before .before .binary-number .ensures .0, c .before .before .binary-number2 .ensures .0, c .before .binary-number3 .ensures .0, c .width-of .ensures .0, c .before .before .before .binary-number .ensures .0)
+    let w = c .before in
+    let s = w .before .before .before .before .before in
+    rw (s .pre, c .stride-in .ensures, w .before .before .before .binary-number .ensures .0, w .before .before .binary-number2 .ensures .0, w .before .binary-number3 .ensures .0, w .width-of .ensures .0, w .before .before .before .binary-number .ensures .0)
 
 pub own-numbers-spec : {M : Type 1} → statement M
 own-numbers-spec =
@@ -35,8 +37,7 @@ own-numbers-spec =
     (λ c κs. omega arith)
     (λ c κs. omega arith)
     (λ c κs. search needs)
-    mul-stride
-    add-stride
-    sub-t9
-    (λ c. search needs)
+    stride-in-requires
+    sub-t10
+    some
     returns)
