@@ -17,7 +17,7 @@ use Rattle.formats.specs.Value.{exactValue}
 use Rattle.scalars.specs.Scalar.{powerOf, scaledValues}
 use Rattle.reel.specs.Layout.{Field, cardBytes, firstTrace, traceHeader, binaryFields, elevationScalar, coordinateScalar, fieldNumber, intervalOf, samplesOf, codeOf, strideOf, tracesOf}
 use Rattle.formats.specs.Codes.{sampleBytes}
-use Rattle.reel.specs.Meaning.{blank, cardText, otherThan, binaryNumbers, traceNumber, elevationFields, coordinateFields, unscaledFields, headerOf, Trace, traceMeaning, meaningOf, MeanTheSame}
+use Rattle.reel.specs.Meaning.{blank, cardTextBy, otherThan, binaryNumbers, traceNumber, elevationFields, coordinateFields, unscaledFields, headerOf, Trace, traceMeaning, meaningBy, meaningOf, MeanTheSame}
 use Rattle.look_up.specs.LookUp.{headerNumber}
 use Rattle.reel_theorems.proofs.Same.{samples-same}
 use Rattle.demands.specs.Results.{sampleValue, scaledValue, Agree}
@@ -78,24 +78,24 @@ traceValues s at = walk (λ p. exactValue (codeOf s) (bytesAt s p 4)) (sampleByt
 
 -- They are those that the reel means, trace by trace.
 all-numbers : (s : List ℕ) → map (λ (t : Trace). t .header .numbers) (meaningOf s .traces) ≡ walk (traceNumbers s) (strideOf s) (tracesOf s) firstTrace
-unfolding meaningOf traceMeaning headerOf traceNumbers
+unfolding meaningBy traceMeaning headerOf traceNumbers
 all-numbers s = map-walk (λ (t : Trace). t .header .numbers) (traceMeaning s (codeOf s) (samplesOf s) (intervalOf s)) (strideOf s) (tracesOf s) firstTrace
 
 all-elevations : (s : List ℕ) → map (λ (t : Trace). t .header .elevations) (meaningOf s .traces) ≡ walk (traceElevations s) (strideOf s) (tracesOf s) firstTrace
-unfolding meaningOf traceMeaning headerOf traceElevations
+unfolding meaningBy traceMeaning headerOf traceElevations
 all-elevations s = map-walk (λ (t : Trace). t .header .elevations) (traceMeaning s (codeOf s) (samplesOf s) (intervalOf s)) (strideOf s) (tracesOf s) firstTrace
 
 all-coordinates : (s : List ℕ) → map (λ (t : Trace). t .header .coordinates) (meaningOf s .traces) ≡ walk (traceCoordinates s) (strideOf s) (tracesOf s) firstTrace
-unfolding meaningOf traceMeaning headerOf traceCoordinates
+unfolding meaningBy traceMeaning headerOf traceCoordinates
 all-coordinates s = map-walk (λ (t : Trace). t .header .coordinates) (traceMeaning s (codeOf s) (samplesOf s) (intervalOf s)) (strideOf s) (tracesOf s) firstTrace
 
 all-values : (s : List ℕ) → map (λ (t : Trace). t .values) (meaningOf s .traces) ≡ walk (traceValues s) (strideOf s) (tracesOf s) firstTrace
-unfolding meaningOf traceMeaning traceValues
+unfolding meaningBy traceMeaning traceValues
 all-values s = map-walk (λ (t : Trace). t .values) (traceMeaning s (codeOf s) (samplesOf s) (intervalOf s)) (strideOf s) (tracesOf s) firstTrace
 
 -- The traces are T.
 all-count : (s : List ℕ) → length (meaningOf s .traces) ≡ tracesOf s
-unfolding meaningOf
+unfolding meaningBy
 all-count s = size-walk (traceMeaning s (codeOf s) (samplesOf s) (intervalOf s)) (strideOf s) (tracesOf s) firstTrace
 
 -- Header k + 1 is that of a trace, and k traces stand before it.
@@ -162,7 +162,7 @@ module _ (s₁ s₂ : List ℕ) where
 
   -- LAW. Two reels that mean the same agree number by number.
   pub means-agree : MeanTheSame s₁ s₂ → Agree s₁ s₂
-  unfolding meaningOf cardText binaryNumbers
+  unfolding meaningBy cardTextBy binaryNumbers
   means-agree m =
       record {
         cards = byte-each s₁ s₂ cardBytes (m .cards);
@@ -191,7 +191,7 @@ module _ (s₁ s₂ : List ℕ) where
 
   -- LAW. Two reels of bytes that agree number by number mean the same.
   pub agree-means : Bytes s₁ → Bytes s₂ → Agree s₁ s₂ → MeanTheSame s₁ s₂
-  unfolding meaningOf cardText binaryNumbers
+  unfolding meaningBy cardTextBy binaryNumbers
   agree-means h₁ h₂ a =
       let b = map-same (fieldNumber s₁ 0) (fieldNumber s₂ 0) (otherThan 3225 binaryFields) (a .binary) in
       record {

@@ -63,7 +63,7 @@ use Rattle.sample.specs.declared.Sample.{Sample}
 use Rattle.sample.specs.declared.Sample.the-variants as sample
 use Rattle.sample_theorems.proofs.Pairs.{value-pair-back}
 use Rattle.reel.specs.Layout.{Field, tracesOf}
-use Rattle.reel.specs.Causes.{traceCauses, behindCauses, causesOf}
+use Rattle.reel.specs.Causes.{traceCauses, behindCausesBy, causesBy, causesOf}
 use Rattle.record.specs.Record.{reelRecord}
 use Rattle.record.specs.Held.{heldBy}
 use Rattle.fit.specs.Target.{isUnfit, targetCauses}
@@ -149,13 +149,13 @@ module _ (s out : List ℕ) where
 -- with T 1, N 2, a record of 3,471 bytes, for which an output of that length is long enough, and no word that isn't normal.
 -- Rules out a reader that declines every reel.
 pub example-taken : readOutcome example (replicate 3471 0) .said ≡ taken (1 ∷ 2 ∷ 3471 ∷ 0 ∷ [])
-unfolding causesOf behindCauses traceCauses bytesAt notNormalAmong notNormalIn isNormal
+unfolding causesBy behindCausesBy traceCauses bytesAt notNormalAmong notNormalIn isNormal
 example-taken = refl
 
 -- THEOREM. The same reel with the words 42010000 and 80000000, neither of which is normal, is taken with the count 2.
 -- Rules out a count of 0 for every reel.
 pub example-counted : readOutcome (exampleWith (0x42 ∷ 0x01 ∷ 0 ∷ 0 ∷ 0x80 ∷ 0 ∷ 0 ∷ 0 ∷ [])) (replicate 3471 0) .said ≡ taken (1 ∷ 2 ∷ 3471 ∷ 2 ∷ [])
-unfolding causesOf behindCauses traceCauses bytesAt notNormalAmong notNormalIn isNormal
+unfolding causesBy behindCausesBy traceCauses bytesAt notNormalAmong notNormalIn isNormal
 example-counted = refl
 
 -- ## Writing a reel

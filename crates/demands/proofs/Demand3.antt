@@ -52,7 +52,7 @@ use Rattle.formats.specs.Codes.{denominatorPower, isCode, sampleBytes}
 use Rattle.formats.specs.Value.{exactValue}
 use Rattle.reel.specs.Layout.{firstTrace, traceHeader, intervalOf, samplesOf, codeOf, strideOf, tracesOf}
 use Rattle.reel.specs.Causes.{wordCause, traceCauses, causesOf}
-use Rattle.reel.specs.Meaning.{Trace, traceMeaning, Meaning, meaningOf, MeanTheSame, blank, filled}
+use Rattle.reel.specs.Meaning.{Trace, traceMeaning, Meaning, meaningBy, meaningOf, MeanTheSame, blank, filled}
 use Rattle.reel.proofs.CheckLaws.{words-fine, reel-fine}
 use Rattle.record.specs.Record.{reelRecord}
 use Rattle.read_reel.specs.Reading.{readOutcome}
@@ -207,7 +207,7 @@ trace-words s h code n i at e =
 
 -- Each sample value of a reel to which no cause of 1 to 9, 18 and 19 applies has a word under the reel's own code.
 reel-words : (s : List ℕ) → Bytes s → causesOf s ≡ Fine → Worded (codeOf s) (meaningOf s .traces)
-unfolding meaningOf
+unfolding meaningBy
 reel-words s h f =
     let code = codeOf s in
     let n = samplesOf s in

@@ -27,7 +27,7 @@ use Rattle.sample_theorems.proofs.Pairs.{value-pair-back}
 use Rattle.cards.proofs.EightLaws.{blank-some}
 use Rattle.reel.specs.Layout.{Field, cardBytes, binaryWidths, binaryFields, traceWidths, traceFields, fieldNumber, firstTrace, number16, samplesOf, intervalOf, codeOf, strideOf, tracesOf}
 use Rattle.reel.specs.Causes.{mostTraces, neither, traceCauses, causesOf}
-use Rattle.reel.specs.Meaning.{blank, cardText, binaryNumbers, filled, traceNumber, unscaledFields, headerOf, traceMeaning, meaningOf}
+use Rattle.reel.specs.Meaning.{blank, cardTextBy, cardText, binaryNumbers, filled, traceNumber, unscaledFields, headerOf, traceMeaning, meaningBy, meaningOf}
 use Rattle.reel.proofs.CheckLaws.{reel-fine}
 use Rattle.record.specs.Form.{heldInterval, heldSamples, tracesPlace, heldStride, heldCount, formCauses}
 use Rattle.record.specs.Held.{heldValue, heldTrace, heldBy}
@@ -127,7 +127,7 @@ held-proper r h e =
 
 -- The card text is 3,200 bytes other than 00.
 card-text : (s : List ℕ) → Bytes s → All (λ b. (0 < b) × (b < 256)) (cardText s)
-unfolding cardText
+unfolding cardTextBy
 card-text s h = all-map (λ b. b < 256) (λ b. (0 < b) × (b < 256)) blank blank-some (bytesAt s 0 cardBytes) (bytes-at s h 0 cardBytes)
 
 -- The interval, by the binary numbers: field 3217 is the sixth.
@@ -181,7 +181,7 @@ trace-meant s h code n i at c p q e =
 
 -- LAW. What a reel means to which no cause of 1 to 9, 18 and 19 applies is proper, with the reel's N and interval.
 pub reel-proper : (s : List ℕ) → Bytes s → causesOf s ≡ Fine → Proper (samplesOf s) (intervalOf s) (meaningOf s)
-unfolding meaningOf
+unfolding meaningBy
 reel-proper s h e =
     let v = reel-fine s e in
     let code = codeOf s in

@@ -36,8 +36,8 @@ use Rattle.sample_theorems.proofs.Pairs.{pair-value}
 use Rattle.sample_theorems.specs.Statements.{Says}
 use Rattle.sample_theorems.proofs.Words.{single-number, count-by, writing-sound, writing-0}
 use Rattle.reel.specs.Layout.{cardBytes, firstTrace, traceHeader, binaryFields, traceFields, fieldNumber, intervalOf, samplesOf, codeOf, stride, strideOf, wholeIn, overIn, tracesOf}
-use Rattle.reel.specs.Causes.{mostSamples, mostTraces, mostInterval, neither, limitCauses, wordCause, traceCauses, behindCauses, causesOf}
-use Rattle.reel.specs.Meaning.{blank, cardText, otherThan, binaryNumbers, filled, traceNumber, Trace, traceMeaning, Meaning, meaningOf}
+use Rattle.reel.specs.Causes.{mostSamples, mostTraces, mostInterval, neither, limitCauses, wordCause, traceCauses, behindCausesBy, behindCauses, causesBy, causesOf}
+use Rattle.reel.specs.Meaning.{blank, cardTextBy, otherThan, binaryNumbers, filled, traceNumber, Trace, traceMeaning, Meaning, meaningBy, meaningOf}
 use Rattle.reel.specs.NotNormal.{notNormalIn, notNormalAmong, notNormalOf}
 use Rattle.headers.specs.Header.{recordNumbers, headerBytes, headerSize}
 use Rattle.headers.proofs.TraceLaws.{trace-numbers, countField, intervalField}
@@ -312,19 +312,19 @@ module _ (code n i : ℕ) (m : Meaning) (p : Proper n i m) (c : isCode code ≡ 
 
   -- and none of 5 and 6.
   behind-fine : behindCauses (reelOf code m) code n i (stride n (sampleBytes code)) ≡ Fine
-  unfolding behindCauses
+  unfolding behindCausesBy
   behind-fine = rw (whole, over, le-ltb mostTraces (length (m .traces)) (p .few)) traces-fine
 
   -- LAW. No cause of 1 to 9, 18 and 19 applies to the reel.
   pub reel-no-cause : causesOf (reelOf code m) ≡ Fine
-  unfolding causesOf
+  unfolding causesBy
   reel-no-cause =
       let long : ltb (length (reelOf code m)) firstTrace ≡ false = le-ltb (length (reelOf code m)) firstTrace (omega (arith, reel-length)) in
       rw (long, reel-code, reel-samples, reel-interval, headed) behind-fine
 
   -- LAW. The reel means the meaning.
   pub reel-again : meaningOf (reelOf code m) ≡ m
-  unfolding meaningOf cardText binaryNumbers
+  unfolding meaningBy cardTextBy binaryNumbers
   reel-again = meaning-eq cards binary traces
     where
       cards : map blank (bytesAt (reelOf code m) 0 cardBytes) ≡ m .cards

@@ -43,7 +43,7 @@ use Rattle.scalars.proofs.Meant as meant
 use Rattle.reel.specs.Layout.{Field, elevationScalar, coordinateScalar, fieldNumber, firstTrace, samplesOf, intervalOf, codeOf, stride, strideOf, tracesOf}
 use Rattle.formats.specs.Codes.{sampleBytes}
 use Rattle.reel.specs.NotNormal.{notNormalOf}
-use Rattle.reel.specs.Meaning.{elevationFields, coordinateFields, headerOf, Trace, traceMeaning, Meaning, meaningOf}
+use Rattle.reel.specs.Meaning.{elevationFields, coordinateFields, headerOf, Trace, traceMeaning, Meaning, meaningBy, meaningOf}
 use Rattle.headers.specs.Header.{headerSize, headerBytes}
 use Rattle.headers.proofs.HeaderBytes.{elevations-fit, coordinates-fit, bytes-again as header-bytes}
 use Rattle.headers.proofs.CopiedLaws.{elevations-bare, coordinates-bare}
@@ -161,7 +161,7 @@ all-bits (n ∷ ns) h = (mag-in 32 n (h .0), all-bits ns (h .1))
 -- Trace k of a record that holds what a reel means is trace k of the reel.
 same-trace : (s r : List ℕ) → heldBy r ≡ meaningOf s → (k : ℕ) → k < heldCount r (heldSamples r)
     → heldTrace r (heldSamples r) (tracePlace r k) ≡ traceMeaning s (codeOf s) (samplesOf s) (intervalOf s) (firstTrace + k * strideOf s)
-unfolding heldBy meaningOf
+unfolding heldBy meaningBy
 same-trace s r e k l =
     let n = heldSamples r in
     walk-each (heldTrace r n) (traceMeaning s (codeOf s) (samplesOf s) (intervalOf s)) (heldStride n) (strideOf s) (heldCount r n) (tracesOf s) tracesPlace firstTrace (ap (λ (m : Meaning). m .traces) e) k l

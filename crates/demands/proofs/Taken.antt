@@ -23,7 +23,7 @@ use Rattle.headers.specs.Header.{headerSize, headerBytes}
 use Rattle.reel.specs.Layout.{firstTrace, stride, intervalOf, samplesOf, codeOf, strideOf, tracesOf}
 use Rattle.reel.specs.Causes.{causesOf}
 use Rattle.reel.specs.NotNormal.{notNormalOf}
-use Rattle.reel.specs.Meaning.{Trace, traceMeaning, Meaning, meaningOf}
+use Rattle.reel.specs.Meaning.{Trace, traceMeaning, Meaning, meaningBy, meaningOf}
 use Rattle.record.specs.Record.{recordOf, reelRecord}
 use Rattle.record.specs.Form.{tracesPlace, heldInterval, heldSamples, heldStride, heldCount, formCauses}
 use Rattle.record.specs.Held.{heldTrace, heldBy}
@@ -64,7 +64,7 @@ read-taken s out f h =
 
 -- The traces of what a reel means are the whole traces of the reel.
 pub meant-count : (s : List ℕ) → length (meaningOf s .traces) ≡ tracesOf s
-unfolding meaningOf
+unfolding meaningBy
 meant-count s = size-walk (traceMeaning s (codeOf s) (samplesOf s) (intervalOf s)) (strideOf s) (tracesOf s) firstTrace
 
 -- ## Writings

@@ -26,7 +26,7 @@ use Rattle.formats.specs.declared.Written.{Written}
 use Rattle.format_theorems.proofs.NearestTheorems.{nearest-means}
 use Rattle.value.specs.Pair.{pairLength}
 use Rattle.reel.specs.Layout.{firstTrace, traceHeader, stride, intervalOf, samplesOf, codeOf, tracesOf}
-use Rattle.reel.specs.Meaning.{Trace, traceMeaning, Meaning, meaningOf}
+use Rattle.reel.specs.Meaning.{Trace, traceMeaning, Meaning, meaningBy, meaningOf}
 use Rattle.reel.specs.NotNormal.{notNormalOf}
 use Rattle.record.specs.Record.{recordOf, reelRecord, recordLength}
 use Rattle.record.specs.Form.{heldInterval, heldSamples, heldCount, heldStride, tracesPlace, formCauses}
@@ -197,7 +197,7 @@ module _ (s : List ℕ) (b : Bytes s) (code : ℕ) (c : isCode code ≡ true) (v
 
   -- Each trace of the reel is that of the record, its samples the nearest.
   each-trace : (k : ℕ) → k < t → traceMeaning reel code n i (firstTrace + k * stride n (sampleBytes code)) ≡ nearestTrace code (heldTrace s n (tracePlace s k))
-  unfolding meaningOf heldBy
+  unfolding meaningBy heldBy
   each-trace k l =
       let all : walk (traceMeaning reel code n i) (stride n (sampleBytes code)) t firstTrace ≡ walk (λ at. nearestTrace code (heldTrace s n at)) (heldStride n) t tracesPlace =
       ap (λ (m : Meaning). m .traces) (rw (traces, code-is, samples, interval) at means) ∙ map-walk (nearestTrace code) (heldTrace s n) (heldStride n) t tracesPlace in

@@ -31,7 +31,7 @@ use Rattle.numbers.proofs.ByteLaws.{byte-at}
 use Rattle.numbers.proofs.WalkLaws.{four-bytes}
 use Rattle.scalars.specs.Scalar.{isAllowed}
 use Rattle.reel.specs.Layout.{Field, elevationScalar, coordinateScalar, fieldNumber, firstTrace, traceHeader, number16, samplesOf, intervalOf, codeOf, strideOf, overIn, tracesOf}
-use Rattle.reel.specs.Causes.{mostSamples, mostTraces, mostInterval, within, neither, limitCauses, sizeCauses, scalarCause, wordCause, traceCauses, behindCauses, causesOf}
+use Rattle.reel.specs.Causes.{mostSamples, mostTraces, mostInterval, within, neither, limitCauses, sizeCauses, scalarCause, wordCause, traceCauses, behindCausesBy, behindCauses, causesBy, causesOf}
 use Rattle.reel_theorems.specs.ReelTable.{traceAt, sampleAt, wordAt, ZeroFirst, FiniteAt, HasValue, Headed, Whole, OwnNumbers, Allowed, Passed, Until, ReelRow, short-reel, bad-code, bad-samples, bad-interval, left-over, many, bad-115, bad-117, bad-69, bad-71, bad-gain, not-finite}
 
 -- ## Headers and size
@@ -79,7 +79,7 @@ module _ (s : List ℕ) where
 
   -- Where 1 to 4 don't apply, the answer is that of the rest.
   from-headed : Headed s → {x : Check} → behindCauses s (codeOf s) (samplesOf s) (intervalOf s) (strideOf s) ≡ x → causesOf s ≡ x
-  unfolding causesOf
+  unfolding causesBy
   from-headed h e =
       fine-then long-test (h .long)
       (then-second (limitCauses (codeOf s) (samplesOf s) (intervalOf s)) _
@@ -222,12 +222,12 @@ module _ (s : List ℕ) (k : ℕ) where
 module _ (s : List ℕ) where
   -- What 5 or 6 refuses is refused.
   from-size : Headed s → {n p : ℕ} → sizes s ≡ Refused n (atPlace p) → causesOf s ≡ Refused n (atPlace p)
-  unfolding behindCauses
+  unfolding behindCausesBy
   from-size h e = from-headed s h (then-first (sizes s) _ e)
 
   -- A trace's cause is that of the reel, where none applies before it.
   from-trace : (k : ℕ) → Until s k → {n p : ℕ} → causesAt s (traceAt s k) ≡ Refused n (atPlace p) → causesOf s ≡ Refused n (atPlace p)
-  unfolding behindCauses
+  unfolding behindCausesBy
   from-trace k h {n} {p} e =
       let w = h .reel in
       from-headed s (w .headed)
@@ -245,7 +245,7 @@ module _ (s : List ℕ) where
 
   -- Each row is the answer where it applies: all that comes before it finds nothing, and its own test refuses.
   from-row : {n p : ℕ} → ReelRow s n p → causesOf s ≡ Refused n (atPlace p)
-  unfolding causesOf traceCauses
+  unfolding causesBy traceCauses
   from-row (short-reel h) = refused-then (long-test s) _ (too-short (length s) 3600 h)
   from-row (bad-code l h) = fine-then (long-test s) l (then-first _ _ (refused-then (code-test s) _ h))
   from-row (bad-samples l c h) = fine-then (long-test s) l (then-first _ _ (fine-then (code-test s) c (refused-then (samples-test s) _ h)))
@@ -307,7 +307,7 @@ module _ (s : List ℕ) {n p : ℕ} where
 
   -- What is refused has its row: the first that applies.
   to-row : causesOf s ≡ Refused n (atPlace p) → ReelRow s n p
-  unfolding causesOf behindCauses
+  unfolding causesBy behindCausesBy
   to-row =
       row-then (long-test s) (ReelRow s) (λ m. short-reel (not-enough (length s) 3600 m))
       (λ l. then-row (ReelRow s) (limitCauses (codeOf s) (samplesOf s) (intervalOf s)) _ (to-header l)

@@ -27,7 +27,7 @@ use Rattle.sample_theorems.proofs.Pairs.{pair-value, bytes-pair, value-canonica
 use Rattle.reel.specs.Layout.{fieldsFrom, binaryWidths, binaryFields, traceWidths, traceFields, fieldNumber, firstTrace, traceHeader, samplesOf, intervalOf, codeOf, strideOf, tracesOf}
 use Rattle.formats.specs.Codes.{isCode, sampleBytes, wordLength}
 use Rattle.reel.specs.Causes.{causesOf}
-use Rattle.reel.specs.Meaning.{cardText, binaryNumbers, filled, traceNumber, Header, headerOf, Trace, traceMeaning, meaningOf, MeanTheSame}
+use Rattle.reel.specs.Meaning.{cardText, binaryNumbers, filled, traceNumber, Header, headerOf, Trace, traceMeaning, meaningBy, meaningOf, MeanTheSame}
 use Rattle.reel.proofs.CheckLaws.{reel-fine}
 use Rattle.headers.specs.Header.{headerBytes}
 use Rattle.headers.proofs.TraceLaws.{trace-front, trace-back, trace-widths, trace-numbers, countField, intervalField}
@@ -167,7 +167,7 @@ traces-count s = size-walk (traceMeaning s (codeOf s) (samplesOf s) (intervalOf 
 -- the record's four pieces
 record-parts : (s : List ℕ)
     → reelRecord s ≡ field 1 (cardText s) ++ (field 2 (binaryBytes 0 (binaryNumbers s)) ++ (flat (map traceBytes (tracesIn s)) ++ field 5 (bytesOf 4 (length (tracesIn s)))))
-unfolding recordOf meaningOf tracesIn
+unfolding recordOf meaningBy tracesIn
 record-parts s = refl
 
 size-binary : (s : List ℕ) → Bytes s → length (binaryBytes 0 (binaryNumbers s)) ≡ 60
@@ -245,15 +245,15 @@ traces-eq (t ∷ l) (u ∷ k) n p e c q =
 
 -- what a meaning is
 meaning-cards : (s : List ℕ) → meaningOf s .cards ≡ cardText s
-unfolding meaningOf
+unfolding meaningBy
 meaning-cards s = refl
 
 meaning-binary : (s : List ℕ) → meaningOf s .binary ≡ binaryNumbers s
-unfolding meaningOf
+unfolding meaningBy
 meaning-binary s = refl
 
 meaning-traces : (s : List ℕ) → meaningOf s .traces ≡ tracesIn s
-unfolding meaningOf tracesIn
+unfolding meaningBy tracesIn
 meaning-traces s = refl
 
 module _ (s₁ s₂ : List ℕ) (b₁ : Bytes s₁) (b₂ : Bytes s₂) (f₁ : causesOf s₁ ≡ Fine) (f₂ : causesOf s₂ ≡ Fine) where

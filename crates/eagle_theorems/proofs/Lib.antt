@@ -1,0 +1,2 @@
+-- The theorems about Eagle reels, and what they rest on.
+pub mod PlainLaws
