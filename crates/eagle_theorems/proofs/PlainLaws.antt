@@ -175,10 +175,10 @@ module _ (s : List ℕ) where
   from-traces = subst (From (plainReel s) 3600) (sym (append-nil traces)) (from-next (bytesAt s 3200 400) traces 400 (size-bytes s 3200 400) from-binary)
 
   -- The reel's own numbers are those of the Eagle reel.
-  plain-code : codeOf (plainReel s) ≡ codeOf s
+  pub plain-code : codeOf (plainReel s) ≡ codeOf s
   plain-code = part-16 s (plainReel s) traces 3200 3200 400 from-binary 24 (omega arith)
 
-  plain-samples : samplesOf (plainReel s) ≡ samplesOf s
+  pub plain-samples : samplesOf (plainReel s) ≡ samplesOf s
   plain-samples = part-16 s (plainReel s) traces 3200 3200 400 from-binary 20 (omega arith)
 
   plain-interval : intervalOf (plainReel s) ≡ intervalOf s

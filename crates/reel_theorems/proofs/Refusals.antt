@@ -30,9 +30,9 @@ use Rattle.numbers.proofs.BoolLaws.{among-is, is-among}
 use Rattle.numbers.proofs.ByteLaws.{byte-at}
 use Rattle.numbers.proofs.WalkLaws.{four-bytes}
 use Rattle.scalars.specs.Scalar.{isAllowed}
-use Rattle.reel.specs.Layout.{Field, elevationScalar, coordinateScalar, fieldNumber, firstTrace, traceHeader, number16, samplesOf, intervalOf, codeOf, strideOf, overIn, tracesOf}
+use Rattle.reel.specs.Layout.{Field, elevationScalar, coordinateScalar, fieldNumber, firstTrace, traceHeader, number16, samplesOf, intervalOf, codeOf, strideOf, wholeIn, overIn, tracesOf}
 use Rattle.reel.specs.Causes.{mostSamples, mostTraces, mostInterval, within, neither, limitCauses, sizeCauses, scalarCause, wordCause, traceCauses, behindCausesBy, behindCauses, causesBy, causesOf}
-use Rattle.reel_theorems.specs.ReelTable.{traceAt, sampleAt, wordAt, ZeroFirst, FiniteAt, HasValue, Headed, Whole, OwnNumbers, Allowed, Passed, Until, ReelRow, short-reel, bad-code, bad-samples, bad-interval, left-over, many, bad-115, bad-117, bad-69, bad-71, bad-gain, not-finite}
+use Rattle.reel_theorems.specs.ReelTable.{traceAt, sampleAt, wordAt, ZeroFirst, FiniteAt, HasValue, Headed, Whole, OwnNumbers, AllowedAt, Allowed, Passed, Until, ReelRow, short-reel, bad-code, bad-samples, bad-interval, left-over, many, bad-115, bad-117, bad-69, bad-71, bad-gain, not-finite}
 
 -- ## Headers and size
 
@@ -40,18 +40,35 @@ use Rattle.reel_theorems.specs.ReelTable.{traceAt, sampleAt, wordAt, Zer
 pub test-code : (code number place : ℕ) → Tests (isCode code ≡ true) number place (refuseIf (not (isCode code)) number place)
 test-code code number place = test-by (isCode code ≡ true) (isCode code) number place (λ e. e) (λ e. e)
 
+-- The bytes behind the last whole trace of w bytes.
+pub over-test-of : (size w : ℕ) → 3600 ≤ size
+    → Tests (size ≤ 3600 + wholeIn size w * w) 5 (3600 + wholeIn size w * w) (refuseIf (ltb 0 (overIn size w)) 5 (size - overIn size w))
+over-test-of size w l = go (ltb 0 (overIn size w)) refl
+  where
+    all : wholeIn size w * w + overIn size w ≡ size - 3600
+    all = div-add-mod' (size - 3600) w
+
+    at : size - overIn size w ≡ 3600 + wholeIn size w * w
+    at = omega (arith, all, l)
+
+    go : (b : Bool) → ltb 0 (overIn size w) ≡ b → Tests (size ≤ 3600 + wholeIn size w * w) 5 (3600 + wholeIn size w * w) (refuseIf b 5 (size - overIn size w))
+    go true e =
+        let h = ltb-true 0 (overIn size w) e in
+        rw at (inr (too-short (3600 + wholeIn size w * w) size (omega (arith, all, l, h)), refl))
+    go false e = let h = ltb-false 0 (overIn size w) e in inl (omega (arith, all, l, h), refl)
+
 module _ (s : List ℕ) where
   -- The tests of 1 to 6.
-  long-test : Tests (3600 ≤ length s) 1 (length s) (refuseIf (ltb (length s) firstTrace) 1 (length s))
+  pub long-test : Tests (3600 ≤ length s) 1 (length s) (refuseIf (ltb (length s) firstTrace) 1 (length s))
   long-test = test-room (length s) 3600 1 (length s)
 
   code-test : Tests (isCode (codeOf s) ≡ true) 2 3224 (refuseIf (not (isCode (codeOf s))) 2 3224)
   code-test = test-code (codeOf s) 2 3224
 
-  samples-test : Tests (Between 1 8000 (samplesOf s)) 3 3220 (refuseIf (not (within 1 mostSamples (samplesOf s))) 3 3220)
+  pub samples-test : Tests (Between 1 8000 (samplesOf s)) 3 3220 (refuseIf (not (within 1 mostSamples (samplesOf s))) 3 3220)
   samples-test = test-between 1 8000 (samplesOf s) 3 3220
 
-  interval-test : Tests (Between 1 32767 (intervalOf s)) 4 3216 (refuseIf (not (within 1 mostInterval (intervalOf s))) 4 3216)
+  pub interval-test : Tests (Between 1 32767 (intervalOf s)) 4 3216 (refuseIf (not (within 1 mostInterval (intervalOf s))) 4 3216)
   interval-test = test-between 1 32767 (intervalOf s) 4 3216
 
   -- The bytes behind the last whole trace.
@@ -60,19 +77,7 @@ module _ (s : List ℕ) where
 
   over-test : 3600 ≤ length s
       → Tests (length s ≤ traceAt s (tracesOf s)) 5 (traceAt s (tracesOf s)) (refuseIf (ltb 0 over) 5 (length s - over))
-  over-test l = go (ltb 0 over) refl
-    where
-      all : tracesOf s * strideOf s + over ≡ length s - 3600
-      all = div-add-mod' (length s - 3600) (strideOf s)
-
-      at : length s - over ≡ traceAt s (tracesOf s)
-      at = omega (arith, all, l)
-
-      go : (b : Bool) → ltb 0 over ≡ b → Tests (length s ≤ traceAt s (tracesOf s)) 5 (traceAt s (tracesOf s)) (refuseIf b 5 (length s - over))
-      go true e =
-          let h = ltb-true 0 over e in
-          rw at (inr (too-short (traceAt s (tracesOf s)) (length s) (omega (arith, all, l, h)), refl))
-      go false e = let h = ltb-false 0 over e in inl (omega (arith, all, l, h), refl)
+  over-test l = over-test-of (length s) (strideOf s) l
 
   few-test : Tests (tracesOf s ≤ 100000) 6 (traceAt s 100000) (refuseIf (ltb mostTraces (tracesOf s)) 6 (firstTrace + mostTraces * strideOf s))
   few-test = test-room 100000 (tracesOf s) 6 (traceAt s 100000)
@@ -169,19 +174,30 @@ zero-first s at b =
     let f = front (getD s at 0) (getD s (at + 1) 0) (getD s (at + 2) 0) (getD s (at + 3) 0) (byte-at s b (at + 1)) (byte-at s b (at + 2)) (byte-at s b (at + 3)) in
     (λ p. f .0 (subst (λ (n : ℕ). n < 2 ^ 24) (ap number (four-bytes s at)) p), λ e. subst (λ (n : ℕ). n < 2 ^ 24) (sym (ap number (four-bytes s at))) (f .1 e))
 
+-- The tests of 7, 8 and 18 of the trace at a place.
+module _ (s : List ℕ) (at : ℕ) where
+  pub count-test-at : Tests (ZeroOr (samplesOf s) (number16 s (at + 114))) 7 (at + 114) (refuseIf (neither (number16 s (at + 114)) (samplesOf s)) 7 (at + 114))
+  count-test-at = test-either (samplesOf s) (number16 s (at + 114)) 7 (at + 114)
+
+  pub own-test-at : Tests (ZeroOr (intervalOf s) (number16 s (at + 116))) 8 (at + 116) (refuseIf (neither (number16 s (at + 116)) (intervalOf s)) 8 (at + 116))
+  own-test-at = test-either (intervalOf s) (number16 s (at + 116)) 8 (at + 116)
+
+  pub scalar-test-at : (f : Field) → Tests (AllowedAt s at f) 18 (bytePlace at (f .begins)) (scalarCause s at f)
+  scalar-test-at f =
+      let n = natAbs (fieldNumber s at f) in
+      let ms : List ℕ = 0 ∷ 1 ∷ 10 ∷ 100 ∷ 1000 ∷ 10000 ∷ [] in
+      test-by (AllowedAt s at f) (isAllowed (fieldNumber s at f)) 18 (bytePlace at (f .begins)) (among-is n ms) (is-among n ms)
+
 module _ (s : List ℕ) (k : ℕ) where
-  -- The tests of 7, 8, 18, 9 and 19.
+  -- The same of trace k.
   count-test : Tests (ZeroOr (samplesOf s) (number16 s (traceAt s k + 114))) 7 (traceAt s k + 114) (refuseIf (neither (number16 s (traceAt s k + 114)) (samplesOf s)) 7 (traceAt s k + 114))
-  count-test = test-either (samplesOf s) (number16 s (traceAt s k + 114)) 7 (traceAt s k + 114)
+  count-test = count-test-at s (traceAt s k)
 
   own-test : Tests (ZeroOr (intervalOf s) (number16 s (traceAt s k + 116))) 8 (traceAt s k + 116) (refuseIf (neither (number16 s (traceAt s k + 116)) (intervalOf s)) 8 (traceAt s k + 116))
-  own-test = test-either (intervalOf s) (number16 s (traceAt s k + 116)) 8 (traceAt s k + 116)
+  own-test = own-test-at s (traceAt s k)
 
   scalar-test : (f : Field) → Tests (Allowed s k f) 18 (bytePlace (traceAt s k) (f .begins)) (scalarCause s (traceAt s k) f)
-  scalar-test f =
-      let n = natAbs (fieldNumber s (traceAt s k) f) in
-      let ms : List ℕ = 0 ∷ 1 ∷ 10 ∷ 100 ∷ 1000 ∷ 10000 ∷ [] in
-      test-by (Allowed s k f) (isAllowed (fieldNumber s (traceAt s k) f)) 18 (bytePlace (traceAt s k) (f .begins)) (among-is n ms) (is-among n ms)
+  scalar-test = scalar-test-at s (traceAt s k)
 
   -- Behind a trace header that is right, the answer is that of its words.
   behind-head : OwnNumbers s k → Allowed s k elevationScalar → Allowed s k coordinateScalar → {x : Check}

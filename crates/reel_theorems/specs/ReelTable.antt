@@ -50,14 +50,20 @@ pub record Whole (s : List ℕ) : Type 0 where
   pub whole : length s ≤ traceAt s (tracesOf s)
   pub few : tracesOf s ≤ 100000
 
--- 7 and 8 don't apply to trace k: fields 115 and 117 are 0 or the reel's own.
-pub record OwnNumbers (s : List ℕ) (k : ℕ) : Type 0 where
-  pub count : ZeroOr (samplesOf s) (number16 s (bytePlace (traceAt s k) 115))
-  pub interval : ZeroOr (intervalOf s) (number16 s (bytePlace (traceAt s k) 117))
+-- 7 and 8 don't apply to the trace at a place, or to trace k: fields 115 and 117 are 0 or the reel's own.
+pub record OwnNumbersAt (s : List ℕ) (at : ℕ) : Type 0 where
+  pub count : ZeroOr (samplesOf s) (number16 s (bytePlace at 115))
+  pub interval : ZeroOr (intervalOf s) (number16 s (bytePlace at 117))
 
--- The scalar in a field of trace k, 69 or 71, is allowed: 0, 1, -1, or plus or minus 10, 100, 1,000 or 10,000.
+abbrev pub OwnNumbers : List ℕ → ℕ → Type 0
+OwnNumbers s k = OwnNumbersAt s (traceAt s k)
+
+-- The scalar in a field of the trace at a place, or of trace k, 69 or 71, is allowed: 0, 1, -1, or plus or minus 10, 100, 1,000 or 10,000.
+abbrev pub AllowedAt : List ℕ → ℕ → Field → Type 0
+AllowedAt s at f = Among (natAbs (fieldNumber s at f)) (0 ∷ 1 ∷ 10 ∷ 100 ∷ 1000 ∷ 10000 ∷ [])
+
 abbrev pub Allowed : List ℕ → ℕ → Field → Type 0
-Allowed s k f = Among (natAbs (fieldNumber s (traceAt s k) f)) (0 ∷ 1 ∷ 10 ∷ 100 ∷ 1000 ∷ 10000 ∷ [])
+Allowed s k f = AllowedAt s (traceAt s k) f
 
 -- Neither 9 nor 19 applies to sample j of trace k: under code 4 it begins with 00, and under code 5 it is finite.
 pub record HasValue (s : List ℕ) (k j : ℕ) : Type 0 where

@@ -1,0 +1,99 @@
+-- The causes of reading an Eagle reel, as a table: "1 to 6; then trace by trace 7, 8, 18 for field 69, 18 for field 71, then 20; then 10". Numbers
+-- 5 and 6 count the trailer as part of the trace, and format code 1 is the only one allowed (document 02, CR 7). Each row says in which
+-- case it applies, and what stands beside it: as the order sets, it applies only where no row before it does.
+use mathlib.Core.Path.{_≡_}
+use mathlib.Core.List.{List}
+use Prim.Native.Nat.{ℕ, _+_, _-_, _*_, _/_, _≤_, _<_}
+use lib.ListN.{length}
+use Rattle.numbers.specs.Places.{bytePlace}
+use Rattle.numbers.specs.Terms.{Between, ZeroOr}
+use Rattle.reel.specs.Layout.{elevationScalar, coordinateScalar, number16, samplesOf, intervalOf, codeOf}
+use Rattle.reel_theorems.specs.ReelTable.{OwnNumbersAt, AllowedAt}
+
+-- ## The terms of the table
+
+-- The bytes of a trace: 240 of its header, N words, and 960 of its trailer.
+abbrev pub traceLength : List ℕ → ℕ
+traceLength s = 240 + samplesOf s * 4 + 960
+
+-- The place of trace k, counted from 0; behind the last trace it is the place of the first byte left over.
+abbrev pub traceAt : List ℕ → ℕ → ℕ
+traceAt s k = 3600 + k * traceLength s
+
+-- T, the whole traces behind the headers.
+abbrev pub traceCount : List ℕ → ℕ
+traceCount s = (length s - 3600) / traceLength s
+
+-- The place of the last two bytes of trace k's trailer, and that they are FFFF.
+abbrev pub trailerEnd : List ℕ → ℕ → ℕ
+trailerEnd s k = traceAt s k + (240 + samplesOf s * 4) + 958
+
+abbrev pub Ends : List ℕ → ℕ → Type 0
+Ends s k = number16 s (trailerEnd s k) ≡ 0xFFFF
+
+-- 1 to 4 don't apply: both headers stand whole, the code is 1, and the reel's own numbers are within their limits.
+pub record Headed (s : List ℕ) : Type 0 where
+  pub long : 3600 ≤ length s
+  pub code : codeOf s ≡ 1
+  pub samples : Between 1 8000 (samplesOf s)
+  pub interval : Between 1 32767 (intervalOf s)
+
+-- Nor do 5 and 6: no byte comes after the last whole trace, and there are at most 100,000.
+pub record Whole (s : List ℕ) : Type 0 where
+  pub headed : Headed s
+  pub whole : length s ≤ traceAt s (traceCount s)
+  pub few : traceCount s ≤ 100000
+
+-- Neither 7, 8 nor 18 applies to the header of trace k,
+pub record HeaderPassed (s : List ℕ) (k : ℕ) : Type 0 where
+  pub own : OwnNumbersAt s (traceAt s k)
+  pub elevations : AllowedAt s (traceAt s k) elevationScalar
+  pub coordinates : AllowedAt s (traceAt s k) coordinateScalar
+
+-- nor 20 to its trailer.
+pub record Passed (s : List ℕ) (k : ℕ) : Type 0 where
+  pub header : HeaderPassed s k
+  pub trailer : Ends s k
+
+-- Nothing applies before trace k: not 1 to 6, nor 7, 8, 18 and 20 to the traces before it.
+pub record Until (s : List ℕ) (k : ℕ) : Type 0 where
+  pub reel : Whole s
+  pub trace : k < traceCount s
+  pub before : (i : ℕ) → i < k → Passed s i
+
+-- ## The table
+
+-- The rows against the reel: in which case each applies, its number, and what stands beside it. Traces k are counted from 0.
+pub data EagleRow (s : List ℕ) : ℕ → ℕ → Type 0 where
+  -- 1: the reel is under 3,600 bytes, with its length
+  short-reel : length s < 3600 → EagleRow s 1 (length s)
+  -- 2: the format code is not 1
+  bad-code : 3600 ≤ length s → ¬ (codeOf s ≡ 1) → EagleRow s 2 3224
+  -- 3: N is not 1 to 8,000
+  bad-samples : 3600 ≤ length s → codeOf s ≡ 1 → ¬ (Between 1 8000 (samplesOf s)) → EagleRow s 3 3220
+  -- 4: the interval is not 1 to 32,767
+  bad-interval : 3600 ≤ length s → codeOf s ≡ 1 → Between 1 8000 (samplesOf s) → ¬ (Between 1 32767 (intervalOf s)) → EagleRow s 4 3216
+  -- 5: bytes come after the last whole trace, at the first of them
+  left-over : Headed s → traceAt s (traceCount s) < length s → EagleRow s 5 (traceAt s (traceCount s))
+  -- 6: there are more than 100,000 traces, at trace 100,001
+  many : Headed s → length s ≤ traceAt s (traceCount s) → 100000 < traceCount s → EagleRow s 6 (traceAt s 100000)
+  -- 7: field 115 of trace k is neither 0 nor N
+  bad-115 : (k : ℕ) → Until s k → ¬ (ZeroOr (samplesOf s) (number16 s (bytePlace (traceAt s k) 115))) → EagleRow s 7 (bytePlace (traceAt s k) 115)
+  -- 8: its field 117 is neither 0 nor the reel's interval
+  bad-117 : (k : ℕ) → Until s k → ZeroOr (samplesOf s) (number16 s (bytePlace (traceAt s k) 115)) → ¬ (ZeroOr (intervalOf s) (number16 s (bytePlace (traceAt s k) 117)))
+      → EagleRow s 8 (bytePlace (traceAt s k) 117)
+  -- 18: its field 69 is no scalar that is allowed
+  bad-69 : (k : ℕ) → Until s k → OwnNumbersAt s (traceAt s k) → ¬ (AllowedAt s (traceAt s k) elevationScalar) → EagleRow s 18 (bytePlace (traceAt s k) 69)
+  -- 18: its field 71 is no scalar that is allowed
+  bad-71 : (k : ℕ) → Until s k → OwnNumbersAt s (traceAt s k) → AllowedAt s (traceAt s k) elevationScalar → ¬ (AllowedAt s (traceAt s k) coordinateScalar)
+      → EagleRow s 18 (bytePlace (traceAt s k) 71)
+  -- 20: the last two bytes of its trailer are not FFFF, at the first of the two
+  bad-trailer : (k : ℕ) → Until s k → HeaderPassed s k → ¬ (Ends s k) → EagleRow s 20 (trailerEnd s k)
+
+-- The rows of reading an Eagle reel into an output of `room` bytes.
+pub data EagleReadRow (s : List ℕ) (room : ℕ) : ℕ → ℕ → Type 0 where
+  -- 1 to 8, 18 and 20: a row of their table applies to the reel
+  by-reel : {number place : ℕ} → EagleRow s number place → EagleReadRow s room number place
+  -- 10: none of them applies, and the output is too short for the record, with the record's length, 3273 + T × (186 + 6N)
+  short-output : ((number place : ℕ) → ¬ (EagleRow s number place)) → room < 3273 + traceCount s * (186 + 6 * samplesOf s)
+      → EagleReadRow s room 10 (3273 + traceCount s * (186 + 6 * samplesOf s))
