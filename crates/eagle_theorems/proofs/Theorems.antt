@@ -19,6 +19,7 @@ use mathlib.Core.List.{List, [], _∷_, _++_, map}
 use mathlib.Core.Logic.{_⊎_}
 use mathlib.Core.Bool.{true}
 use Prim.Native.Nat.{ℕ, _+_, _-_, _*_, _/_, _≤_, _<_}
+use native.Mathlib.Nat.{zero-add}
 use native.Mathlib.Omega.{arith}
 use lib.Dec.{ltb}
 use lib.ListN.{length, getD, take, drop, replicate}
@@ -161,3 +162,173 @@ eagle-reading s out t n l c b e =
       whole = ap (λ (m : Meaning). length (recordOf m)) (sym (plain-means s f)) ∙ k .whole;
       rest = ap (λ (o : Outcome). drop l (o .bytes)) q ∙ k .rest;
     }
+
+-- THEOREM. Where the Eagle layout differs: each trace stands with its trailer, so the next begins 240 + 4N + 960 bytes on; within a trace
+-- "header fields stand where the 1975 layout has them", and its words behind them, as on a plain reel of code 1.
+pub eagle-traces : (s : List ℕ) → codeOf s ≡ 1
+    → meaningBy Eagle s .traces ≡ walk (traceMeaning s 1 (samplesOf s) (intervalOf s)) (traceLength s) (traceCount s) 3600
+unfolding meaningBy
+eagle-traces s e =
+    ap (λ (c : ℕ). walk (traceMeaning s c (samplesOf s) (intervalOf s)) (strideIn Eagle (samplesOf s) (sampleBytes c)) (wholeIn (length s) (strideIn Eagle (samplesOf s) (sampleBytes c))) 3600) e
+
+-- THEOREM. "Columns 79 and 80 of card 40 hold a check and are taken as blanks": the last two of 3,200 card bytes, whatever they hold; every
+-- other card byte is taken as on a plain reel.
+pub eagle-cards : (s : List ℕ) → meaningBy Eagle s .cards ≡ map blank (bytesAt s 0 3198) ++ (0x40 ∷ 0x40 ∷ [])
+unfolding meaningBy cardTextBy
+eagle-cards s = refl
+
+-- ## Demand 3
+
+-- A reel of either kind whose reading is taken: there is a plain reel that means the same and is read alike.
+record AsPlain (kind : Kind) (s out : List ℕ) : Type 0 where
+  reel : List ℕ
+  bytes : Bytes reel
+  same : readOutcomeBy kind s out ≡ readOutcome reel out
+  means : meaningBy kind s ≡ meaningOf reel
+
+as-plain : (kind : Kind) (s out numbers : List ℕ) → Bytes s → readOutcomeBy kind s out .said ≡ taken numbers → AsPlain kind s out
+as-plain Plain s out numbers b e = record { reel = s; bytes = b; same = refl; means = refl }
+as-plain Eagle s out numbers b e =
+    record { reel = plainReel s; bytes = plain-bytes s b; same = taken-plain s out numbers e; means = sym (plain-means s (taken-eagle s out numbers e)) }
+
+-- THEOREM. "Take any two reels .. that are read without refusal .. Their records .. are equal byte for byte exactly when the two reels mean
+-- the same", of two reels that are each plain or Eagle. So "An Eagle reel and a plain reel of equal meaning have equal records" (document
+-- 02, CR 7).
+pub any-records-equal : (kind₁ kind₂ : Kind) (s₁ s₂ out₁ out₂ : List ℕ) (t₁ n₁ l₁ c₁ t₂ n₂ l₂ c₂ : ℕ) → Bytes s₁ → Bytes s₂
+    → readOutcomeBy kind₁ s₁ out₁ .said ≡ taken (t₁ ∷ n₁ ∷ l₁ ∷ c₁ ∷ []) → readOutcomeBy kind₂ s₂ out₂ .said ≡ taken (t₂ ∷ n₂ ∷ l₂ ∷ c₂ ∷ [])
+    → Iff (take l₁ (readOutcomeBy kind₁ s₁ out₁ .bytes) ≡ take l₂ (readOutcomeBy kind₂ s₂ out₂ .bytes)) (SameMeaning (meaningBy kind₁ s₁) (meaningBy kind₂ s₂))
+any-records-equal kind₁ kind₂ s₁ s₂ out₁ out₂ t₁ n₁ l₁ c₁ t₂ n₂ l₂ c₂ b₁ b₂ e₁ e₂ =
+    let p₁ = as-plain kind₁ s₁ out₁ (t₁ ∷ n₁ ∷ l₁ ∷ c₁ ∷ []) b₁ e₁ in
+    let p₂ = as-plain kind₂ s₂ out₂ (t₂ ∷ n₂ ∷ l₂ ∷ c₂ ∷ []) b₂ e₂ in
+    let q₁ = ap (λ (o : Outcome). take l₁ (o .bytes)) (p₁ .same) in
+    let q₂ = ap (λ (o : Outcome). take l₂ (o .bytes)) (p₂ .same) in
+    let same =
+    same-outputs (p₁ .reel) (p₂ .reel) out₁ out₂ t₁ n₁ l₁ c₁ t₂ n₂ l₂ c₂ (p₁ .bytes) (p₂ .bytes)
+    (sym (ap (λ (o : Outcome). o .said) (p₁ .same)) ∙ e₁) (sym (ap (λ (o : Outcome). o .said) (p₂ .same)) ∙ e₂) in (
+      λ e. subst (λ (m : Meaning). SameMeaning m (meaningBy kind₂ s₂)) (sym (p₁ .means)) (subst (SameMeaning (meaningOf (p₁ .reel))) (sym (p₂ .means)) (same .0 (sym q₁ ∙ e ∙ q₂))),
+      λ m. q₁ ∙ same .1 (subst (λ (x : Meaning). SameMeaning x (meaningOf (p₂ .reel))) (p₁ .means) (subst (SameMeaning (meaningBy kind₁ s₁)) (p₂ .means) m)) ∙ sym q₂,
+    )
+
+-- THEOREM. "Every reel written from the record of a reel so read, in whichever of the formats holds it, is itself read without refusal,
+-- means the same and has the same record", of the record of an Eagle reel: a plain reel is written from it.
+pub eagle-again : (s out : List ℕ) (t n l c : ℕ) (code : ℕ) (out₂ : List ℕ) (t₂ n₂ l₂ : ℕ) → Bytes s → readOutcomeBy Eagle s out .said ≡ taken (t ∷ n ∷ l ∷ c ∷ [])
+    → writeOutcome (take l (readOutcomeBy Eagle s out .bytes)) code out₂ .said ≡ taken (t₂ ∷ n₂ ∷ l₂ ∷ [])
+    → PlainAgain s t n l (take l (readOutcomeBy Eagle s out .bytes)) code t₂ n₂ l₂ (take l₂ (writeOutcome (take l (readOutcomeBy Eagle s out .bytes)) code out₂ .bytes))
+eagle-again s out t n l c code out₂ t₂ n₂ l₂ b e e₂ = subst Again (sym (taken-plain s out (t ∷ n ∷ l ∷ c ∷ []) e)) again e₂
+  where
+    f : causesBy Eagle s ≡ Fine
+    f = taken-eagle s out (t ∷ n ∷ l ∷ c ∷ []) e
+
+    Again : Outcome → Type 0
+    Again o =
+        writeOutcome (take l (o .bytes)) code out₂ .said ≡ taken (t₂ ∷ n₂ ∷ l₂ ∷ [])
+        → PlainAgain s t n l (take l (o .bytes)) code t₂ n₂ l₂ (take l₂ (writeOutcome (take l (o .bytes)) code out₂ .bytes))
+
+    again : Again (readOutcome (plainReel s) out)
+    again q =
+        let k = plain.reel-again (plainReel s) out t n l c code out₂ t₂ n₂ l₂ (plain-bytes s b) (said-plain s out (t ∷ n ∷ l ∷ c ∷ []) e) q in
+        record {
+          traces = k .traces;
+          samples = k .samples;
+          size = k .size;
+          no-cause = k .no-cause;
+          code-is = k .code-is;
+          means = subst (λ (m : Meaning). SameMeaning m (meaningOf (take l₂ (writeOutcome (take l (readOutcome (plainReel s) out .bytes)) code out₂ .bytes)))) (plain-means s f) (k .means);
+          has = k .has;
+          read = k .read;
+        }
+
+-- THEOREM. "in whichever of the formats holds it": the record of an Eagle reel is written under every code that has a word for each of its
+-- sample values, into every output that is long enough.
+pub eagle-in-each-code : (s out : List ℕ) (t n l c : ℕ) (code : ℕ) (out₂ : List ℕ) → Bytes s → readOutcomeBy Eagle s out .said ≡ taken (t ∷ n ∷ l ∷ c ∷ [])
+    → isCode code ≡ true → Worded code (meaningBy Eagle s .traces)
+    → 3600 + t * (240 + n * sampleBytes code) ≤ length out₂
+    → writeOutcome (take l (readOutcomeBy Eagle s out .bytes)) code out₂ .said ≡ taken (t ∷ n ∷ (3600 + t * (240 + n * sampleBytes code)) ∷ [])
+eagle-in-each-code s out t n l c code out₂ b e i f h =
+    let numbers = t ∷ n ∷ l ∷ c ∷ [] in
+    let words = subst (λ (m : Meaning). Worded code (m .traces)) (sym (plain-means s (taken-eagle s out numbers e))) f in
+    ap (λ (o : Outcome). writeOutcome (take l (o .bytes)) code out₂ .said) (taken-plain s out numbers e)
+    ∙ plain.written-in-each-code (plainReel s) out t n l c code out₂ (plain-bytes s b) (said-plain s out numbers e) i words h
+
+-- THEOREM. For every Eagle reel read without refusal there is a plain reel of equal meaning, with the same record: the one that is written
+-- from its record under code 1, into any output that is long enough.
+pub plain-exists : (s out : List ℕ) (t n l c : ℕ) (out₂ : List ℕ) → Bytes s → readOutcomeBy Eagle s out .said ≡ taken (t ∷ n ∷ l ∷ c ∷ [])
+    → 3600 + t * (240 + n * 4) ≤ length out₂
+    → let r = take l (readOutcomeBy Eagle s out .bytes) in
+    let l₂ = 3600 + t * (240 + n * 4) in
+    (writeOutcome r 1 out₂ .said ≡ taken (t ∷ n ∷ l₂ ∷ [])) × PlainAgain s t n l r 1 t n l₂ (take l₂ (writeOutcome r 1 out₂ .bytes))
+plain-exists s out t n l c out₂ b e room =
+    let numbers = t ∷ n ∷ l ∷ c ∷ [] in
+    let f = taken-eagle s out numbers e in
+    let own = plain.own-code (plainReel s) out t n l c (plain-bytes s b) (said-plain s out numbers e) .words in
+    let words = subst (λ (m : Meaning). Worded 1 (m .traces)) (plain-means s f) (subst (λ (x : ℕ). Worded x (meaningOf (plainReel s) .traces)) (plain-code s ∙ eagle-code s f) own) in
+    let w = eagle-in-each-code s out t n l c 1 out₂ b e refl words room in
+    (w, eagle-again s out t n l c 1 out₂ t n (3600 + t * (240 + n * 4)) b e w)
+
+-- ## Bytes that both calls take
+
+-- THEOREM. "Bytes that both calls take are an Eagle reel under this one and a plain reel under the other, each with the meaning, T included,
+-- that its own layout gives."
+pub two-readings : (s out₁ out₂ : List ℕ) (t₁ n₁ l₁ c₁ t₂ n₂ l₂ c₂ : ℕ) → Bytes s
+    → readOutcome s out₁ .said ≡ taken (t₁ ∷ n₁ ∷ l₁ ∷ c₁ ∷ []) → readOutcomeBy Eagle s out₂ .said ≡ taken (t₂ ∷ n₂ ∷ l₂ ∷ c₂ ∷ [])
+    → RecordRead s out₁ t₁ n₁ l₁ c₁ × EagleRead s out₂ t₂ n₂ l₂ c₂
+two-readings s out₁ out₂ t₁ n₁ l₁ c₁ t₂ n₂ l₂ c₂ b e₁ e₂ = (reading s out₁ t₁ n₁ l₁ c₁ b e₁, eagle-reading s out₂ t₂ n₂ l₂ c₂ b e₂)
+
+-- THEOREM. The bytes of `example` are taken as a plain reel of 4 traces, with 1 word that isn't normal,
+pub example-plain : readOutcome example (replicate 4497 0) .said ≡ taken (4 ∷ 20 ∷ 4497 ∷ 1 ∷ [])
+unfolding causesBy behindCausesBy traceCauses bytesAt notNormalAmong notNormalIn isNormal
+example-plain = refl
+
+-- THEOREM. and as an Eagle reel of 1 trace, with none.
+pub example-eagle : readOutcomeBy Eagle example (replicate 3579 0) .said ≡ taken (1 ∷ 20 ∷ 3579 ∷ 0 ∷ [])
+unfolding causesBy behindCausesBy traceCauses bytesAt notNormalAmong notNormalIn isNormal
+example-eagle = refl
+
+-- ## Trailers and checks carry no meaning
+
+-- bytes that are the same one by one
+bytes-same : (s₁ s₂ : List ℕ) (at k : ℕ) → ((p : ℕ) → p < k → getD s₁ (at + p) 0 ≡ getD s₂ (at + p) 0) → bytesAt s₁ at k ≡ bytesAt s₂ at k
+unfolding bytesAt
+bytes-same s₁ s₂ at k h =
+    walk-same (λ a. getD s₁ a 0) (λ a. getD s₂ a 0) 1 1 k at at (λ j l. let e : j * 1 ≡ j = omega arith in rw e (h j l))
+
+-- Eagle reels that are alike have the same plain reel.
+same-plain : (s₁ s₂ : List ℕ) → codeOf s₁ ≡ 1 → AlikeButTrailers s₁ s₂ → plainReel s₁ ≡ plainReel s₂
+unfolding plainReel
+same-plain s₁ s₂ c a =
+    ap₂ (λ (x y : List ℕ). x ++ (0x40 ∷ 0x40 ∷ y)) (bytes-same s₁ s₂ 0 3198 (λ p l. ap (λ (y : ℕ). getD s₁ y 0) (zero-add p) ∙ a .cards p l ∙ ap (λ (y : ℕ). getD s₂ y 0) (sym (zero-add p))))
+    (ap₂ (λ (x y : List ℕ). x ++ y) (binary 0 400 (omega arith)) (ap flat each ∙ ap₂ (λ (m t : ℕ). flat (walk (λ at. bytesAt s₂ at (240 + m * 4)) (240 + m * 4 + 960) t 3600)) samples count))
+  where
+    binary : (d k : ℕ) → d + k ≤ 400 → bytesAt s₁ (3200 + d) k ≡ bytesAt s₂ (3200 + d) k
+    binary d k h =
+        bytes-same s₁ s₂ (3200 + d) k
+        (λ p l. let e : 3200 + d + p ≡ 3200 + (d + p) = omega arith in rw e (a .binary (d + p) (omega (arith, h, l))))
+
+    samples : samplesOf s₁ ≡ samplesOf s₂
+    samples = ap number (binary 20 2 (omega arith))
+
+    count : tracesBy Eagle s₁ ≡ tracesBy Eagle s₂
+    count =
+        ap₂ (λ (size m : ℕ). wholeIn size (strideIn Eagle m (sampleBytes (codeOf s₁)))) (a .size) samples
+        ∙ ap (λ (x : ℕ). wholeIn (length s₂) (strideIn Eagle (samplesOf s₂) (sampleBytes x))) (ap number (binary 24 2 (omega arith)))
+
+    each : walk (λ at. bytesAt s₁ at (bareTrace s₁)) (bareTrace s₁ + 960) (tracesBy Eagle s₁) 3600 ≡ walk (λ at. bytesAt s₂ at (bareTrace s₁)) (bareTrace s₁ + 960) (tracesBy Eagle s₁) 3600
+    each =
+        walk-same (λ at. bytesAt s₁ at (bareTrace s₁)) (λ at. bytesAt s₂ at (bareTrace s₁)) (bareTrace s₁ + 960) (bareTrace s₁ + 960) (tracesBy Eagle s₁) 3600 3600
+        (λ j l. bytes-same s₁ s₂ (3600 + j * (bareTrace s₁ + 960)) (bareTrace s₁) (λ p m. a .traces j p (omega (arith, l, count-is s₁ c)) m))
+
+-- THEOREM. "Trailers and checks carry no meaning": two Eagle reels that differ only there, neither with a cause of 1 to 8, 18 and 20, mean
+-- the same and have the same record; read into one output, they give the same numbers and the same bytes.
+pub alike-read : (s₁ s₂ : List ℕ) → causesBy Eagle s₁ ≡ Fine → causesBy Eagle s₂ ≡ Fine → AlikeButTrailers s₁ s₂
+    → (meaningBy Eagle s₁ ≡ meaningBy Eagle s₂) × (recordBy Eagle s₁ ≡ recordBy Eagle s₂) × ((out : List ℕ) → readOutcomeBy Eagle s₁ out ≡ readOutcomeBy Eagle s₂ out)
+alike-read s₁ s₂ e₁ e₂ a =
+    let same = same-plain s₁ s₂ (eagle-code s₁ e₁) a in
+    let means = sym (plain-means s₁ e₁) ∙ ap meaningOf same ∙ plain-means s₂ e₂ in
+    (means, ap recordOf means, λ out. plain-reading s₁ e₁ out ∙ ap (λ (x : List ℕ). readOutcome x out) same ∙ sym (plain-reading s₂ e₂ out))
+
+-- THEOREM. An Eagle reel without its trailers, with blanks in columns 79 and 80 of card 40, is a plain reel: where no cause applies to the
+-- one as an Eagle reel, none applies to the other as a plain reel, both mean the same, and read into one output they give the same numbers
+-- and the same bytes.
+pub without-trailers : (s : List ℕ) → causesBy Eagle s ≡ Fine
+    → (causesOf (plainReel s) ≡ Fine) × (meaningOf (plainReel s) ≡ meaningBy Eagle s) × (reelRecord (plainReel s) ≡ recordBy Eagle s) × ((out : List ℕ) → readOutcome (plainReel s) out ≡ readOutcomeBy Eagle s out)
+without-trailers s e = (plain-no-cause s e, plain-means s e, ap recordOf (plain-means s e), λ out. sym (plain-reading s e out))
