@@ -199,11 +199,11 @@ def is_normal(word):
     return f // 16 ** 5 != 0 or c == 0
 
 
-def count_not_normal(reel):
-    """How many words of a reel without a cause of 1 to 9, 18 or 19 are not normal; 0 for other codes than 1."""
+def count_not_normal(reel, starts):
+    """How many words of the traces that start at these places are not normal; 0 for other codes than 1."""
     if binary_number(reel, CODE) != 1:
         return 0
-    places = (place for start in trace_starts(reel) for place in words(reel, start))
+    places = (place for start in starts for place in words(reel, start))
     return sum(1 for place in places if not is_normal(reel[place : place + 4]))
 
 
@@ -226,10 +226,14 @@ def trace_numbers(reel, start):
 
 def record_of(reel):
     """The record of a reel without a cause of 1 to 9, 18 or 19."""
+    return record_with(reel, card_text(reel), trace_starts(reel))
+
+
+def record_with(reel, cards, starts):
+    """The record of a reel with this card text and with traces that start at these places."""
     code = binary_number(reel, CODE)
     size = sample_size(code)
-    starts = trace_starts(reel)
-    fields = [tagged(0x01, card_text(reel))]
+    fields = [tagged(0x01, cards)]
     fields.append(tagged(0x02, b"".join(
         number_bytes(0 if b == CODE else binary_number(reel, b), width)
         for b, width in BINARY_FIELDS.items()
@@ -255,19 +259,23 @@ def read_reel(reel, room):
     cause = first_cause(reel)
     if cause:
         return cause, None
-    t = len(trace_starts(reel))
-    n = binary_number(reel, COUNT)
+    return read_with(reel, room, card_text(reel), trace_starts(reel))
+
+
+def read_with(reel, room, cards, starts):
+    """The same of a reel without a cause before 10, with this card text and traces from these places on."""
+    t, n = len(starts), binary_number(reel, COUNT)
     length = record_length(t, n)
     if room < length:
         return ("refused", 10, length), None
-    record = record_of(reel)
+    record = record_with(reel, cards, starts)
     assert len(record) == length
-    return ("taken", t, n, length, count_not_normal(reel)), record
+    return ("taken", t, n, length, count_not_normal(reel, starts)), record
 
 
-def read_into(reel, output):
+def read_into(reel, output, read=read_reel):
     """What is said of the reel, and the output's bytes after the call."""
-    said, record = read_reel(reel, len(output))
+    said, record = read(reel, len(output))
     if record is None:
         return said, output
     return said, record + output[len(record) :]
@@ -310,11 +318,15 @@ UNSCALED = [b for b in TRACE_FIELDS if b not in GROUPS and not any(b in group fo
 
 def meaning(reel):
     """Card text, header numbers, T and sample values of a reel without a cause of 1 to 9, 18 or 19."""
+    return meaning_with(reel, card_text(reel), trace_starts(reel))
+
+
+def meaning_with(reel, cards, starts):
+    """The same of a reel with this card text and with traces that start at these places."""
     code = binary_number(reel, CODE)
     size = sample_size(code)
-    starts = trace_starts(reel)
     return (
-        card_text(reel),
+        cards,
         [binary_number(reel, b) for b in BINARY_FIELDS if b != CODE],
         [[filled(reel, start, b) for b in UNSCALED] for start in starts],
         [[scaled(trace_number(reel, start, b), trace_number(reel, start, field))

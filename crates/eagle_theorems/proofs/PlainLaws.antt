@@ -211,10 +211,14 @@ module _ (s : List ℕ) where
   pub plain-bytes : Bytes s → Bytes (plainReel s)
   plain-bytes b =
       subst Bytes (sym plain-parts)
-      (all-append _ (bytesAt s 0 3198) _ (bytes-at s b 0 3198)
-      (omega arith, (omega arith,
-      all-append _ (bytesAt s 3200 400) traces (bytes-at s b 3200 400)
-      (all-flat _ (λ at. bytesAt s at bare) (λ (at : ℕ). at ≡ at) (λ at h. bytes-at s b at bare) (walk (λ (q : ℕ). q) (bare + 960) count 3600) (all-at (λ (at : ℕ). at ≡ at) (λ (q : ℕ). q) (λ q. refl) (bare + 960) count 3600)))))
+      (all-append _ (bytesAt s 0 3198) _ (bytes-at s b 0 3198) (
+        omega arith,
+        (
+          omega arith,
+          all-append _ (bytesAt s 3200 400) traces (bytes-at s b 3200 400)
+              (all-flat _ (λ at. bytesAt s at bare) (λ (at : ℕ). at ≡ at) (λ at h. bytes-at s b at bare) (walk (λ (q : ℕ). q) (bare + 960) count 3600) (all-at (λ (at : ℕ). at ≡ at) (λ (q : ℕ). q) (λ q. refl) (bare + 960) count 3600)),
+        ),
+      ))
 
   module _ (e : causesBy Eagle s ≡ Fine) where
     sound : SoundBy Eagle s

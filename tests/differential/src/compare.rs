@@ -14,7 +14,7 @@ const ALIGNMENTS: usize = 16;
 /// The longest output that a call is lent.
 const MOST_ROOM: usize = 26_000_000;
 
-const CALLS: [&str; 9] = [
+const CALLS: [&str; 10] = [
     "read_word",
     "write_pair",
     "read_reel",
@@ -24,6 +24,7 @@ const CALLS: [&str; 9] = [
     "take_cards",
     "write_nearest",
     "blank_eight",
+    "read_eagle",
 ];
 const READ_WORD: usize = 0;
 const WRITE_PAIR: usize = 1;
@@ -34,9 +35,10 @@ const LIST_CARDS: usize = 5;
 const TAKE_CARDS: usize = 6;
 const WRITE_NEAREST: usize = 7;
 const BLANK_EIGHT: usize = 8;
+const READ_EAGLE: usize = 9;
 
 /// The largest number of a cause.
-const MOST_NUMBER: usize = 19;
+const MOST_NUMBER: usize = 20;
 /// The causes of each call.
 const CAUSES: [&[usize]; CALLS.len()] = [
     &[2, 9, 19],
@@ -48,6 +50,7 @@ const CAUSES: [&[usize]; CALLS.len()] = [
     &[10, 12, 13, 17],
     &[10, 11, 12, 13],
     &[],
+    &[1, 2, 3, 4, 5, 6, 7, 8, 10, 18, 20],
 ];
 
 pub struct Comparison {
@@ -201,6 +204,22 @@ impl Comparison {
                 (
                     library::read_reel(reel, theirs),
                     independent::read_reel(reel, ours).into(),
+                )
+            },
+        )
+    }
+
+    /// Reads an Eagle reel with both into an output of `room` bytes, and gives the answer.
+    pub fn read_eagle(&mut self, reel: &[u8], room: usize) -> ReelAnswer {
+        self.reel_call(
+            READ_EAGLE,
+            "read_eagle".to_string(),
+            [reel],
+            room,
+            |[reel], theirs, ours| {
+                (
+                    library::read_eagle(reel, theirs),
+                    independent::read_eagle(reel, ours).into(),
                 )
             },
         )

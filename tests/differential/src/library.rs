@@ -37,6 +37,12 @@ extern "C" {
         record: *mut u8,
         record_length: usize,
     ) -> ReelAnswer;
+    fn aukpocket_read_eagle(
+        reel: *const u8,
+        reel_length: usize,
+        record: *mut u8,
+        record_length: usize,
+    ) -> ReelAnswer;
     fn aukpocket_write_reel(
         record: *const u8,
         record_length: usize,
@@ -78,6 +84,10 @@ extern "C" {
 
 pub fn read_reel(reel: &[u8], out: &mut [u8]) -> ReelAnswer {
     unsafe { aukpocket_read_reel(reel.as_ptr(), reel.len(), out.as_mut_ptr(), out.len()) }
+}
+
+pub fn read_eagle(reel: &[u8], out: &mut [u8]) -> ReelAnswer {
+    unsafe { aukpocket_read_eagle(reel.as_ptr(), reel.len(), out.as_mut_ptr(), out.len()) }
 }
 
 pub fn write_reel(record: &[u8], code: u32, out: &mut [u8]) -> ReelAnswer {

@@ -5,6 +5,7 @@
 //! written and read again, and its value is that of the host's own float.
 
 mod compare;
+mod eagle;
 mod eights;
 mod library;
 mod listings;
@@ -42,11 +43,13 @@ fn everything(compare: &mut compare::Comparison) {
     listings::listings(compare);
     listings::causes_of_listings(compare);
     eights::eights(compare);
+    eagle::eagle_reels(compare);
     reels::long_reels(compare);
     normal::long_reels(compare);
     records::long_records(compare);
     nearest::long_records(compare);
     listings::long_listings(compare);
+    eagle::long_reels(compare);
 
     compare.stage("the whole run");
     if !compare.report() {

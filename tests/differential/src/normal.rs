@@ -28,7 +28,7 @@ fn fraction(random: &mut Random, digits: u32) -> u32 {
 
 /// A word that is not normal: a zero other than 00000000, or a characteristic above 0 before a fraction
 /// whose first digit is 0.
-fn not_normal_word(random: &mut Random) -> [u8; 4] {
+pub fn not_normal_word(random: &mut Random) -> [u8; 4] {
     let sign = random.below(2) as u32;
     let characteristic = match random.below(2) {
         0 => random.pick(&[1, 2, 5, 6, 64, 65, 70, 126, 127]),
@@ -120,7 +120,7 @@ impl Which {
 
 /// A reel of code 1 with words that are not normal at these samples of these traces and normal ones at
 /// all others, and the count.
-fn reel_of(random: &mut Random, shape: Shape, traces: Which, samples: Which) -> (Vec<u8>, u64) {
+pub fn reel_of(random: &mut Random, shape: Shape, traces: Which, samples: Which) -> (Vec<u8>, u64) {
     let mut made = reel(random, shape, Words::Random);
     let mut count = 0;
     for (trace, chosen) in traces.of(random, shape.traces).into_iter().enumerate() {

@@ -1,7 +1,7 @@
 //! SEG-Y revision 0 reels and their canonical records: the five calls of document 01, the two of
-//! document 02's CR 1, the one of its CR 5 and the one of its CR 6, with the scalars of CR 2, the count
-//! of CR 3 and the codes of CR 4, in plain Rust, written from the papers alone. The differential test
-//! compares the library with them.
+//! document 02's CR 1, and the one of each of its CR 5, CR 6 and CR 7, with the scalars of CR 2, the
+//! count of CR 3 and the codes of CR 4, in plain Rust, written from the papers alone. The differential
+//! test compares the library with them.
 //!
 //! A refused call changes no byte of its output. So each call on a whole reel or record makes two
 //! passes: the first looks for causes to refuse, the second writes.
@@ -16,6 +16,12 @@ const CARD_BYTES: usize = 3_200;
 /// The cards and the binary header, after which the traces begin.
 const REEL_HEADERS: usize = 3_600;
 const TRACE_HEADER: usize = 240;
+
+/// A trailer follows the samples of each trace on an Eagle reel, and ends in these two bytes.
+const TRAILER: usize = 960;
+const TRAILER_END: [u8; 2] = [0xFF, 0xFF];
+/// Columns 79 and 80 of card 40, the last two card bytes, hold a check on an Eagle reel.
+const CHECK: usize = 2;
 
 /// The assigned fields of either header stand at its front without gaps.
 const BINARY_FIELDS: usize = 60;
@@ -89,7 +95,7 @@ pub struct WordRead {
 }
 
 /// The number of the cause, and what stands beside it in document 01's table, or beside numbers 17
-/// to 19 in document 02.
+/// to 20 in document 02.
 #[derive(Clone, Copy, Debug, PartialEq, Eq)]
 pub struct Refused {
     pub number: u64,
@@ -145,9 +151,19 @@ pub fn write_pair(code: u32, pair: [u8; 6]) -> Result<[u8; 4], Refused> {
     word.map_or(refused(14, 0), Ok)
 }
 
-/// Reads a reel and writes its record to the front of the output.
+/// Reads a plain reel and writes its record to the front of the output.
 pub fn read_reel(reel: &[u8], out: &mut [u8]) -> Result<ReelRead, Refused> {
-    let (code, shape) = check_reel(reel)?;
+    read(Layout::Plain, reel, out)
+}
+
+/// Reads an Eagle reel and writes its record to the front of the output.
+pub fn read_eagle(reel: &[u8], out: &mut [u8]) -> Result<ReelRead, Refused> {
+    read(Layout::Eagle, reel, out)
+}
+
+/// Reads a reel of either layout.
+fn read(layout: Layout, reel: &[u8], out: &mut [u8]) -> Result<ReelRead, Refused> {
+    let (code, shape) = check_reel(layout, reel)?;
     let length = shape.record_length();
     let Some(mut room) = out.get_mut(..length) else {
         return refused(10, length);
@@ -157,14 +173,18 @@ pub fn read_reel(reel: &[u8], out: &mut [u8]) -> Result<ReelRead, Refused> {
     for (card, &byte) in cards.iter_mut().zip(&reel[..CARD_BYTES]) {
         *card = card_byte(byte);
     }
+    if layout == Layout::Eagle {
+        cards[CARD_BYTES - CHECK..].fill(EBCDIC_BLANK);
+    }
 
     let binary = put_field(&mut room, TAG_BINARY, BINARY_FIELDS);
     binary.copy_from_slice(&reel[CARD_BYTES..][..BINARY_FIELDS]);
     put_number(binary, CODE, 0);
 
     let mut not_normal = 0;
-    for trace in reel[REEL_HEADERS..].chunks_exact(shape.trace_length(code)) {
-        let (header, words) = trace.split_at(TRACE_HEADER);
+    let trace_length = shape.trace_length(code);
+    for trace in reel[REEL_HEADERS..].chunks_exact(trace_length + layout.trailer()) {
+        let (header, words) = trace[..trace_length].split_at(TRACE_HEADER);
         let fields = put_field(&mut room, TAG_TRACE, TRACE_FIELDS);
         fields.copy_from_slice(&header[..TRACE_FIELDS]);
         for group in scalars::GROUPS {
@@ -275,7 +295,7 @@ pub fn write_nearest(record: &[u8], code: u32, out: &mut [u8]) -> Result<Nearest
 /// Looks up the assigned field that begins at a byte number: of the binary header for trace 0, of
 /// that trace's header from 1 on.
 pub fn look_up(reel: &[u8], trace: usize, byte: u32) -> Result<i32, Refused> {
-    let (code, shape) = check_reel(reel)?;
+    let (code, shape) = check_reel(Layout::Plain, reel)?;
     if trace > shape.traces {
         return refused(15, 0);
     }
@@ -383,7 +403,7 @@ fn signed(field: &[u8]) -> i32 {
 }
 
 /// The format codes, by their numbers on a reel.
-#[derive(Clone, Copy)]
+#[derive(Clone, Copy, PartialEq)]
 enum Code {
     Ibm = 1,
     Whole32 = 2,
@@ -416,8 +436,32 @@ impl Code {
     }
 }
 
-/// What the lengths of a reel and its record follow from, and the interval that fills field 117. A
-/// reel's length follows from its code as well.
+/// How a reel is laid out: as document 01 says, or as CR 7 says of Eagle reels.
+#[derive(Clone, Copy, PartialEq)]
+enum Layout {
+    Plain,
+    Eagle,
+}
+
+impl Layout {
+    fn allows(self, code: Code) -> bool {
+        match self {
+            Layout::Plain => true,
+            Layout::Eagle => code == Code::Ibm,
+        }
+    }
+
+    /// The bytes behind the samples of each trace.
+    fn trailer(self) -> usize {
+        match self {
+            Layout::Plain => 0,
+            Layout::Eagle => TRAILER,
+        }
+    }
+}
+
+/// What the lengths of a plain reel and of a record follow from, and the interval that fills field 117.
+/// A reel's length follows from its code as well.
 struct Shape {
     samples: u16,
     interval: u16,
@@ -425,7 +469,7 @@ struct Shape {
 }
 
 impl Shape {
-    /// The bytes of a trace on a reel.
+    /// The bytes of a trace on a plain reel.
     fn trace_length(&self, code: Code) -> usize {
         TRACE_HEADER + self.samples as usize * code.width()
     }
@@ -452,14 +496,15 @@ impl Shape {
     }
 }
 
-/// Looks for the causes 1 to 9, for 18 between 8 and 9, and for 19 where 9 stands.
-fn check_reel(reel: &[u8]) -> Result<(Code, Shape), Refused> {
+/// Looks for the causes 1 to 9, for 18 between 8 and 9, for 19 where 9 stands, and for 20 behind them.
+fn check_reel(layout: Layout, reel: &[u8]) -> Result<(Code, Shape), Refused> {
     if reel.len() < REEL_HEADERS {
         return refused(1, reel.len());
     }
     let binary = &reel[CARD_BYTES..REEL_HEADERS];
-    let Some(code) = Code::numbered(u32::from(number_at(binary, CODE))) else {
-        return refused(2, CARD_BYTES + CODE);
+    let code = match Code::numbered(u32::from(number_at(binary, CODE))) {
+        Some(code) if layout.allows(code) => code,
+        _ => return refused(2, CARD_BYTES + CODE),
     };
     let samples = number_at(binary, COUNT);
     if !(1..=MOST_SAMPLES).contains(&samples) {
@@ -476,18 +521,19 @@ fn check_reel(reel: &[u8]) -> Result<(Code, Shape), Refused> {
         traces: 0,
     };
     let trace_length = shape.trace_length(code);
-    let traces = reel[REEL_HEADERS..].chunks_exact(trace_length);
+    let whole_length = trace_length + layout.trailer();
+    let traces = reel[REEL_HEADERS..].chunks_exact(whole_length);
     shape.traces = traces.len();
     if !traces.remainder().is_empty() {
-        return refused(5, shape.reel_length(code));
+        return refused(5, REEL_HEADERS + shape.traces * whole_length);
     }
     if shape.traces > MOST_TRACES {
-        return refused(6, REEL_HEADERS + MOST_TRACES * trace_length);
+        return refused(6, REEL_HEADERS + MOST_TRACES * whole_length);
     }
 
     for (index, trace) in traces.enumerate() {
-        let place = REEL_HEADERS + index * trace_length;
-        let (header, words) = trace.split_at(TRACE_HEADER);
+        let place = REEL_HEADERS + index * whole_length;
+        let (header, words) = trace[..trace_length].split_at(TRACE_HEADER);
         let trace_samples = number_at(header, TRACE_COUNT);
         if trace_samples != 0 && trace_samples != samples {
             return refused(7, place + TRACE_COUNT);
@@ -502,13 +548,18 @@ fn check_reel(reel: &[u8]) -> Result<(Code, Shape), Refused> {
             }
         }
         let mut words = words.chunks_exact(code.width());
-        let (number, found) = match code {
-            Code::Gain => (9, words.position(|word| word[0] != 0)),
-            Code::Ieee => (19, words.position(|word| !is_finite(array(word)))),
-            Code::Ibm | Code::Whole32 | Code::Whole16 | Code::Whole8 => continue,
+        let found = match code {
+            Code::Gain => words.position(|word| word[0] != 0).map(|word| (9, word)),
+            Code::Ieee => words
+                .position(|word| !is_finite(array(word)))
+                .map(|word| (19, word)),
+            Code::Ibm | Code::Whole32 | Code::Whole16 | Code::Whole8 => None,
         };
-        if let Some(word) = found {
+        if let Some((number, word)) = found {
             return refused(number, place + TRACE_HEADER + 4 * word);
+        }
+        if layout == Layout::Eagle && !trace.ends_with(&TRAILER_END) {
+            return refused(20, place + whole_length - TRAILER_END.len());
         }
     }
     Ok((code, shape))

@@ -1,6 +1,8 @@
-//! Document 01's samples at the edges and its example, and what document 02's CR 1 to CR 6 make of it.
+//! Document 01's samples at the edges and its example, and what document 02's CR 1 to CR 7 make of it.
 
 use super::*;
+
+mod eagle;
 
 const CODES: [u32; 6] = [1, 2, 3, 4, 5, 8];
 
