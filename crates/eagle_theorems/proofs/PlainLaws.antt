@@ -3,7 +3,7 @@
 use mathlib.Core.Path.{_≡_, refl, sym, ap, ap₂, _∙_, subst}
 use mathlib.Core.List.{List, [], _∷_, _++_, map, map-append, append-assoc, append-nil}
 use mathlib.Core.Bool.{Bool, true, false, not}
-use Prim.Native.Nat.{ℕ, zero, suc, _+_, _-_, _*_, _/_, _%_, _≤_, _<_}
+use Prim.Native.Nat.{ℕ, _+_, _-_, _*_, _/_, _%_, _≤_, _<_}
 use native.Mathlib.Nat.{mul-div-cancel, mul-mod-left}
 use native.Mathlib.Omega.{arith}
 use borrow.Author.Tests.{le-ltb, le-leb, eqb-true}
@@ -13,7 +13,6 @@ use lib.IntN.{ℤ}
 use Rattle.numbers.specs.Walk.{pick, walk, flat, sum, bytesAt}
 use Rattle.numbers.specs.BigEndian.{number}
 use Rattle.numbers.specs.TwosComplement.{signedOf}
-use Rattle.numbers.specs.Places.{bytePlace}
 use Rattle.numbers.specs.Cause.{refuseIf, then, firstOf}
 use Rattle.numbers.specs.Outcome.{taken, Outcome}
 use Rattle.numbers.specs.declared.Check.{Check}
@@ -32,14 +31,14 @@ use Rattle.headers.proofs.NumberLaws.{total}
 use Rattle.headers.proofs.Listed.{listed, header-listed}
 use Rattle.reel.specs.Layout.{Field, fieldsFrom, binaryWidths, binaryFields, traceWidths, traceFields, elevationScalar, coordinateScalar, fieldNumber, number16, samplesOf, intervalOf, codeOf, stride, strideIn, strideBy, wholeIn, overIn, tracesBy, strideOf, tracesOf}
 use Rattle.reel.specs.Causes.{mostSamples, mostTraces, mostInterval, neither, scalarCause, traceCauses, causesBy, causesOf, behindCausesBy, traceCausesBy}
-use Rattle.reel.specs.Meaning.{otherThan, filled, traceNumber, Header, headerOf, Trace, traceMeaning, Meaning, meaningBy, meaningOf, cardTextBy, binaryNumbers, blank}
+use Rattle.reel.specs.Meaning.{otherThan, filled, traceNumber, Header, traceMeaning, Meaning, meaningBy, meaningOf, cardTextBy, binaryNumbers, blank}
 use Rattle.reel.specs.NotNormal.{notNormalIn, notNormalAmong, notNormalBy, notNormalOf}
 use Rattle.reel.specs.declared.Kind.the-variants.{Plain, Eagle}
 use Rattle.reel.proofs.CheckLaws.{none-bad, SoundBy, fine-by}
 use Rattle.demands.proofs.Headers.{meaning-eq}
 use Rattle.read_reel.specs.Reading.{recordLengthBy, recordLengthOf, readCausesBy, readCauses, readEndBy, readEnd, readOutcomeBy, readOutcome}
 use Rattle.record.specs.Record.{recordOf, recordBy, recordLength}
-use Rattle.demands.proofs.From.{From, from-start, from-at, from-length, from-next, from-parts, from-bytes, from-behind, from-walk}
+use Rattle.demands.proofs.From.{From, from-start, from-length, from-next, from-parts, from-bytes, from-behind, from-walk}
 use Rattle.eagle_theorems.specs.PlainReel.{bareTrace, plainReel}
 
 -- ## Parts that were copied

@@ -5,7 +5,7 @@
 use mathlib.Core.Path.{_≡_, refl, sym, ap, _∙_}
 use mathlib.Core.List.{List}
 use mathlib.Core.Bool.{not}
-use Prim.Native.Nat.{ℕ, _+_, _-_, _*_, _≤_, _<_}
+use Prim.Native.Nat.{ℕ, _+_, _-_, _*_, _≤_}
 use native.Mathlib.Omega.{arith}
 use lib.Dec.{ltb, eqb}
 use lib.ListN.{length}
@@ -14,7 +14,7 @@ use Rattle.numbers.specs.Cause.{refuseIf, firstOf}
 use Rattle.numbers.specs.declared.Check.{Check}
 use Rattle.numbers.specs.declared.Check.the-variants.{Fine, Refused}
 use Rattle.numbers.specs.Iff.{Iff}
-use Rattle.numbers.specs.Terms.{atPlace, Between}
+use Rattle.numbers.specs.Terms.{atPlace}
 use Rattle.numbers.proofs.CauseLaws.{then-fine}
 use Rattle.numbers.proofs.RowLaws.{Tests, then-row, then-first, then-second, fine-where, refused-where, holds-where, row-where, fine-then, refused-then, holds-then, row-then, no-row, test-same, test-room, not-enough, too-short, first-is, first-of, fine-none}
 use Rattle.formats.specs.Codes.{sampleBytes}

@@ -18,7 +18,7 @@ use mathlib.Core.Path.{_≡_, refl, sym, ap, ap₂, _∙_, subst}
 use mathlib.Core.List.{List, [], _∷_, _++_, map}
 use mathlib.Core.Logic.{_⊎_}
 use mathlib.Core.Bool.{true}
-use Prim.Native.Nat.{ℕ, _+_, _-_, _*_, _/_, _≤_, _<_}
+use Prim.Native.Nat.{ℕ, _+_, _*_, _≤_, _<_}
 use native.Mathlib.Nat.{zero-add}
 use native.Mathlib.Omega.{arith}
 use lib.Dec.{ltb}
@@ -38,10 +38,10 @@ use Rattle.numbers.proofs.RowLaws.{Tests, then-row, then-first, then-second, re
 use Rattle.numbers.proofs.SaidLaws.{says-refused, says-fine, says-either, refused-by, taken-by}
 use Rattle.formats.specs.Codes.{isCode, sampleBytes}
 use Rattle.formats.specs.Words.{isNormal}
-use Rattle.reel.specs.Layout.{number16, samplesOf, intervalOf, codeOf, strideIn, wholeIn, tracesBy, tracesOf}
+use Rattle.reel.specs.Layout.{samplesOf, intervalOf, codeOf, strideIn, wholeIn, tracesBy}
 use Rattle.reel.specs.Causes.{traceCauses, behindCausesBy, causesBy, causesOf}
 use Rattle.reel.specs.Meaning.{blank, traceMeaning, Meaning, cardTextBy, meaningBy, meaningOf, SameMeaning}
-use Rattle.reel.specs.NotNormal.{notNormalIn, notNormalAmong, notNormalBy, notNormalOf}
+use Rattle.reel.specs.NotNormal.{notNormalIn, notNormalAmong}
 use Rattle.reel.specs.declared.Kind.{Kind}
 use Rattle.reel.specs.declared.Kind.the-variants.{Plain, Eagle}
 use Rattle.record.specs.Record.{recordOf, recordBy, reelRecord, recordLength}
@@ -49,11 +49,11 @@ use Rattle.read_reel.specs.Reading.{recordLengthBy, readNumbersBy, readCausesBy
 use Rattle.write_reel.specs.Writing.{writeOutcome}
 use Rattle.reel_theorems.proofs.Output.{same-outputs}
 use Rattle.demands.specs.Words.{Worded}
-use Rattle.demands.specs.Results.{RecordRead, ReelAgain}
+use Rattle.demands.specs.Results.{RecordRead}
 use Rattle.demands.proofs.Demand1.{read-rest}
 use Rattle.demands.proofs.Demand2.{reading}
 use Rattle.demands.proofs.Demand3 as plain
-use Rattle.eagle_theorems.specs.EagleTable.{traceLength, traceCount, EagleRow, EagleReadRow, trailerEnd, Ends}
+use Rattle.eagle_theorems.specs.EagleTable.{traceLength, traceCount, EagleReadRow, trailerEnd, Ends}
 use Rattle.eagle_theorems.specs.PlainReel.{bareTrace, plainReel}
 use Rattle.eagle_theorems.specs.Results.{EagleRead, PlainAgain, AlikeButTrailers, example}
 use Rattle.eagle_theorems.proofs.Refusals.{exact-causes, no-cause}

@@ -1,7 +1,7 @@
 -- What reading an Eagle reel gives, what is written from its record, and when two Eagle reels differ in nothing but trailers and checks.
 use mathlib.Core.Path.{_≡_}
 use mathlib.Core.List.{List, [], _∷_, _++_}
-use Prim.Native.Nat.{ℕ, _+_, _-_, _*_, _/_, _≤_, _<_}
+use Prim.Native.Nat.{ℕ, _+_, _*_, _≤_, _<_}
 use lib.ListN.{length, getD, take, drop, replicate}
 use Rattle.numbers.specs.Outcome.{taken}
 use Rattle.numbers.specs.declared.Check.the-variants.{Fine}

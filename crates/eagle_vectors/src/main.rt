@@ -17,26 +17,6 @@ use libc::STDIN_FILENO;
 use libc::STDOUT_FILENO;
 use record::Counted;
 
-// The digest of some bytes.
-fn digest(bytes: &[u8]) -> u64 {
-    let mut d: u64 = 0;
-    let mut i = 0;
-    while i < bytes.len() {
-        d = (d % 0x1_0000_0000 * 31 + bytes[i] as u64) % 0x1_0000_0000;
-        i += 1;
-    }
-    d
-}
-
-// Fills an output with bytes A5.
-fn fill(out: &mut [u8]) {
-    let mut i = 0;
-    while i < out.len() {
-        out[i] = 0xa5;
-        i += 1;
-    }
-}
-
 // One space and a number.
 fn print_item(n: u64) {
     io::write_all(STDOUT_FILENO, b" ");
@@ -45,7 +25,7 @@ fn print_item(n: u64) {
 
 // The digest of the output, and the end of a line.
 fn print_digest(out: &[u8]) {
-    print_item(digest(out));
+    print_item(digests::digest(out));
     io::write_all(STDOUT_FILENO, b"\n");
 }
 
@@ -98,7 +78,7 @@ fn run_sized(call: u8, reel: &mut [u8], out: &mut [u8]) -> bool {
     if n < reel.len() {
         return refuse_case();
     }
-    fill(out);
+    digests::fill(0xa5, out);
     if call == 1 {
         run_plain(reel, out);
         return true;

@@ -22,26 +22,6 @@ use libc::STDOUT_FILENO;
 use listing::Listed;
 use record::Answer;
 
-// The digest of some bytes.
-fn digest(bytes: &[u8]) -> u64 {
-    let mut d: u64 = 0;
-    let mut i = 0;
-    while i < bytes.len() {
-        d = (d % 0x1_0000_0000 * 31 + bytes[i] as u64) % 0x1_0000_0000;
-        i += 1;
-    }
-    d
-}
-
-// Fills an output with bytes A5.
-fn fill(out: &mut [u8]) {
-    let mut i = 0;
-    while i < out.len() {
-        out[i] = 0xa5;
-        i += 1;
-    }
-}
-
 // One space and a number.
 fn print_item(n: u64) {
     io::write_all(STDOUT_FILENO, b" ");
@@ -57,7 +37,7 @@ fn print_end() {
 fn print_listed(length: usize, out: &[u8]) {
     io::write_all(STDOUT_FILENO, b"taken");
     print_item(length as u64);
-    print_item(digest(out));
+    print_item(digests::digest(out));
     print_end();
 }
 
@@ -67,7 +47,7 @@ fn print_taken(traces: usize, samples: usize, length: usize, out: &[u8]) {
     print_item(traces as u64);
     print_item(samples as u64);
     print_item(length as u64);
-    print_item(digest(out));
+    print_item(digests::digest(out));
     print_end();
 }
 
@@ -76,7 +56,7 @@ fn print_refused(number: u8, place: usize, out: &[u8]) {
     io::write_all(STDOUT_FILENO, b"refused");
     print_item(number as u64);
     print_item(place as u64);
-    print_item(digest(out));
+    print_item(digests::digest(out));
     print_end();
 }
 
@@ -121,7 +101,7 @@ fn blank(cards: &[u8]) -> bool {
 
 // The line of a case, and whether to go on.
 fn run(call: u8, record: &[u8], listing: &[u8], out: &mut [u8]) -> bool {
-    fill(out);
+    digests::fill(0xa5, out);
     if call == 1 {
         list(record, out);
         return true;

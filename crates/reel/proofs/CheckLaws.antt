@@ -23,7 +23,7 @@ use mathlib.Core.Logic.{⊎-elim}
 use Rattle.formats.proofs.CodeLaws.{width-high}
 use Rattle.reel.specs.Layout.{firstTrace, traceHeader, elevationScalar, coordinateScalar, number16, samplesOf, codeOf, intervalOf, stride, trailerBytes, strideIn, strideBy, overIn, tracesBy, tracesOf, strideOf}
 use Rattle.reel.specs.Parts.{wordRefused, traceHeaderCauses}
-use Rattle.reel.specs.Causes.{mostSamples, mostTraces, within, neither, allows, limitCausesBy, limitCauses, sizeCauses, scalarCause, wordCause, traceCauses, traceCausesBy, behindCausesBy, causesBy, causesOf}
+use Rattle.reel.specs.Causes.{mostSamples, mostTraces, within, neither, allows, limitCausesBy, sizeCauses, scalarCause, wordCause, traceCauses, traceCausesBy, behindCausesBy, causesBy, causesOf}
 use Rattle.reel.specs.declared.Kind.{Kind}
 use Rattle.reel.specs.declared.Kind.the-variants.{Plain, Eagle}
 

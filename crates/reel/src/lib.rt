@@ -9,7 +9,7 @@ ghost use Rattle.numbers.specs.declared.Check.the-variants.{Fine};
 ghost use Rattle.numbers.specs.Places.{placeNo, byteNo, bytePlace};
 ghost use Rattle.formats.specs.Codes.{isCode, sampleBytes};
 ghost use Rattle.reel.specs.Layout.{traceHeader, number16, trailerBytes, strideIn};
-ghost use Rattle.reel.specs.Causes.{mostSamples, within, neither, allows, limitCausesBy, sizeCauses, scalarCause, wordCause, traceCauses, trailerCause, traceCausesBy, behindCausesBy, causesBy, judgedBy, reelJudged};
+ghost use Rattle.reel.specs.Causes.{within, neither, allows, limitCausesBy, sizeCauses, scalarCause, wordCause, traceCauses, trailerCause, traceCausesBy, behindCausesBy, causesBy, judgedBy, reelJudged};
 ghost use Rattle.reel.specs.declared.Kind.the-variants.{Eagle};
 ghost use Rattle.reel.specs.Parts.{wordRefused, traceHeaderCauses};
 use numbers::ByteNo;

@@ -5,11 +5,11 @@
 use mathlib.Core.Path.{_≡_, refl, sym, ap, _∙_, subst}
 use mathlib.Core.List.{List, [], _∷_}
 use mathlib.Core.Logic.{_⊎_, inl, inr}
-use mathlib.Core.Bool.{Bool, true, false, not, _&&_, _||_}
+use mathlib.Core.Bool.{Bool, true, false, not}
 use Prim.Native.Nat.{ℕ, _+_, _-_, _*_, _^_, _≤_, _<_}
 use native.Mathlib.Nat.{div-add-mod'}
 use native.Mathlib.Omega.{arith}
-use borrow.Author.Tests.{lt-ltb, ltb-true, ltb-false, eqb-true, eqb-false, eq-eqb, ne-eqb, not-true, not-false}
+use borrow.Author.Tests.{lt-ltb, ltb-true, ltb-false, eqb-true, eqb-false, ne-eqb, not-true, not-false}
 use lib.Dec.{T, ltb, eqb}
 use lib.IntN.{natAbs}
 use lib.ListN.{length, getD}
@@ -32,7 +32,7 @@ use Rattle.numbers.proofs.WalkLaws.{four-bytes}
 use Rattle.scalars.specs.Scalar.{isAllowed}
 use Rattle.reel.specs.Layout.{Field, elevationScalar, coordinateScalar, fieldNumber, firstTrace, traceHeader, number16, samplesOf, intervalOf, codeOf, strideOf, wholeIn, overIn, tracesOf}
 use Rattle.reel.specs.Causes.{mostSamples, mostTraces, mostInterval, within, neither, limitCauses, sizeCauses, scalarCause, wordCause, traceCauses, behindCausesBy, behindCauses, causesBy, causesOf}
-use Rattle.reel_theorems.specs.ReelTable.{traceAt, sampleAt, wordAt, ZeroFirst, FiniteAt, HasValue, Headed, Whole, OwnNumbers, AllowedAt, Allowed, Passed, Until, ReelRow, short-reel, bad-code, bad-samples, bad-interval, left-over, many, bad-115, bad-117, bad-69, bad-71, bad-gain, not-finite}
+use Rattle.reel_theorems.specs.ReelTable.{traceAt, sampleAt, wordAt, ZeroFirst, FiniteAt, Headed, Whole, OwnNumbers, AllowedAt, Allowed, Passed, Until, ReelRow, short-reel, bad-code, bad-samples, bad-interval, left-over, many, bad-115, bad-117, bad-69, bad-71, bad-gain, not-finite}
 
 -- ## Headers and size
 

@@ -21,26 +21,6 @@ use libc::STDOUT_FILENO;
 use record::Answer;
 use record::Counted;
 
-// The digest of some bytes.
-fn digest(bytes: &[u8]) -> u64 {
-    let mut d: u64 = 0;
-    let mut i = 0;
-    while i < bytes.len() {
-        d = (d % 0x1_0000_0000 * 31 + bytes[i] as u64) % 0x1_0000_0000;
-        i += 1;
-    }
-    d
-}
-
-// Fills an output with bytes A5.
-fn fill(out: &mut [u8]) {
-    let mut i = 0;
-    while i < out.len() {
-        out[i] = 0xa5;
-        i += 1;
-    }
-}
-
 // One space and a number.
 fn print_item(n: u64) {
     io::write_all(STDOUT_FILENO, b" ");
@@ -57,7 +37,7 @@ fn print_first(length: usize, bytes: &[u8]) {
     if bytes.len() < length {
         return;
     }
-    print_item(digest(&bytes[..length]));
+    print_item(digests::digest(&bytes[..length]));
 }
 
 // The digest of the record that reading a written reel gives, and the count.
@@ -91,7 +71,7 @@ fn print_numbers(traces: usize, samples: usize, length: usize) {
 
 // The rest of it.
 fn print_written(length: usize, out: &[u8], again: &mut [u8]) {
-    print_item(digest(out));
+    print_item(digests::digest(out));
     if out.len() < length {
         return;
     }
@@ -104,7 +84,7 @@ fn print_refused(number: u8, place: usize, out: &[u8]) {
     io::write_all(STDOUT_FILENO, b"refused");
     print_item(number as u64);
     print_item(place as u64);
-    print_item(digest(out));
+    print_item(digests::digest(out));
     print_end();
 }
 
@@ -152,7 +132,7 @@ fn run_sized(near: u8, code: u8, record: &mut [u8], out: &mut [u8], again: &mut 
     if n < record.len() {
         return refuse_case();
     }
-    fill(out);
+    digests::fill(0xa5, out);
     if near == 0 {
         run_exact(code as u32, record, out, again);
         return true;

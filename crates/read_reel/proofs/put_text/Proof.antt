@@ -4,11 +4,9 @@ use Rattle.reel.specs.Layout.{cardBytes}
 use Rattle.reel.specs.Meaning.{blank, cardTextBy}
 use Rattle.reel.specs.declared.Kind.{Kind}
 use Rattle.cards.proofs.EightLaws.{cards-put}
-use Rattle.record.proofs.HeaderLaws.{size-text}
 use Rattle.numbers.proofs.WalkLaws.{bytes-between}
 use Rattle.numbers.specs.Walk.{bytesAt, overwritten}
 use Rattle.numbers.specs.BigEndian.{bytesOf}
-use lib.ListN.{length}
 use mathlib.Core.List.{List, map}
 use Prim.Native.Nat.{ℕ}
 use mathlib.Core.Path.{_≡_, refl, sym, ap, _∙_}

@@ -6,7 +6,7 @@ use Rattle.numbers.proofs.ByteLaws.{all-bytes}
 use Rattle.reel.specs.Layout.{stride}
 use lib.Seq.{length-take-le}
 use Prim.Native.Nat.{ℕ, _≤_}
-use mathlib.Core.Path.{sym, subst, _∙_}
+use mathlib.Core.Path.{sym, subst}
 use native.Mathlib.Omega.{arith}
 use borrow.Author.Needs.{needs}
 use Rattle.read_reel.proofs.read_checked.Statement.{statement}

@@ -7,7 +7,7 @@ use Rattle.formats.specs.Codes.{isCode}
 use Rattle.reel.specs.declared.Kind.{Kind}
 use Prim.Native.Nat.{ℕ}
 use mathlib.Core.Bool.{Bool, not}
-use mathlib.Core.Path.{_≡_, sym, ap, ap₂, _∙_}
+use mathlib.Core.Path.{sym, ap, ap₂, _∙_}
 use borrow.Author.Needs.{needs}
 use Rattle.reel.proofs.check_allowed.Statement.{statement}
 use Rattle.reel.proofs.check_allowed.Tie as tie

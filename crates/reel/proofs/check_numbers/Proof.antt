@@ -4,8 +4,8 @@ use Rattle.reel.specs.Causes.{behindCausesBy}
 use Rattle.reel.specs.Layout.{strideIn}
 use Rattle.numbers.proofs.CauseLaws.{then-stop, then-next}
 use native.Mathlib.Nat.{mul-le-mul}
-use Prim.Native.Nat.{ℕ, _*_, _≤_}
-use mathlib.Core.Path.{refl, sym, ap, _∙_}
+use Prim.Native.Nat.{_*_, _≤_}
+use mathlib.Core.Path.{sym, ap, _∙_}
 use native.Mathlib.Omega.{arith}
 use borrow.Author.Needs.{needs}
 use Rattle.reel.proofs.check_numbers.Statement.{statement}

@@ -1,0 +1,2 @@
+-- The digest of bytes.
+pub mod Digest
