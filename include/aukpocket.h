@@ -14,7 +14,8 @@
  *
  *   number  cause                                                     beside
  *    1      the reel has under 3,600 bytes                            its length
- *    2      the format code is not 1, 2, 3, 4, 5 or 8                 place 3224
+ *    2      the format code is not 1, 2, 3, 4, 5 or 8, or that of     place 3224
+ *           an Eagle reel is not 1
  *    3      the count of samples N is not 1 to 8,000                  place 3220
  *    4      the interval is not 1 to 32,767                           place 3216
  *    5      bytes after the last whole trace                          place of the first
@@ -39,6 +40,8 @@
  *   18      trace field 69 or 71 of a reel is not 0, 1, -1, or plus   its place
  *           or minus 10, 100, 1,000 or 10,000
  *   19      an IEEE word is an infinity or a not-a-number             its place
+ *   20      the last two bytes of an Eagle reel's trailer are not     place of the first of the two
+ *           FFFF
  *
  * For a single word or pair the place beside 2, 9, 11, 13, 14 and 19 is 0.
  *
@@ -53,8 +56,8 @@
  *                E is 0, F * 2^-149, so that both zeros are 0 and subnormal numbers count; where E is 255 there is no value (19)
  *    8     1     whole number
  *
- * Codes 5 and 8 are those of revision 1 of SEG-Y. They are taken on every reel and by the code alone: nothing else of revision 1 is looked
- * at or written, and a reel of earlier days whose code 5 means 36-bit words is judged as one of IEEE words.
+ * Codes 5 and 8 are those of revision 1 of SEG-Y. They are taken on every reel but an Eagle reel (below), and by the code alone: nothing
+ * else of revision 1 is looked at or written, and a reel of earlier days whose code 5 means 36-bit words is judged as one of IEEE words.
  *
  * Exact writing gives under code 1 the normal word (below), under code 4 the word with the smallest gain, and under the others the only
  * word of the value, of the two zeros of code 5 00000000. A value that no word of the code has is refused by 14.
@@ -66,11 +69,21 @@
  * `changed` is 0, the reel is that of exact writing and gives the record back; else it gives another record, nothing on the reel says so,
  * and the record alone is exact. No other call rounds.
  *
- * A record leaves out what carries no meaning in revision 0: bytes 3261 to 3600, and bytes 181 to 240 of each trace header. Reading
- * takes any bytes there and says nothing of them; writing sets them to 0. A caller who wants to know looks at the reel's bytes. A record
- * has no format code either, and of the spellings taken as one it has the meaning: a card byte 00 is a blank (40), a 0 in trace fields
- * 115 and 117 is the reel's number, a sample is its exact value, and so are elevations and coordinates. docs/FORMAT.md has both byte by
- * byte.
+ * Eagle reels are those of the OPSEIS Eagle recorder. A call of its own reads them; every other call takes a plain reel, or gives one. An
+ * Eagle reel is as a plain reel of code 1, the only code that it may have, but for two things. Each trace is followed by a trailer of 960
+ * bytes that ends in FFFF and counts as part of the trace, for 5 and 6 too. And columns 79 and 80 of card 40 hold a check: they are taken
+ * as blanks (40), whatever they hold. Header fields stand where they stand on a plain reel; trace field 169 is a bare number, which isn't
+ * applied to the samples. Trailers and checks carry no meaning. Reels on which the samples of dead stations were omitted aren't covered, and
+ * get the cause that their bytes lead to. The record is that of a plain reel of the same meaning, and tells nothing of the layout.
+ *
+ * Nothing on a reel says which layout it has, and some bytes are taken by both calls: each gives them the meaning, the count of traces too,
+ * that its own layout has. A caller who isn't sure asks both with an output of length 0: 10 means that no other cause applies.
+ *
+ * A record leaves out what carries no meaning in revision 0: bytes 3261 to 3600, and bytes 181 to 240 of each trace header; of an Eagle
+ * reel the trailers and that check too. Reading takes any bytes there, but for a trailer's FFFF, and says nothing of them; writing sets
+ * the former to 0. A caller who wants to know looks at the reel's bytes. A record has no format code either, and of the spellings taken as
+ * one it has the meaning: a card byte 00 is a blank (40), a 0 in trace fields 115 and 117 is the reel's number, a sample is its exact
+ * value, and so are elevations and coordinates. docs/FORMAT.md has both byte by byte.
  *
  * Elevations and depths (trace fields 41 to 65) have the scalar in field 69, coordinates (73 to 85) that in field 71: a positive one
  * multiplies, a negative one divides, 0 is taken as 1. Two reels count as equal by the scaled values of these fields, exactly, and not by
@@ -110,8 +123,8 @@ extern "C" {
  *   4  aukpocket_write_nearest, and `changed` at the end of aukpocket_reel_answer (0.5.0): what was compiled under 3 or before has to be
  *      compiled again
  *
- * aukpocket_blank_eight is there since 0.6.0, and the number stayed 4: all else is as it was, and what was compiled under 4 can be linked
- * as it is. */
+ * aukpocket_blank_eight is there since 0.6.0, aukpocket_read_eagle and number 20, which that call alone answers, since 0.7.0, and the
+ * number stayed 4: all else is as it was, and what was compiled under 4 can be linked as it is. */
 #define AUKPOCKET_VERSION 4
 
 /* What a call on a whole reel or record answers: the traces, the samples of each, and the length of what was written. Beside a listing
@@ -148,6 +161,11 @@ struct aukpocket_sample_answer {
  * first such word first, then 10. */
 struct aukpocket_reel_answer aukpocket_read_reel(const uint8_t *reel, size_t reel_length, uint8_t *record, size_t record_length);
 
+/* Reads an Eagle reel, writes its record to the front of `record`, and counts its words that aren't normal, all as aukpocket_read_reel does
+ * with a plain reel. A trace of N samples takes 1200 + 4 * N bytes of the reel, its trailer among them. Refuses by 1; by 2 where the code
+ * isn't 1; by 3 to 6 in that order; then trace by trace 7, 8, 18 by field 69, 18 by field 71, and 20; then 10. Never by 9 or 19. */
+struct aukpocket_reel_answer aukpocket_read_eagle(const uint8_t *reel, size_t reel_length, uint8_t *record, size_t record_length);
+
 /* Writes a record as a reel under a target code to the front of `reel`. A reel of T traces of N samples is 3600 + T * (240 + N * w)
  * bytes, w being the bytes of a sample under the code. Refuses by 11; then the record front to back, each field by 12 and then by 13;
  * then 14, first sample first; then 10. */
@@ -177,7 +195,7 @@ struct aukpocket_reel_answer aukpocket_take_cards(const uint8_t *record, size_t 
 
 /* Takes any eight card bytes as one number, the first of them its highest byte, and gives the number that has a blank (40) for each byte 00
  * and every other byte as it was. Each byte is replaced where it stands, so eight bytes that are loaded and stored in the machine's own
- * order come out the same. aukpocket_read_reel does this with all 3,200 card bytes, in 400 steps. */
+ * order come out the same. aukpocket_read_reel and aukpocket_read_eagle do this with all 3,200 card bytes, in 400 steps. */
 uint64_t aukpocket_blank_eight(uint64_t cards);
 
 /* One sample, from the four bytes of its word to the six of its canonical pair: the exponent in two bytes, the mantissa in four, both

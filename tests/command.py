@@ -29,6 +29,7 @@ sys.dont_write_bytecode = True
 TOP = Path(__file__).resolve().parents[1]
 sys.path[:0] = [str(TOP / "tools" / "vectors"), str(TOP / "tests")]
 
+import eagle  # noqa: E402
 import make_sample_reel  # noqa: E402
 import records  # noqa: E402
 import reels  # noqa: E402
@@ -79,18 +80,31 @@ def count_of(reel):
     return sum(not is_normal(reel[place : place + 4]) for start in starts for place in range(start + 240, start + 240 + 4 * n, 4))
 
 
-def warning(path, reel):
-    """What `read`, `info` and `verify` warn of: the bytes that the record leaves out and that aren't 0."""
+def warning(path, reel, trailer=0):
+    """What `read`, `info` and `verify` warn of: the bytes that the record leaves out and that aren't 0; of an Eagle reel, whose traces have
+    trailers, those of trailers and the check too."""
     n, code = (int.from_bytes(reel[place : place + 2], "big") for place in (3220, 3224))
+    size = trace_size(code, n)
+
+    def in_traces(first, end, what):
+        counts = [sum(map(bool, reel[place + first : place + end])) for place in range(3600, len(reel), size + trailer)]
+        some = [i for i, count in enumerate(counts, 1) if count]
+        return sum(counts), [f"{sum(counts)} of {what[0]} in {len(some)} of the {what[1]}, first in trace {some[0]}"] if some else []
+
+    def sentence(count, parts, one, more):
+        what = f"{one} that isn't 0" if count == 1 else f"{count} {more} that aren't 0"
+        return f"aukpocket: warning: {path}: the record leaves out {what}: {', and '.join(parts)}\n" if count else ""
+
     binary = sum(map(bool, reel[3260:3600]))
-    traces = [sum(map(bool, reel[place + 180 : place + 240])) for place in range(3600, len(reel), trace_size(code, n))]
-    parts = [f"{binary} of bytes 3261 to 3600"] if binary else []
-    if any(traces):
-        first = next(i for i, count in enumerate(traces, 1) if count)
-        parts.append(f"{sum(traces)} of bytes 181 to 240 in {sum(map(bool, traces))} of the trace headers, first in trace {first}")
-    count = binary + sum(traces)
-    what = "an unassigned byte that isn't 0" if count == 1 else f"{count} unassigned bytes that aren't 0"
-    return f"aukpocket: warning: {path}: the record leaves out {what}: {', and '.join(parts)}\n" if count else ""
+    count, parts = in_traces(180, 240, ("bytes 181 to 240", "trace headers"))
+    parts = ([f"{binary} of bytes 3261 to 3600"] if binary else []) + parts
+    said = sentence(binary + count, parts, "an unassigned byte", "unassigned bytes")
+    if trailer:
+        said += sentence(*in_traces(size, size + 958, ("bytes 1 to 958", "trailers")), "a trailer byte", "trailer bytes")
+        check = reel[3198:3200]
+        if check.replace(b"\0", b"\x40") != b"\x40\x40":
+            said += f"aukpocket: warning: {path}: the record leaves out the check in columns 79 and 80 of card 40, {check.hex().upper()}\n"
+    return said
 
 
 def with_signals(*ignored):
@@ -310,7 +324,8 @@ class Help(Case):
             ("verify",), ("verify", SAMPLE, SAMPLE, SAMPLE), ("check", SAMPLE), ("cards",), ("cards", SAMPLE, "x"),
             ("cards", SAMPLE, SAMPLE, "x", "y"), ("cards", SAMPLE, "--cards", 5), ("cards", SAMPLE, "--utf8", "--latin1"),
             ("cards", SAMPLE, "--force"), ("cards", SAMPLE, SAMPLE, "x"), ("cards", SAMPLE, SAMPLE, "x", "--utf-8"),
-            ("info", SAMPLE, "--utf8"), ("read", SAMPLE, "x", "--latin1"),
+            ("info", SAMPLE, "--utf8"), ("read", SAMPLE, "x", "--latin1"), ("read", "--eagle", SAMPLE), ("verify", "--eagle"),
+            ("check", "--eagle", SAMPLE), ("info", SAMPLE, "--eagle"), ("look", SAMPLE, 1, 115, "--eagle"), ("--eagle",),
         ):
             self.trouble(1, *words, cwd=self.folder)
         self.assertEqual(self.names(), [])
@@ -1546,6 +1561,444 @@ class Info(Case):
         self.assertIn(b"refused by 5: 600 bytes follow", run.stderr)
 
 
+TAKES_EAGLE = "; it is an Eagle reel, which `read --eagle` takes"
+TAKES_PLAIN = "; it is a plain reel, which `read` without --eagle takes"
+
+
+class Eagle(Case):
+    """Eagle reels: `read`, `verify` and `check` with --eagle, and what is said of them without it."""
+
+    def setUp(self):
+        super().setUp()
+        self.plain = SAMPLE.read_bytes()
+        self.sample = eagle.with_trailers(self.plain, [eagle.trailer()] * 6)
+        self.record = reels.record_of(self.plain)
+
+    def taken(self, reel):
+        """What each command says of an Eagle reel, and the record that it makes; which is the rules'. The reel is no plain one."""
+        (_, t, n, length, count), record = eagle.read_eagle(reel, 10**9)
+        path, output = self.file("a.sgy", reel), self.folder / "a.record"
+        warned = warning(path, reel, eagle.TRAILER)
+        extent = f"an Eagle reel, {t} trace{'s' * (t != 1)} of {n} sample{'s' * (n != 1)}"
+        words = f"none of {t * n} word{'s' * (t * n != 1)} not normal" if not count else (
+            f"{count} of {t * n} word{'s' * (t * n != 1)} not normal ({share(count, t * n)})")
+        self.assertEqual(self.fine("check", "--eagle", stdin=reel), f"taken {t} {n} {length} {count}\n")
+        self.assertEqual(self.fine("read", "--eagle", "--force", path, output, warned=warned), (
+            f"{path}: {extent}, {words}; {output}: its record, {length} bytes\n"))
+        self.assertEqual(output.read_bytes(), record)
+        self.assertEqual(self.fine("info", path, "--cards", 0, warned=warned), (
+            f"file      {path}, {len(reel)} bytes\nkind      Eagle reel, which `read --eagle` takes\ntraces    {t}\nsamples   {n} a trace\n"
+            f"interval  {int.from_bytes(reel[3216:3218], 'big')} microseconds\ncode      1, IBM floating point\n"
+            f"words     {re.sub(' words?', '', words)}\nrecord    {length} bytes\n"))
+        said = self.fine("verify", "--eagle", path, output, warned=warned)
+        self.assertEqual(said, (
+            f"# {output} is the record, byte for byte, of {path}: {extent}, {length} bytes; on the reel {words}\n"
+            f"{hashlib.sha256(reel).hexdigest()}  {path}\n{hashlib.sha256(record).hexdigest()}  {output}\n"))
+        said = self.fine("verify", "--eagle", path, warned=warned).splitlines()
+        self.assertEqual(said[0], f"{path}: {extent} in code 1, {len(reel)} bytes, {words}; its record, {length} bytes")
+        holding = [code for code in CODES if records.write_reel(record, code, 10**9)[0] == "taken"]
+        self.assertEqual(said[-1], "codes that hold it: " + " ".join(map(str, holding)))
+        for code, line in zip(CODES, said[1:-1]):
+            normal = ", and all words are normal" if code == 1 and count else ""
+            held = (f"code {code}: holds it; written as a plain reel ({3600 + t * trace_size(code, n)} bytes) and read again, "
+                    f"the record is the same{normal}")
+            self.assertTrue(line == held if code in holding else line.startswith(f"code {code}: doesn't hold it; refused by 14: "), line)
+        return record
+
+    def refused(self, reel, number, beside, *parts, hint=""):
+        """What is refused with --eagle, in one sentence, and with every output as it was. Behind it the sentence may have a hint."""
+        self.assertEqual(eagle.read_eagle(reel, 0)[0], ("refused", number, beside))
+        path, kept = self.file("bad.sgy", reel), self.file("kept", b"kept")
+        before = self.names()
+        said = [
+            self.trouble(2, "read", "--eagle", path, self.folder / "none"), self.trouble(2, "read", path, kept, "--force", "--eagle"),
+            self.trouble(2, "verify", path, "--eagle"), self.trouble(2, "verify", "--eagle", path, kept),
+            self.trouble(2, "check", "--eagle", stdin=reel, stdout=f"refused {number} {beside}\n"),
+        ]
+        self.assertEqual((self.names(), kept.read_bytes()), (before, b"kept"))
+        for sentence in said:
+            name, what = sentence.split(": ", 1)
+            self.assertIn(name, (str(path), "standard input"))
+            self.assertEqual(what, said[0].split(": ", 1)[1])
+            self.assertTrue(what.startswith(f"refused by {number}: "), what)
+            self.assertTrue(what.endswith(f"){hint}" if number > 1 else hint), what)
+            for part in parts:
+                self.assertIn(part, what)
+
+    def test_the_sample(self):
+        """With trailers it has the record that it has without, and so has a plain reel that is written from it."""
+        self.assertEqual(self.taken(self.sample), self.record)
+        path, kept = self.file("b.sgy", self.sample), self.file("b.record", self.record)
+        self.assertIn(f"is the record, byte for byte, of {path}: an Eagle reel, ", self.fine("verify", "--eagle", path, kept))
+        self.assertIn("is the record, byte for byte, of", self.fine("verify", SAMPLE, self.folder / "a.record"))
+        for code in (1, 4, 5):
+            written = self.folder / "c.sgy"
+            self.fine("write", self.folder / "a.record", code, written, "--force")
+            self.assertEqual(written.read_bytes(), records.reel_of(self.record, code))
+            self.assertIn("is the record, byte for byte, of", self.fine("verify", written, kept))
+        run = subprocess.run(["sha256sum", "-c", "--strict"], input=self.fine("verify", "--eagle", path, kept).encode(), capture_output=True)
+        self.assertEqual((run.returncode, run.stdout.decode()), (0, f"{path}: OK\n{kept}: OK\n"))
+
+    def test_any_bytes(self):
+        """Trailers, checks, headers, unassigned bytes and words of any content."""
+        rnd = random.Random(1992)
+        for n, t in ((1, 1), (1, 5), (2, 3), (3, 2), (7, 1), (100, 4), (239, 2), (8000, 2)):
+            reel = eagle.random_eagle(rnd, n, t, rnd.randint(1, 32767))
+            self.assertEqual(self.taken(reel), reels.record_of(eagle.without_trailers(reel)))
+        for rest in (bytes(958), b"\xff" * 958, b"\xff\xff" + bytes(956), self.plain[3600:4558]):
+            self.taken(eagle.example_eagle(rest))
+
+    def test_1_to_5(self):
+        rnd = random.Random(20)
+        good = eagle.random_eagle(rnd, 3, 2)  # traces of 1,212 bytes
+        self.refused(b"", 1, 0, "it has 0 bytes, and the cards and binary header of a reel alone have 3600")
+        self.refused(good[:3599], 1, 3599, "it has 3599 bytes")
+        for code in (2, 3, 4, 5, 8, *NO_CODES, -1):
+            self.refused(with_bytes(good, 3224, (code % 65536).to_bytes(2, "big")), 2, 3224, (
+                f"the format code is {code}, not 1, which every Eagle reel has (place 3224: binary header, field 3225, code)"))
+        for n in (0, 8001, -1):
+            self.refused(with_bytes(good, 3220, (n % 65536).to_bytes(2, "big")), 3, 3220, f"are {n}, not 1 to 8000 (place 3220: ")
+        for interval in (0, -1, -32768):
+            self.refused(with_bytes(good, 3216, (interval % 65536).to_bytes(2, "big")), 4, 3216, f"is {interval}, not 1 to 32767 (place 3216: ")
+        # Cut in a trailer, at its start and before its end, in the samples, in a header; and bytes behind the last trailer.
+        for length, count in (
+            (6024, 0), (6023, 1211), (6022, 1210), (5065, 253), (5064, 252), (5063, 251), (4813, 1), (4812, 0), (4811, 1211), (3853, 253),
+            (3851, 251), (3601, 1),
+        ):
+            if count == 0:
+                self.fine("check", "--eagle", stdin=good[:length])
+                continue
+            place = length - count
+            trace = (place - 3600) // 1212 + 1
+            self.refused(good[:length], 5, place, (
+                f"{count} bytes follow the last whole trace (place {place}: trace {trace} would take 1212 bytes with its trailer)"))
+        self.refused(good + b"\0", 5, 6024, "1 bytes follow", "trace 3 would take 1212 bytes with its trailer")
+        self.refused(good + good[3600:4811], 5, 6024, "1211 bytes follow")
+
+    def test_6(self):
+        """The trailer counts where the traces are too many."""
+        trace = bytes(1202) + b"\xff\xff"
+        path = self.file("many.sgy", make_reel(2000, 1, 1) + trace * 100_001)
+        place = 3600 + 100_000 * 1204
+        with open(path, "rb") as file:
+            said = self.trouble(2, "check", "--eagle", stdin=file, stdout=f"refused 6 {place}\n")
+        self.assertIn(f"refused by 6: it has 100001 traces, more than 100000 (place {place}: trace 100001)", said)
+        os.truncate(path, place)
+        with open(path, "rb") as file:
+            self.assertEqual(self.fine("check", "--eagle", stdin=file), f"taken 100000 1 {3273 + 100_000 * 192} 0\n")
+
+    def of_traces(self, *faults):
+        """An Eagle reel of three traces of two samples, 1,208 bytes each, with these header numbers or ends of trailers by trace, from 1."""
+        traces = [make_trace([bytes.fromhex("41100000")] * 2) for _ in range(3)]
+        ends = [b"\xff\xff"] * 3
+        for trace, fault in faults:
+            if isinstance(fault, dict):
+                traces[trace - 1] = make_trace([bytes.fromhex("41100000")] * 2, fault)
+            else:
+                ends[trace - 1] = fault
+        return eagle.with_trailers(make_reel(500, 2, 1, traces), [eagle.trailer(end=end) for end in ends])
+
+    def test_7_8_and_18(self):
+        """At their places among traces with trailers."""
+        for trace in (1, 2, 3):
+            for fault, number, part in (
+                ({115: 3}, 7, "the sample count of a trace is 3, neither 0 nor the reel's 2"),
+                ({117: -500}, 8, "the sample interval of a trace is -500, neither 0 nor the reel's 500"),
+                ({69: 7}, 18, "the scalar of elevations and depths is 7, not 0, 1, -1, or"),
+                ({71: -10_001}, 18, "the scalar of coordinates is -10001, not 0, 1, -1, or"),
+            ):
+                byte_number, = fault
+                place = 3600 + (trace - 1) * 1208 + byte_number - 1
+                self.refused(self.of_traces((trace, fault)), number, place, part, f"(place {place}: trace {trace}, field {byte_number}, ")
+
+    def test_20(self):
+        """One of the two bytes, or both; the place of the first; in each trace after the others, and before the next trace."""
+        for trace in (1, 2, 3):
+            place = 3600 + trace * 1208 - 2
+            for end in (b"\xff\xfe", b"\xfe\xff", b"\x7f\xff", b"\xff\0", b"\0\xff", b"\0\0", b"\x40\x40", b"\xfe\xfe"):
+                self.refused(self.of_traces((trace, end)), 20, place, (
+                    f"refused by 20: the last two bytes of a trailer are {end.hex().upper()}, not FFFF "
+                    f"(place {place}: trace {trace}, byte 959 of its trailer)"))
+        wrong = b"\xff\0"
+        all_wrong = {115: 9, 117: 9, 69: 9, 71: 9}
+        self.refused(self.of_traces((1, wrong), (2, all_wrong), (2, wrong)), 20, 4806)
+        self.refused(self.of_traces((2, wrong), (3, all_wrong), (3, b"\0\xff")), 20, 6014)
+        for left, number, byte_number in (
+            ((115, 117, 69, 71), 7, 115), ((117, 69, 71), 8, 117), ((69, 71), 18, 69), ((71,), 18, 71),
+        ):
+            fault = {b: 9 for b in left}
+            self.refused(self.of_traces((1, fault), (1, wrong), (2, all_wrong)), number, 3600 + byte_number - 1)
+            self.refused(self.of_traces((2, fault), (2, wrong), (3, wrong)), number, 4808 + byte_number - 1)
+        # FFFF elsewhere is no end.
+        early = with_bytes(self.of_traces(), 4805, b"\xff\xff\0")
+        self.refused(early, 20, 4806, "are FF00, not FFFF")
+        self.refused(with_bytes(self.of_traces(), 4806, b"\0\0\xff\xff"), 20, 4806, "are 0000, not FFFF")
+        # Bytes after the last whole trace come first.
+        self.refused(self.of_traces((1, wrong)) + b"\0", 5, 7224)
+
+    def test_dead_stations(self):
+        """A dead trace (2 in field 29) with its samples is a trace as any; without them the reel has the cause that its bytes lead to."""
+        for trace in (1, 2, 3):
+            reel = self.of_traces((trace, {29: 2}))
+            self.assertEqual(signed(self.taken(reel), place_of_field(trace, 2, 29), 2), 2)
+            samples = 3600 + (trace - 1) * 1208 + 240
+            self.refused(reel[:samples] + reel[samples + 8 :], 5, 6016, "1200 bytes follow the last whole trace")
+
+    def test_columns_79_and_80(self):
+        """Of card 40 alone, and whatever they hold: blanks in the record, on a written reel and in what is shown."""
+        cards = self.sample[:3198]
+        for check in (b"\0\0", b"\x40\x40", b"\0\x40", b"\xe7\xf3", b"\x40\xc1", b"\xc1\0", b"\xff\xff", b"\x25\x0d", b"\x01\x0c"):
+            reel = cards + check + self.sample[3200:]
+            self.assertEqual(self.taken(reel), self.record)
+            path = self.folder / "a.sgy"
+            shown = self.fine("info", path, "--cards", 40, warned=warning(path, reel, eagle.TRAILER))
+            self.assertTrue(shown.endswith("  C40 END EBCDIC\n"), shown)
+        # Every other column is text, and as a plain reel these two are as well.
+        for place in (0, 78, 79, 3118, 3119, 3196, 3197):
+            for byte, held in ((b"\xc1", b"\xc1"), (b"\0", b"\x40"), (b"\xff", b"\xff")):
+                record = self.taken(with_bytes(self.sample, place, byte))
+                self.assertEqual(record, with_bytes(self.record, place_of_card(place), held))
+        path, output = self.file("plain.sgy", with_bytes(self.plain, 3198, b"\xc1\xc2")), self.folder / "plain.record"
+        self.fine("read", path, output)
+        self.assertEqual(output.read_bytes(), with_bytes(self.record, place_of_card(3198), b"\xc1\xc2"))
+        self.assertTrue(self.fine("info", path, "--cards", 40).endswith("AB\n"))
+
+    def test_what_carries_no_meaning(self):
+        """Reels that differ in trailers and checks alone have one record; what else differs is in it, field 169 as a bare number."""
+        rnd = random.Random(169)
+        plain, other = random_reel(rnd, 1, 4, 3), self.folder / "other.sgy"
+        self.taken(eagle.with_trailers(plain, [eagle.some_trailer(rnd) for _ in range(3)]))
+        for _ in range(5):
+            check = reels.some_bytes(rnd, 2)
+            reel = eagle.with_trailers(with_bytes(plain, 3198, check), [eagle.some_trailer(rnd) for _ in range(3)])
+            other.write_bytes(reel)
+            said = self.fine("verify", "--eagle", other, self.folder / "a.record", warned=warning(other, reel, eagle.TRAILER))
+            self.assertIn("is the record, byte for byte, of", said)
+        for factor in (0, 1, 2, 500, -1, -32768, 32767):
+            made = [make_trace([bytes.fromhex("41100000")], {169: factor * (i == 2)}) for i in (1, 2, 3)]
+            record = self.taken(eagle.with_trailers(make_reel(2000, 1, 1, made), [eagle.trailer()] * 3))
+            self.assertEqual([signed(record, place_of_field(i, 1, 169), 2) for i in (1, 2, 3)], [0, factor, 0])
+            self.assertEqual([record[place_of_pair(i, 1, 1) :][:6] for i in (1, 2, 3)], [pair_bytes(0, 1)] * 3)
+
+    def test_words_that_are_not_normal(self):
+        """Those of trailers aren't counted."""
+        odd = b"".join(NOT_NORMAL)
+        for traces, count in (([NORMAL, NORMAL], 0), ([NOT_NORMAL[:16], NORMAL], 16), ([NORMAL, NOT_NORMAL[:16]], 16)):
+            plain = make_reel(2000, 16, 1, [make_trace(words) for words in traces])
+            reel = eagle.with_trailers(plain, [eagle.trailer((odd * 9)[:958])] * 2)
+            self.taken(reel)
+            self.assertEqual(self.fine("check", "--eagle", stdin=reel), f"taken 2 16 3837 {count}\n")
+
+    def test_left_out(self):
+        """Unassigned bytes, trailer bytes before FFFF and a check are told, and nothing else is."""
+        size = 2160
+        for places in (
+            (), (3260, 3599), (3600 + 180,), (3600 + size + 239,), (3600 + 1200,), (3600 + 1200 + 957,), (3600 + 5 * size + 1200 + 500,), (3198,),
+            (3199,), (3300, 3600 + size + 200, 3600 + size + 1200, 3600 + 2 * size + 1201, 3198, 3199), (3197, 3600 + 241, 3600 + 1199),
+        ):
+            reel = self.sample
+            for place in places:
+                reel = with_bytes(reel, place, bytes([1 + place % 255]))
+            self.taken(reel)
+        path = self.file("a.sgy", with_bytes(with_bytes(self.sample, 3500, b"\x01"), 3600 + size + 1200, b"\x07\x07\x07"))
+        path.write_bytes(with_bytes(path.read_bytes(), 3198, b"\x12\xab"))
+        self.fine("info", path, warned="".join(f"aukpocket: warning: {path}: the record leaves out {what}\n" for what in (
+            "an unassigned byte that isn't 0: 1 of bytes 3261 to 3600",
+            "3 trailer bytes that aren't 0: 3 of bytes 1 to 958 in 1 of the trailers, first in trace 2",
+            "the check in columns 79 and 80 of card 40, 12AB")))
+
+    def both(self, reel):
+        """Bytes that both layouts take: each gives them its own meaning, T included, and each command says that there is another. T of each."""
+        path, output, wrong = self.file("both.sgy", reel), self.folder / "both.record", self.folder / "wrong.record"
+        plain, other = reels.read_reel(reel, 10**9), eagle.read_eagle(reel, 10**9)
+
+        def extent(t, n):
+            return f"{t} trace{'s' * (t != 1)} of {n} samples"
+
+        for option, mine, theirs, kind, trailer in (
+            ((), plain, other, "an Eagle reel, {}, which `read --eagle` takes", 0),
+            (("--eagle",), other, plain, "a plain reel, {}, which `read` without --eagle takes", eagle.TRAILER),
+        ):
+            (_, t, n, length, count), record = mine
+            wrong.write_bytes(theirs[1])
+            also = kind.format(extent(theirs[0][1], n)) + ": each layout gives the bytes its own meaning"
+            left_out = warning(path, reel, trailer)
+            warned = f"{left_out}aukpocket: warning: {path}: it is also {also}\n"
+            said = self.fine("read", path, output, "--force", *option, warned=warned)
+            self.assertTrue(said.startswith(f"{path}: {'an Eagle reel, ' if option else ''}{extent(t, n)}, "), said)
+            self.assertEqual(output.read_bytes(), record)
+            self.assertEqual(self.fine("check", *option, stdin=reel), f"taken {t} {n} {length} {count}\n")
+            self.fine("verify", path, *option, warned=warned)
+            self.assertIn("is the record, byte for byte, of", self.fine("verify", path, output, *option, warned=warned))
+            run = self.run_command("verify", path, wrong, *option)
+            said = run.stderr.decode()
+            self.assertEqual((run.returncode, said.count("\n")), (3, warned.count("\n") + 1))
+            self.assertTrue(said.startswith(f"{warned}aukpocket: {wrong}: isn't the record of {path}: "), said)
+            if not option:  # `info` and `look` go by the plain layout
+                said = self.fine("info", path, "--cards", 0, warned=left_out)
+                self.assertIn(f"\nkind      reel\ntraces    {t}\nsamples   {n} a trace\n", said)
+                self.assertTrue(said.endswith(f"\nrecord    {length} bytes\nalso      {also}\n"), said)
+                self.assertEqual(self.fine("look", path, t, 115), f"{n}\n")
+                self.assertIn(f"the reel has {t} traces", self.trouble(2, "look", path, t + 1, 115))
+        return plain[0][1], other[0][1]
+
+    def test_bytes_that_both_take(self):
+        zeros = make_reel(2000, 20, 1) + bytes(1278) + b"\xff\xff"
+        self.assertEqual(self.both(zeros), (4, 1))
+        self.assertEqual(self.both(with_bytes(zeros, 3198, b"\xc1\xc2")), (4, 1))
+        self.assertEqual(self.both(eagle.one_trace_or_four()), (4, 1))
+        for n, t, plain_t in ((60, 1, 3), (180, 1, 2), (240, 5, 9)):
+            self.assertEqual(self.both(eagle.both_layouts(n, t)), (plain_t, t))
+        # Without traces there is no more to say of them than of a plain reel.
+        for check in (b"\x40\x40", b"\xc1\xc2"):
+            path, record = self.file("none.sgy", with_bytes(make_reel(2000, 20, 1), 3198, check)), self.folder / "none.record"
+            self.assertIn("kind      reel\n", self.fine("info", path))
+            self.assertNotIn("also", self.fine("info", path))
+            self.fine("read", path, record, "--force")
+            self.assertEqual(record.read_bytes()[3201:3203], check)
+            warned = warning(path, path.read_bytes(), eagle.TRAILER)
+            said = self.fine("read", "--eagle", path, record, "--force", warned=warned)
+            self.assertEqual(said, f"{path}: an Eagle reel, 0 traces of 20 samples; {record}: its record, 3273 bytes\n")
+            self.assertEqual(record.read_bytes()[3201:3203], b"\x40\x40")
+
+    def test_the_other_layout(self):
+        """A reel that is refused in one layout and taken in the other: each command says so behind the refusal."""
+        path, record = self.file("a.sgy", self.sample), self.file("a.record", self.record)
+        what = f"refused by 5: 960 bytes follow the last whole trace (place 15600: trace 11 would take 1200 bytes){TAKES_EAGLE}"
+        for words in (("read", path, self.folder / "none"), ("verify", path), ("verify", path, record), ("look", path, 1, 115)):
+            self.assertEqual(self.trouble(2, *words), f"{path}: {what}")
+        self.assertEqual(self.trouble(2, "check", stdin=self.sample, stdout="refused 5 15600\n"), f"standard input: {what}")
+        self.refused(self.plain, 5, 10_080, "trace 4 would take 2160 bytes with its trailer", hint=TAKES_PLAIN)
+        for code in (2, 3, 4, 5, 8):
+            self.refused(make_reel(2000, 2, code), 2, 3224, f"is {code}, not 1, which every Eagle reel has", hint=TAKES_PLAIN)
+        # By another cause than 5: the second plain trace would have a wrong count in the first trailer.
+        reel = with_bytes(make_reel(2000, 20, 1) + bytes(1278) + b"\xff\xff", 3920 + 114, b"\0\x07")
+        self.assertEqual(reels.read_reel(reel, 0)[0], ("refused", 7, 4034))
+        said = self.trouble(2, "read", self.file("b.sgy", reel), self.folder / "none")
+        self.assertTrue(said.endswith(f"(place 4034: trace 2, field 115, samples){TAKES_EAGLE}"), said)
+        self.taken(reel)
+        # And the other way: the last two bytes of four plain traces aren't FFFF.
+        self.refused(make_reel(2000, 20, 1) + bytes(1280), 20, 4878, "are 0000, not FFFF", hint=TAKES_PLAIN)
+
+    def test_damaged_in_either_layout(self):
+        """Where it has whole traces in the other layout alone, what that one refuses is said too; a record is called a record."""
+        damaged = with_bytes(self.sample, 3600 + 2 * 2160 - 1, b"\xfe")
+        path = self.file("a.sgy", damaged)
+        fault = "refused by 20: the last two bytes of a trailer are FFFE, not FFFF (place 7918: trace 2, byte 959 of its trailer)"
+        for words in (("read", path, self.folder / "none"), ("verify", path), ("info", path)):
+            said = self.trouble(2, *words, stdout=None)
+            self.assertTrue(said.startswith(f"{path}: refused by 5: ") and said.endswith(f"; as an Eagle reel it is {fault}"), said)
+        self.assertEqual(self.trouble(2, "read", "--eagle", path, self.folder / "none"), f"{path}: {fault}")
+        damaged = with_bytes(self.plain, 3714, b"\0\x07")
+        self.refused(damaged, 5, 10_080, hint=(
+            "; as a plain reel it is refused by 7: the sample count of a trace is 7, neither 0 nor the reel's 240 "
+            "(place 3714: trace 1, field 115, samples)"))
+        # Cut, it is none in either; nor is text.
+        self.refused(self.sample[:-1], 5, 14_400, "trace 6 would take 2160 bytes with its trailer")
+        self.assertNotIn("Eagle", self.trouble(2, "read", self.file("a.sgy", self.sample[:-1]), self.folder / "none"))
+        self.refused(b"text\n" * 2000, 2, 3224)
+        said = self.trouble(2, "read", "--eagle", self.file("a.record", self.record), self.folder / "none")
+        self.assertTrue(said.startswith(f"{self.folder}/a.record: is a record, not a reel: refused by 2: "), said)
+        self.assertTrue(said.endswith("(place 3224: binary header, field 3225, code)"), said)
+        # In the stead of a record an Eagle reel is called a reel, whole or damaged.
+        for reel in (self.sample, damaged, self.sample[:-1]):
+            said = self.trouble(2, "write", self.file("a.sgy", reel), 1, self.folder / "none")
+            self.assertIn("is a reel, not a record: refused by 12: ", said)
+        said = self.trouble(3, "verify", "--eagle", self.file("a.sgy", self.sample), self.folder / "a.sgy", stdout=None)
+        self.assertIn("it is a reel, not a record; keep the tape", said)
+
+    def test_which_kind(self):
+        """A file that begins as a record, is refused as one and taken as an Eagle reel alone is shown as that."""
+        reel = with_bytes(self.sample, 0, bytes.fromhex("010c80"))
+        self.assertIn("\nkind      Eagle reel, which `read --eagle` takes\n", self.fine("info", self.file("a.sgy", reel)))
+        self.assertTrue(self.trouble(2, "check", stdin=reel, stdout=None).endswith(TAKES_EAGLE))
+        run = self.run_command("info", self.file("a.sgy", reel[:-1]))
+        self.assertIn(b"kind      record, refused", run.stdout)
+
+    def test_damaged_reels(self):
+        """Whatever was done to a file, number and place are the rules' in either layout, and `info` goes by whichever takes it."""
+        rnd, seen = random.Random(2025), set()
+        for _ in range(120):
+            n, t = rnd.choice((1, 2, 20, 60)), rnd.randint(0, 3)
+            eagles = [eagle.random_eagle(rnd, n, t), eagle.random_eagle(rnd, n, t + 1)]
+            reel = bytearray(rnd.choice((*eagles, random_reel(rnd, 1, n, t), eagle.both_layouts(20, t + 1))))
+            ends = [eagle.place_of_end(start, signed(reel, 3220, 2)) + i for start in eagle.trace_starts(reel) for i in (0, 1)]
+            for _ in range(rnd.randint(0, 2)):
+                place = rnd.choice((rnd.randrange(len(reel)), rnd.randrange(3200, len(reel)), rnd.randrange(3216, 3226), *ends))
+                reel[place] = rnd.choice((0, 255, rnd.randrange(256)))
+            reel = bytes(reel)[: len(reel) - rnd.choice((0, 0, 0, 0, 1, 960))] + bytes(rnd.choice((0, 0, 0, 0, 5)))
+            path, said = self.file("reel", reel), {}
+            for options, rules in (((), reels.read_reel), (("--eagle",), eagle.read_eagle)):
+                said[options] = rules(reel, 10**9)[0]
+                line = " ".join(map(str, said[options])) + "\n"
+                if said[options][0] == "taken":
+                    self.assertEqual(self.fine("check", *options, stdin=reel), line)
+                    self.assertEqual(self.run_command("verify", path, *options).returncode, 0)
+                else:
+                    sentence = self.trouble(2, "check", *options, stdin=reel, stdout=line)
+                    self.assertIn(f": refused by {said[options][1]}: ", sentence)
+            (plain, number, *_), (other, other_number, *_) = said.values()
+            seen.add((plain, other))
+            run = self.run_command("info", path)
+            self.assertEqual(run.returncode, 0 if "taken" in (plain, other) else 2)
+            self.assertEqual(b"\nkind      Eagle reel, " in run.stdout, (plain, other) == ("refused", "taken"))
+            self.assertEqual(b"\nalso      an Eagle reel, " in run.stdout, (plain, other) == ("taken", "taken") and len(reel) > 3600)
+            faults = (plain, other) == ("refused", "refused") and number == 5 and other_number in (7, 8, 18, 20)
+            self.assertEqual(b"; as an Eagle reel it is refused by" in run.stderr, faults)
+            seen.add(faults)
+        self.assertEqual(len(seen), 4 + 2)
+
+    def test_the_option(self):
+        """It stands anywhere behind the command's name, and for three commands; behind `--` it is a name."""
+        path, record = self.file("a.sgy", self.sample), self.folder / "a.record"
+        for words in (
+            ("--eagle", path, record), (path, "--eagle", record, "--force"), (path, record, "--force", "--eagle"),
+            ("--eagle", "--eagle", "--force", "--", path, record),
+        ):
+            self.assertIn(": an Eagle reel, 6 traces", self.fine("read", *words))
+        for words in (("--eagle", path, record), (path, "--eagle", record), (path, record, "--eagle"), ("--eagle", "--", path, record)):
+            self.assertIn(": an Eagle reel, 6 traces", self.fine("verify", *words))
+        for words in (
+            ("write", record, 1, "x"), ("look", path, 0, "code"), ("info", path), ("cards", record), ("cards", record, path, "x", "--utf8"),
+        ):
+            name = words[0]
+            said = self.trouble(1, *words, "--eagle", cwd=self.folder)
+            self.assertEqual(said, f"{name}: there is no option `--eagle`; see `aukpocket {name} --help`")
+        for name in ("read", "verify", "check"):
+            self.assertIn("there is no option `--eagles`", self.trouble(1, name, "--eagles", cwd=self.folder))
+            self.assertIn("there is no option `--Eagle`", self.trouble(1, name, "--Eagle", cwd=self.folder))
+        self.assertEqual(self.names(), ["a.record", "a.sgy"])
+        self.fine("read", "--eagle", "--", "a.sgy", "--eagle", cwd=self.folder)
+        self.assertEqual((self.folder / "--eagle").read_bytes(), self.record)
+        self.trouble(1, "read", "a.sgy", "--", "--eagle", cwd=self.folder)  # it is there already
+
+    def test_an_existing_file_is_kept(self):
+        path, old = self.file("a.sgy", self.sample), self.file("old", b"old")
+        self.assertIn("is there already and is kept; --force replaces it", self.trouble(1, "read", "--eagle", path, old))
+        self.assertIn("is an input, which is never replaced", self.trouble(1, "read", "--eagle", "--force", path, path))
+        self.assertIn("File too large", self.trouble(
+            1, "read", "--eagle", "--force", path, old, preexec_fn=limited(resource.RLIMIT_FSIZE, 13028)))
+        self.assertEqual((old.read_bytes(), path.read_bytes(), self.names()), (b"old", self.sample, ["a.sgy", "old"]))
+        self.fine("read", "--eagle", "--force", path, old)
+        self.assertEqual(old.read_bytes(), self.record)
+
+    def test_where_it_is_explained(self):
+        for command in ("read", "verify", "check"):
+            said = self.fine(command, "--help")
+            self.assertIn(" [--eagle]", said.splitlines()[0])
+            self.assertIn("\n  --eagle   the reel is one of the Eagle recorder: each trace is followed by a trailer of 960 bytes", said)
+        self.assertIn("a line that begins with `also`", self.fine("info", "--help"))
+        for path, heading in (
+            ("docs/aukpocket.1", "\n.SH EAGLE REELS\n"), ("README.md", "\n## Eagle reels\n"), ("docs/FORMAT.md", "\n## The Eagle reel\n"),
+        ):
+            self.assertIn(heading, (TOP / path).read_text(encoding="utf-8"), path)
+        readme, header = ((TOP / path).read_text(encoding="utf-8") for path in ("README.md", "include/aukpocket.h"))
+        causes = [list(map(int, re.findall(pattern, text, re.M))) for pattern, text in (
+            (r"^\| (\d+) \| [^|]+ \| [^|]+ \|$", readme.split("| number | cause | beside it |")[1].split("\n\n")[0]),
+            (r"^ \* {3,4}(\d+) {6}\S", header.split("number  cause")[1].split("For a single word")[0]))]
+        self.assertEqual(causes, [list(range(1, 21))] * 2)
+
+
 # Locales of both kinds, by the variable that names them last.
 UTF8 = {"LC_ALL": "C.UTF-8"}
 ASCII = {"LC_ALL": "C"}
@@ -2173,6 +2626,14 @@ class Large(Case):
             f"making the record of {small}, 48 MB", f"writing {new}, 48 MB")))
         self.assertEqual(new.read_bytes(), output.read_bytes())
         new.unlink()
+        # So it is where each trace has a trailer.
+        longer = self.file("eagle.sgy", eagle.with_trailers(self.reel.read_bytes(), [eagle.trailer()] * self.T))
+        self.assertEqual(self.terminal("read", "--eagle", longer, new), "".join(f"aukpocket: {what}\n" for what in (
+            f"loading {longer}, 33 MB", f"making the record of {longer}, 48 MB", f"writing {new}, 48 MB")))
+        self.assertEqual(new.read_bytes(), output.read_bytes())
+        self.assertTrue(self.terminal("verify", "--eagle", longer, new).endswith(f"aukpocket: comparing {new}, 48 MB\n"))
+        longer.unlink()
+        new.unlink()
         self.assertEqual(self.terminal("write", output, 3, new, "--nearest"), "".join(f"aukpocket: {what}\n" for what in (
             f"loading {output}, 48 MB", f"making the reel of {output} in code 3, 16 MB", "reading the reel in code 3 again, 16 MB",
             f"writing {new}, 16 MB")))
@@ -2259,6 +2720,7 @@ WRONG_LIBRARY = r"""
 #include <stdlib.h>
 #include <string.h>
 struct aukpocket_reel_answer proved_read_reel(const uint8_t *, size_t, uint8_t *, size_t);
+struct aukpocket_reel_answer proved_read_eagle(const uint8_t *, size_t, uint8_t *, size_t);
 struct aukpocket_reel_answer proved_write_reel(const uint8_t *, size_t, uint32_t, uint8_t *, size_t);
 struct aukpocket_reel_answer proved_write_nearest(const uint8_t *, size_t, uint32_t, uint8_t *, size_t);
 struct aukpocket_reel_answer proved_list_cards(const uint8_t *, size_t, uint8_t *, size_t);
@@ -2267,7 +2729,9 @@ static int wrong(const char *way) { return getenv("WRONG") != NULL && strcmp(get
 static int reads;
 struct aukpocket_reel_answer aukpocket_read_reel(const uint8_t *reel, size_t reel_length, uint8_t *record, size_t record_length)
 {
-    struct aukpocket_reel_answer answer = proved_read_reel(reel, reel_length, record, record_length);
+    struct aukpocket_reel_answer trailer = {20, 0, 0, 0, 3846, 0, 0}, answer = proved_read_reel(reel, reel_length, record, record_length);
+    if (wrong("plain trailer"))
+        return trailer;
     reads += 1;
     if (wrong("byte") && reads == 2)
         record[answer.length - 8] ^= 0x02;
@@ -2288,6 +2752,24 @@ struct aukpocket_reel_answer aukpocket_read_reel(const uint8_t *reel, size_t ree
     if (wrong("normal again") && reads == 1)
         answer.not_normal = 3;
     if (wrong("read changed"))
+        answer.changed = 1;
+    return answer;
+}
+struct aukpocket_reel_answer aukpocket_read_eagle(const uint8_t *reel, size_t reel_length, uint8_t *record, size_t record_length)
+{
+    struct aukpocket_reel_answer refused = {0, 0, 0, 0, 3840, 0, 0}, answer = proved_read_eagle(reel, reel_length, record, record_length);
+    refused.number = wrong("eagle gain") ? 9 : wrong("eagle infinity") ? 19 : wrong("eagle number") ? 21 : 0;
+    if (refused.number != 0)
+        return refused;
+    if (wrong("eagle length"))
+        answer.length += 1;
+    if (wrong("eagle place"))
+        answer.beside = 1;
+    if (wrong("eagle many"))
+        answer.not_normal = answer.traces * answer.samples + 1;
+    if (wrong("eagle counted") && answer.number != 0)
+        answer.not_normal = 1;
+    if (wrong("eagle changed"))
         answer.changed = 1;
     return answer;
 }
@@ -2354,7 +2836,7 @@ class Wrong(Built):
 
     def test_verify_finds_a_difference(self):
         library, command = self.folder / "libaukpocket.a", self.folder / "command"
-        calls = ("read_reel", "write_reel", "write_nearest", "list_cards", "blank_eight")
+        calls = ("read_reel", "read_eagle", "write_reel", "write_nearest", "list_cards", "blank_eight")
         self.built("objcopy", *(f"--redefine-sym=aukpocket_{call}=proved_{call}" for call in calls), ARCHIVE, library)
         wrong = self.file("wrong.c", WRONG_LIBRARY.encode())
         self.built("cc", "-I", TOP / "include", "-c", wrong, "-o", self.folder / "wrong.o")
@@ -2364,18 +2846,20 @@ class Wrong(Built):
                    "-L", f"native={self.folder}", "-l", "static=aukpocket")
         self.built(*rustc, "--crate-name", "command", TOP / "cli/src/main.rs", "--extern", f"aukpocket={self.folder}/libaukpocket.rlib",
                    env={**os.environ, "CARGO_PKG_VERSION": "0.0.0"})
+        trailers = self.file("eagle.sgy", eagle.with_trailers(SAMPLE.read_bytes(), [eagle.trailer()] * 6))
         for way, code, part in (
             ("none", None, ""), ("byte", 1, "the records differ from place 13021 on"), ("count", 4, "the counts of the record differ"),
             ("own", 1, "refused by 14: "), ("valid", 4, "refused by 13: a card byte is 00"),
             ("normal", 1, "3 words of the written reel aren't normal"),
         ):
-            run = subprocess.run([command, "verify", SAMPLE], capture_output=True, text=True, env={"WRONG": way}, timeout=SECONDS)
-            if code is None:
-                self.assertEqual((run.returncode, run.stderr), (0, ""))
-                continue
-            self.assertEqual(run.returncode, 3, run)
-            self.assertIn(f"code {code}: DIFFERENT; {part}", run.stdout)
-            self.assertEqual(run.stderr, f"aukpocket: {SAMPLE}: came back otherwise in code {code}; keep the tape, and report this\n")
+            for path, *option in ((SAMPLE,), (trailers, "--eagle")):
+                run = subprocess.run([command, "verify", path, *option], capture_output=True, text=True, env={"WRONG": way}, timeout=SECONDS)
+                if code is None:
+                    self.assertEqual((run.returncode, run.stderr), (0, ""))
+                    continue
+                self.assertEqual(run.returncode, 3, run)
+                self.assertIn(f"code {code}: DIFFERENT; {part}", run.stdout)
+                self.assertEqual(run.stderr, f"aukpocket: {path}: came back otherwise in code {code}; keep the tape, and report this\n")
         # A length beyond the output is never believed, and no number of an answer is dropped.
         record = self.file("record", reels.record_of(SAMPLE.read_bytes()))
         cut, none = self.file("cut.sgy", SAMPLE.read_bytes()[:-1]), self.folder / "none"
@@ -2393,6 +2877,16 @@ class Wrong(Built):
             ("read changed", ("read", SAMPLE, none), "the library tells of 1 samples that changed where 0 were written by nearest values"),
             ("listed changed", ("cards", record), "the library tells of 1 samples that changed where 0 were written by nearest values"),
             ("written changed", ("write", record, "1", none), "the library tells of 1 samples that changed where 0 were written by nearest values"),
+            ("plain trailer", ("read", SAMPLE, none), "the library refuses a reel by 20, which is no cause in its layout"),
+            ("eagle gain", ("read", "--eagle", trailers, none), "the library refuses a reel by 9, which is no cause in its layout"),
+            ("eagle infinity", ("read", "--eagle", trailers, none), "the library refuses a reel by 19, which is no cause in its layout"),
+            ("eagle number", ("read", "--eagle", trailers, none), "the library refuses by 21, which is no cause"),
+            ("eagle length", ("read", "--eagle", trailers, none), "the library tells of 13030 bytes in an output of 13029"),
+            ("eagle place", ("read", "--eagle", trailers, none), "the library tells of a place without a cause"),
+            ("eagle many", ("read", "--eagle", trailers, none), "the library tells of 1441 words that aren't normal where 1440 were read"),
+            ("eagle counted", ("read", "--eagle", cut, none), "the library tells of counts beside a refusal"),
+            ("eagle changed", ("read", "--eagle", trailers, none),
+             "the library tells of 1 samples that changed where 0 were written by nearest values"),
             ("nearest unfit", ("write", record, "3", none, "--nearest"), "the library refuses nearest writing by 14"),
             ("nearest refused", ("write", record, "6", none, "--nearest"), "the library tells of counts beside a refusal"),
             ("nearest many", ("write", record, "3", none, "--nearest"),
@@ -2555,7 +3049,7 @@ class Synced(Built):
 # Every call by its declaration in the header.
 EVERY_CALL = r"""
 #include <string.h>
-static unsigned char reel[3848], record[3471], again[3848], listing[3241], out[3472];
+static unsigned char reel[3848], eagle[4808], record[3471], again[3848], listing[3241], out[3472];
 int main(void)
 {
     const unsigned char word[4] = {0xC2, 0x76, 0xA0, 0x00}, pair[6] = {0xFF, 0xFD, 0xFF, 0xFF, 0xFC, 0x4B};
@@ -2580,6 +3074,30 @@ int main(void)
         return 2;
     if (read.changed != 0 || written.changed != 0)
         return 34;
+    memcpy(eagle, reel, 3848); /* the same with a trailer and a check */
+    memset(eagle + 3848, 0x5A, 958);
+    eagle[3198] = 0xE7, eagle[3199] = 0xF3, eagle[4806] = eagle[4807] = 0xFF, out[3471] = 0xEE;
+    read = aukpocket_read_eagle(eagle, 4808, out, 3472);
+    if (read.number != 0 || read.traces != 1 || read.samples != 2 || read.length != 3471 || read.beside != 0 || read.not_normal != 0)
+        return 43;
+    if (read.changed != 0 || memcmp(record, out, 3471) != 0 || out[3471] != 0xEE)
+        return 44;
+    read = aukpocket_read_eagle(eagle, 4808, out, 3470);
+    if (read.number != 10 || read.traces != 0 || read.length != 0 || read.beside != 3471 || read.not_normal != 0)
+        return 45;
+    memcpy(eagle + 3840, words, 8);
+    read = aukpocket_read_eagle(eagle, 4808, out, 3472);
+    if (read.number != 0 || read.length != 3471 || read.not_normal != 2 || memcmp("\0\0\0\0\0\1", out + 3452, 6) != 0)
+        return 46;
+    memset(out, 0xEE, 3472);
+    eagle[4807] = 0xFE;
+    read = aukpocket_read_eagle(eagle, 4808, out, 3472);
+    if (read.number != 20 || read.traces != 0 || read.length != 0 || read.beside != 4806 || read.not_normal != 0)
+        return 47;
+    eagle[3225] = 2;
+    read = aukpocket_read_eagle(eagle, 4808, out, 3472);
+    if (read.number != 2 || read.beside != 3224 || out[0] != 0xEE || memcmp(out, out + 1, 3471) != 0)
+        return 48;
     written = aukpocket_write_reel(record, 3471, 2, again, 3848);
     if (written.number != 14 || written.traces != 0 || written.beside != 3458 || written.not_normal != 0 || written.changed != 0)
         return 3;

@@ -4,8 +4,8 @@
 
 The record that the command makes of the sample reel, and the reel itself, are decoded by tests/format_reader.py, which was written from
 the page alone, and compared with the numbers and values that tests/make_sample_reel.py made the reel of. So are records and reels in
-every code, and so are listings and the count of words that aren't normal. The page's example is held to the command's bytes, its way to
-find the power of a group to its rule, and its tables to the layout and to code page 037.
+every code, and Eagle reels, and so are listings and the count of words that aren't normal. The page's examples are held to the command's
+bytes, its way to find the power of a group to its rule, and its tables to the layout and to code page 037.
 """
 
 import random
@@ -21,10 +21,11 @@ sys.dont_write_bytecode = True
 TOP = Path(__file__).resolve().parents[1]
 sys.path[:0] = [str(TOP / "tools" / "vectors"), str(TOP / "tests")]
 
+import eagle  # noqa: E402
 import make_sample_reel as sample  # noqa: E402
 import reels  # noqa: E402
 from format_reader import (  # noqa: E402
-    GROUPS, POWERS, WIDTHS, is_normal, listing, not_normal, read_record, read_reel, word_value,
+    GROUPS, POWERS, TRAILER, WIDTHS, is_normal, listing, not_normal, read_eagle, read_record, read_reel, word_value,
 )
 
 PAGE = (TOP / "docs" / "FORMAT.md").read_text(encoding="utf-8")
@@ -35,9 +36,9 @@ def run(command, *words):
     subprocess.run([command, *map(str, words)], check=True, stdout=subprocess.DEVNULL, stderr=subprocess.DEVNULL, timeout=600)
 
 
-def record_of(command, folder, reel):
+def record_of(command, folder, reel, *options):
     (folder / "reel").write_bytes(reel)
-    run(command, "read", "--force", folder / "reel", folder / "record")
+    run(command, "read", *options, "--force", folder / "reel", folder / "record")
     return (folder / "record").read_bytes()
 
 
@@ -48,10 +49,10 @@ def check_listing(command, folder, record):
     assert printed == listing(read_record(record)[0])
 
 
-def check_count(command, reel):
+def check_count(command, reel, *options):
     """The count of words that aren't normal, the last item of the line that the command prints, is the reader's."""
-    line = subprocess.run([command, "check"], check=True, input=reel, stdout=subprocess.PIPE, timeout=600).stdout
-    assert line.split()[4:] == [b"%d" % not_normal(reel)], line
+    line = subprocess.run([command, "check", *options], check=True, input=reel, stdout=subprocess.PIPE, timeout=600).stdout
+    assert line.split()[4:] == [b"%d" % not_normal(reel, TRAILER if options else 0)], line
 
 
 def sample_meaning():
@@ -129,6 +130,28 @@ def check_scalars(command, folder, rnd):
             assert read_record(record) == read_reel(reel)
 
 
+def check_eagle(command, folder, rnd):
+    """Eagle reels, and the plain ones that have their records; and the page's example of bytes that are a reel in either layout."""
+    for n, t in ((1, 0), (1, 1), (2, 3), (500, 4)):
+        reel = eagle.random_eagle(rnd, n, t)
+        record = record_of(command, folder, reel, "--eagle")
+        assert read_record(record) == read_eagle(reel)
+        assert record == record_of(command, folder, eagle.without_trailers(reel))
+        check_count(command, reel, "--eagle")
+    part = PAGE.split("## The Eagle reel")[1].split("\n## ")[0]
+    both = example_bytes(part)
+    said = re.search(r"As a plain reel it has (\d) .*, is (\d+) × 16\^-70: its record has ([\d,]+) bytes. As an Eagle reel it has (\d) .* record has "
+                     r"([\d,]+) bytes", part)
+    plain_traces, last, plain_length, eagle_traces, eagle_length = (int(text.replace(",", "")) for text in said.groups())
+    assert len(both) == 4880
+    for read, options, traces, length, value in (
+        (read_reel, (), plain_traces, plain_length, Fraction(last, 16**70)), (read_eagle, ("--eagle",), eagle_traces, eagle_length, 0),
+    ):
+        record = record_of(command, folder, both, *options)
+        assert read_record(record) == read(both)
+        assert (len(read(both)[2]), len(record), read(both)[2][-1][1][-1]) == (traces, length, value)
+
+
 def check_page(command, folder):
     reel, record = map(example_bytes, PAGE.split("## An example")[1].split("Its record, of"))
     assert len(reel) == 3848 and reel == reels.example()
@@ -178,6 +201,7 @@ def main():
         folder = Path(folder)
         check_page(command, folder)
         check_scalars(command, folder, random.Random(69))
+        check_eagle(command, folder, random.Random(960))
         reel = sample.SAMPLE.read_bytes()
         meant = sample_meaning()
         assert read_record(record_of(command, folder, reel)) == meant
@@ -198,8 +222,8 @@ def main():
                 others += not_normal(reel)
                 count += n * t
     assert others > 50
-    said = (f"the page's examples and tables, its way to find a power, the sample's record, two listings and {count} further samples, "
-            f"{others} of them in words that aren't normal, agree")
+    said = (f"the page's examples and tables, its way to find a power, the sample's record, Eagle reels, two listings and {count} further "
+            f"samples, {others} of them in words that aren't normal, agree")
     print(f"format: {said}, {time.monotonic() - begun:.0f} s")
 
 

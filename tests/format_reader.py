@@ -2,6 +2,7 @@
 
     python3 tests/format_reader.py record FILE
     python3 tests/format_reader.py reel FILE
+    python3 tests/format_reader.py eagle FILE
 
 prints what the file means.
 """
@@ -17,6 +18,7 @@ WIDTHS = {
     },
 }
 INTERVAL, COUNT, CODE, TRACE_COUNT, TRACE_INTERVAL = 3217, 3221, 3225, 115, 117
+TRAILER = 960  # of an Eagle reel's trace
 
 # Elevations and depths, and coordinates, by the number that is their scalar; the power of ten that a scalar stands for.
 GROUPS = {69: (41, 45, 49, 53, 57, 61, 65), 71: (73, 77, 81, 85)}
@@ -95,23 +97,30 @@ def pair_value(pair):
     return value
 
 
-def read_reel(data):
-    """What a reel means, in the same form."""
+def read_reel(data, trailer=0):
+    """What a reel whose traces have trailers of that length means, in the same form."""
     binary = numbers("binary", data[3200:3260])
     interval, n, code = binary[INTERVAL], binary[COUNT], binary.pop(CODE)
-    check(len(data) >= 3600 and code in (1, 2, 3, 4, 5, 8) and 1 <= n <= 8000 and interval >= 1, "the headers")
+    check(len(data) >= 3600 and code in ((1,) if trailer else (1, 2, 3, 4, 5, 8)) and 1 <= n <= 8000 and interval >= 1, "the headers")
     width = {8: 1, 3: 2}.get(code, 4)
-    length = 240 + n * width
-    check((len(data) - 3600) % length == 0, "bytes after the last trace")
+    end = 240 + n * width
+    check((len(data) - 3600) % (end + trailer) == 0, "bytes after the last trace")
     traces = []
-    for start in range(3600, len(data), length):
+    for start in range(3600, len(data), end + trailer):
         header = numbers("trace", data[start : start + 180])
         check(header[TRACE_COUNT] in (0, n) and header[TRACE_INTERVAL] in (0, interval), "a trace header")
         header.update({TRACE_COUNT: n, TRACE_INTERVAL: interval})
-        words = data[start + 240 : start + length]
+        words = data[start + 240 : start + end]
         values = [word_value(code, words[i : i + width]) for i in range(0, len(words), width)]
         traces.append((scaled(header, {**POWERS, 0: 0, -1: 0}), values))
-    return card_text(data[:3200].replace(b"\x00", b"\x40")), binary, traces
+        check(not trailer or data[start + end + 958 : start + end + trailer] == b"\xff\xff", "the end of a trailer")
+    cards = data[:3198] + b"\x40\x40" if trailer else data[:3200]
+    return card_text(cards.replace(b"\x00", b"\x40")), binary, traces
+
+
+def read_eagle(data):
+    """What an Eagle reel means, in the same form."""
+    return read_reel(data, TRAILER)
 
 
 def word_value(code, word):
@@ -136,22 +145,23 @@ def is_normal(word):
     return word == bytes(4) if fraction == 0 else fraction >= 16**5 or characteristic == 0
 
 
-def not_normal(data):
+def not_normal(data, trailer=0):
     """How many words of a reel aren't normal, which are counted under code 1 alone."""
-    _, binary, traces = read_reel(data)
+    _, binary, traces = read_reel(data, trailer)
     if signed(data[CODE - 1 : CODE + 1]) != 1:
         return 0
-    length = 240 + 4 * binary[COUNT]
-    words = (data[place : place + 4] for start in range(3600, 3600 + len(traces) * length, length)
-             for place in range(start + 240, start + length, 4))
+    end = 240 + 4 * binary[COUNT]
+    words = (data[place : place + 4] for start in range(3600, 3600 + len(traces) * (end + trailer), end + trailer)
+             for place in range(start + 240, start + end, 4))
     return sum(not is_normal(word) for word in words)
 
 
 def main():
-    if len(sys.argv) != 3 or sys.argv[1] not in ("record", "reel"):
-        sys.exit("usage: format_reader.py record|reel FILE")
+    readers = {"record": read_record, "reel": read_reel, "eagle": read_eagle}
+    if len(sys.argv) != 3 or sys.argv[1] not in readers:
+        sys.exit("usage: format_reader.py record|reel|eagle FILE")
     with open(sys.argv[2], "rb") as file:
-        cards, binary, traces = {"record": read_record, "reel": read_reel}[sys.argv[1]](file.read())
+        cards, binary, traces = readers[sys.argv[1]](file.read())
     print(*cards, sep="\n")
     print("binary header", binary)
     for i, (header, values) in enumerate(traces, 1):

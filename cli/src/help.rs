@@ -8,7 +8,8 @@ pub fn all() -> String {
         "\
 aukpocket: SEG-Y revision 0 reels and their canonical records
 
-  aukpocket read REEL RECORD [--force]         make the record of a reel
+  aukpocket read REEL RECORD [--eagle] [--force]
+                                               make the record of a reel
   aukpocket write RECORD CODE REEL [--nearest] [--force]
                                                write a record as a reel in code {},
                                                exactly, or by the nearest values of the code
@@ -17,9 +18,9 @@ aukpocket: SEG-Y revision 0 reels and their canonical records
   aukpocket cards RECORD                       print the cards, 40 lines of 80 columns
   aukpocket cards RECORD LISTING NEWRECORD (--utf8 | --latin1) [--force]
                                                put the cards of an edited listing in a new record
-  aukpocket verify REEL                        write and read again in each code, and compare
-  aukpocket verify REEL RECORD                 compare a record on disk with its reel
-  aukpocket check                              print one line about the reel on standard input
+  aukpocket verify REEL [--eagle]              write and read again in each code, and compare
+  aukpocket verify REEL RECORD [--eagle]       compare a record on disk with its reel
+  aukpocket check [--eagle]                    print one line about the reel on standard input
 
   aukpocket COMMAND --help                     say more about one command
   aukpocket --version                          print the version
@@ -36,6 +37,9 @@ the exit status stays as it is.
 
 Of a reel in code 1 they also say how many words aren't normal: an old recorder, or a program in between,
 wrote them otherwise than a modern one does. The values are the same.
+
+With --eagle a reel is read as one of the Eagle recorder, which has a trailer behind each trace; without it,
+as a plain reel. info says when a file could be an Eagle reel. look and write know plain reels alone.
 
 Places are counted from 0, byte numbers, as in the standard, from 1. A whole reel and its record have
 to fit in memory.
@@ -55,8 +59,24 @@ there already is kept.
 
 const LEFT_OUT: &str = "
 The record leaves out bytes 3261 to 3600, and bytes 181 to 240 of each trace header, which carry no
-meaning in revision 0. Those that aren't 0 are counted, and a warning on standard error says how many;
-the exit status stays as it is.
+meaning in revision 0, and of an Eagle reel the trailers and the check. Those that aren't 0 are counted,
+but for FFFF at a trailer's end, and a warning on standard error says how many; another one has the check
+where it isn't blank. The exit status stays as it is.
+";
+
+const EAGLE: &str = "
+  --eagle   the reel is one of the Eagle recorder: each trace is followed by a trailer of 960 bytes that
+            ends in FFFF (else the reel is refused by 20), columns 79 and 80 of card 40 hold a check and
+            are taken as blanks, and the code is 1
+
+A record doesn't tell which layout its reel had: an Eagle reel and a plain one that mean the same have the
+same record. Nothing on a reel tells it either. Where a reel is refused, and the other layout takes it or at
+least has whole traces on it, the sentence says so.
+";
+
+const BOTH: &str = "
+Some bytes are taken as an Eagle reel and as a plain one, each with a meaning, and a count of traces, of its
+own. The option, or its absence, decides; a warning on standard error says that there is another meaning.
 ";
 
 const NOT_NORMAL: &str = "
@@ -84,11 +104,11 @@ Exit status: 0 fine, 1 wrong words or trouble with a file or memory, 2 refused.
 pub fn read() -> String {
     format!(
         "\
-aukpocket read REEL RECORD [--force]
+aukpocket read REEL RECORD [--eagle] [--force]
 
 Reads the reel and writes its canonical record: the cards, every header number and the exact value of
 every sample. Two reels have the same record exactly when they mean the same.
-{SCALARS}{NO_VALUE}{NOT_NORMAL}{LEFT_OUT}{OUTPUT}{STATUS}"
+{EAGLE}{BOTH}{SCALARS}{NO_VALUE}{NOT_NORMAL}{LEFT_OUT}{OUTPUT}{STATUS}"
     )
 }
 
@@ -97,7 +117,7 @@ pub fn write() -> String {
         "\
 aukpocket write RECORD CODE REEL [--nearest] [--force]
 
-Writes the record as a reel in a format code:
+Writes the record as a plain reel in a format code:
 
 {}
 A code that can't hold some sample exactly is refused by 14: without --nearest nothing is rounded. Reading
@@ -130,7 +150,8 @@ aukpocket look REEL TRACE BYTE
 Prints the signed number in one header field. TRACE is 0 for the binary header, 1 for the first trace.
 BYTE is the byte number at which the field begins, or its name. A 0 in trace fields 115 and 117 is
 taken as the reel's. All else is the bare number on the reel: no scalar (fields 69 and 71) is applied to
-elevations and coordinates. Any fault of the reel is refused first.
+elevations and coordinates. Any fault of the reel is refused first. The reel is a plain one; of an Eagle
+reel, look at a reel that was written from its record.
 {STATUS}
 Fields of the binary header (TRACE 0); samples is also called count:
 {}
@@ -150,6 +171,10 @@ Says by its content whether the file is a record or a reel: a record begins with
 010C80, and anything else is judged as a reel. Prints its length, the traces, the samples a trace, the
 interval and the code; for a record, the codes that hold it; and the first cards as text (EBCDIC code
 page 037, a dot for a control character). A refused file is shown as far as its headers go.
+
+A reel that isn't taken as a plain one and is taken as an Eagle reel is shown as such: `read --eagle` takes
+it. A reel that is taken as both is shown as a plain one, and a line that begins with `also` says what it is
+as an Eagle reel: each layout gives the bytes its own meaning.
 
   --cards COUNT   how many cards, 0 to 40; 5 unless given
 {NOT_NORMAL}
@@ -196,8 +221,8 @@ page 037 doesn't have, a control character as it is (a tab), and bytes that aren
 pub fn verify() -> String {
     format!(
         "\
-aukpocket verify REEL
-aukpocket verify REEL RECORD
+aukpocket verify REEL [--eagle]
+aukpocket verify REEL RECORD [--eagle]
 
 With a record, before a tape is destroyed: reads the reel and compares its record with the file RECORD,
 byte for byte. The file is read from the disk itself, where the system allows that. The first difference is
@@ -205,16 +230,16 @@ named by trace and field or sample; elevations and coordinates stand there as in
 scalar. What it prints can be kept and handed to `sha256sum -c`: the SHA-256 of both files, and a line that
 begins with # and says whether the file is the reel's record. The reel and its record have to fit in memory.
 
-Without one: reads the reel, writes its record in each format code, reads each written reel again and
-compares the records byte for byte. Says which codes hold the reel's samples exactly. The record, one
-written reel and a second record have to fit in memory.
+Without one: reads the reel, writes its record in each format code, as a plain reel, reads each written reel
+again and compares the records byte for byte. Says which codes hold the reel's samples exactly. The record,
+one written reel and a second record have to fit in memory.
 
 Neither writes a file.
-{NOT_NORMAL}
+{EAGLE}{BOTH}{NOT_NORMAL}
 So a reel written in the reel's own code may have other bytes than the reel, and the same record: where a
 word wasn't normal (in code 4: a gain wasn't the smallest; in code 5: a zero had a minus sign), a card byte
 was 00, trace field 115 or 117 was 0, elevations or coordinates had another scalar than the record's, or a
-byte is left out, as below.
+byte is left out, as below. No trailers are written.
 {LEFT_OUT}
 Exit status: 0 fine, 1 wrong words or trouble with a file or memory, 2 the reel is refused, 3 the file is
 not the reel's record; or a record came back otherwise or the reel's own code doesn't hold it, which must
@@ -226,17 +251,17 @@ never happen.
 pub fn check() -> String {
     format!(
         "\
-aukpocket check < REEL
+aukpocket check [--eagle] < REEL
 
 Reads a reel of any size from standard input and prints one line:
 
   taken T N LENGTH COUNT   T traces of N samples, the length of the record, and how many words aren't normal
   refused NUMBER BESIDE    the number of the cause, and the place or length beside it
 
-It is the line of the program check_reel without that program's limits: there is neither `too long` nor
-a refusal by 10. COUNT is 0 in every code but 1; `aukpocket read --help` says which words are normal. The
-reel and its record have to fit in memory.
+It is the line of the program check_reel, which knows plain reels alone, without that program's limits:
+there is neither `too long` nor a refusal by 10. COUNT is 0 in every code but 1; `aukpocket read --help` says
+which words are normal. The reel and its record have to fit in memory.
 Beside a refusal the sentence stands on standard error. Writes no file.
-{STATUS}"
+{EAGLE}{STATUS}"
     )
 }

@@ -1,11 +1,19 @@
 //! Where things stand on a reel and in a record. Only sizes and the sentences of refusals are worked out from here: what a reel holds is
 //! for the library to say.
 
-use aukpocket::{record_length, reel_length, Code};
+use aukpocket::{
+    blank_eight, read_eagle, read_reel, record_length, reel_length, Code, ReelRead, Refusal,
+};
 
 /// A reel's cards, and its cards and binary header.
 pub const CARDS: usize = 3200;
 pub const HEADERS: usize = 3600;
+
+/// A trace's header on a reel.
+pub const TRACE_HEADER: usize = 240;
+
+/// The place of columns 79 and 80 of card 40, where an Eagle reel has a check.
+pub const CHECK_PLACE: usize = CARDS - 2;
 
 /// The places on a reel of the interval, the samples a trace and the format code.
 pub const INTERVAL_PLACE: usize = 3216;
@@ -24,6 +32,60 @@ pub const FIRST_PAIR: usize = SAMPLES + TAG;
 /// The bytes of a pair, which is a sample of a record.
 pub const PAIR: usize = 6;
 
+/// The layouts of reels that are read. A reel doesn't say which it has.
+#[derive(Clone, Copy, PartialEq, Eq, Debug)]
+pub enum Layout {
+    /// That of 1975.
+    Plain,
+    /// That of the Eagle recorder: a trailer behind each trace, a check on card 40, and code 1 alone.
+    Eagle,
+}
+
+impl Layout {
+    /// Reads a reel of this layout.
+    pub fn read(self, reel: &[u8], record: &mut [u8]) -> Result<ReelRead, Refusal> {
+        match self {
+            Layout::Plain => read_reel(reel, record),
+            Layout::Eagle => read_eagle(reel, record),
+        }
+    }
+
+    /// The other one.
+    pub fn other(self) -> Layout {
+        match self {
+            Layout::Plain => Layout::Eagle,
+            Layout::Eagle => Layout::Plain,
+        }
+    }
+
+    /// A reel of this layout, in words, and what reads it.
+    pub fn named(self) -> (&'static str, &'static str) {
+        match self {
+            Layout::Plain => ("a plain reel", "`read` without --eagle"),
+            Layout::Eagle => ("an Eagle reel", "`read --eagle`"),
+        }
+    }
+
+    /// The bytes of a trace's trailer.
+    pub fn trailer(self) -> usize {
+        match self {
+            Layout::Plain => 0,
+            Layout::Eagle => 960,
+        }
+    }
+}
+
+/// The format code of a reel, as it stands.
+pub fn code_of(reel: &[u8]) -> u16 {
+    number(reel, CODE_PLACE)
+}
+
+/// The check of an Eagle reel, where it is anything but blanks.
+pub fn check_of(reel: &[u8]) -> Option<u16> {
+    let check = number(reel, CHECK_PLACE);
+    (blank_eight(check.into()) != blank_eight(0)).then_some(check)
+}
+
 /// The two-byte number at a place, 0 beyond the end.
 pub fn number(bytes: &[u8], place: usize) -> u16 {
     match place.checked_add(2).and_then(|end| bytes.get(place..end)) {
@@ -39,6 +101,8 @@ pub struct Shape {
     pub code: u16,
     pub sample_length: usize,
     pub trace_length: usize,
+    /// The bytes of a trace that its trailer takes.
+    pub trailer: usize,
     pub traces: usize,
     /// Whether nothing follows the last whole trace.
     pub whole: bool,
@@ -46,11 +110,12 @@ pub struct Shape {
 
 impl Shape {
     /// Of a reel. One that is too short for its headers has no traces. Without a code its samples count as four bytes each.
-    pub fn of_reel(reel: &[u8]) -> Shape {
-        let code = number(reel, CODE_PLACE);
+    pub fn of_reel(reel: &[u8], layout: Layout) -> Shape {
+        let code = code_of(reel);
         let samples = number(reel, COUNT_PLACE);
         let sample_length = Code::of(code.into()).map_or(4, |code| code.sample_length as usize);
-        let trace_length = 240 + sample_length * usize::from(samples);
+        let trailer = layout.trailer();
+        let trace_length = TRACE_HEADER + sample_length * usize::from(samples) + trailer;
         let traces = reel.len().saturating_sub(HEADERS) / trace_length;
         Shape {
             interval: number(reel, INTERVAL_PLACE),
@@ -58,6 +123,7 @@ impl Shape {
             code,
             sample_length,
             trace_length,
+            trailer,
             traces,
             whole: HEADERS + traces * trace_length == reel.len(),
         }
@@ -75,6 +141,7 @@ impl Shape {
             code: number(record, binary_place(3225)),
             sample_length,
             trace_length,
+            trailer: 0,
             traces,
             whole: FIRST_TRACE + 7 + traces * trace_length == record.len(),
         }

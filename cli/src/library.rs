@@ -44,6 +44,12 @@ mod c {
             record: *mut u8,
             record_length: usize,
         ) -> ReelAnswer;
+        pub fn aukpocket_read_eagle(
+            reel: *const u8,
+            reel_length: usize,
+            record: *mut u8,
+            record_length: usize,
+        ) -> ReelAnswer;
         pub fn aukpocket_write_reel(
             record: *const u8,
             record_length: usize,
@@ -118,7 +124,7 @@ pub struct WordRead {
     pub not_normal: bool,
 }
 
-/// A refusal: the number of its cause, 1 to 19, and what stands beside it: a place, counted from 0, or a length.
+/// A refusal: the number of its cause, 1 to 20, and what stands beside it: a place, counted from 0, or a length.
 #[derive(Clone, Copy, Debug, PartialEq, Eq)]
 pub struct Refusal {
     pub number: u64,
@@ -133,7 +139,7 @@ pub struct Code {
     pub sample_length: u64,
 }
 
-/// The format codes that there are. Every other is refused, by 2 on a reel and by 11 as a target.
+/// The format codes that there are. Every other is refused, by 2 on a reel and by 11 as a target. An Eagle reel has code 1 alone.
 pub const CODES: [Code; 6] = [
     Code {
         number: 1,
@@ -183,7 +189,7 @@ pub fn record_length(traces: u64, samples: u64) -> Option<u64> {
     traces.checked_mul(trace)?.checked_add(3273)
 }
 
-/// The bytes of a reel of that many traces and samples a trace, under a code. None where there is no such code.
+/// The bytes of a plain reel of that many traces and samples a trace, under a code. None where there is no such code.
 pub fn reel_length(traces: u64, samples: u64, code: u32) -> Option<u64> {
     let width = Code::of(code)?.sample_length;
     let trace = samples.checked_mul(width)?.checked_add(240)?;
@@ -192,11 +198,28 @@ pub fn reel_length(traces: u64, samples: u64, code: u32) -> Option<u64> {
 
 /// Reads a reel, writes its record to the front of the output, and counts its words that aren't normal.
 pub fn read_reel(reel: &[u8], record: &mut [u8]) -> Result<ReelRead, Refusal> {
+    read_by(c::aukpocket_read_reel, &[20], reel, record)
+}
+
+/// Reads an Eagle reel: as above, but each trace is followed by a trailer, and the code is 1.
+pub fn read_eagle(reel: &[u8], record: &mut [u8]) -> Result<ReelRead, Refusal> {
+    read_by(c::aukpocket_read_eagle, &[9, 19], reel, record)
+}
+
+/// A function of the C interface that reads a reel into a record.
+type Reading = unsafe extern "C" fn(*const u8, usize, *mut u8, usize) -> c::ReelAnswer;
+
+/// Reads a reel by such a function, which never refuses by these numbers.
+fn read_by(
+    call: Reading,
+    never: &[u64],
+    reel: &[u8],
+    record: &mut [u8],
+) -> Result<ReelRead, Refusal> {
     let room = record.len();
     // SAFETY: each pointer is a slice's own, with its length.
-    let answer =
-        unsafe { c::aukpocket_read_reel(reel.as_ptr(), reel.len(), record.as_mut_ptr(), room) };
-    reel_read(answer, room)
+    let answer = unsafe { call(reel.as_ptr(), reel.len(), record.as_mut_ptr(), room) };
+    reel_read(answer, never, room)
 }
 
 /// Writes a record as a reel under a target code to the front of the output.
@@ -342,8 +365,13 @@ fn answered(answer: c::ReelAnswer, room: usize) -> Result<Answered, Refusal> {
     })
 }
 
-/// What the answer of reading a reel says.
-fn reel_read(answer: c::ReelAnswer, room: usize) -> Result<ReelRead, Refusal> {
+/// What the answer of reading a reel says, in a layout that has no cause of these numbers.
+fn reel_read(answer: c::ReelAnswer, never: &[u64], room: usize) -> Result<ReelRead, Refusal> {
+    assert!(
+        !never.contains(&answer.number),
+        "the library refuses a reel by {}, which is no cause in its layout",
+        answer.number
+    );
     let Answered {
         taken,
         not_normal,
@@ -429,7 +457,7 @@ fn check_changed(changed: u64, samples: u64) {
 
 fn refusal(number: u64, beside: u64) -> Refusal {
     assert!(
-        number <= 19,
+        number <= 20,
         "the library refuses by {number}, which is no cause"
     );
     Refusal { number, beside }
@@ -494,6 +522,84 @@ mod tests {
         assert_eq!((refused.number, refused.beside), (12, 0));
         let refused = write_reel(&[], 257, &mut []).unwrap_err();
         assert_eq!((refused.number, refused.beside), (11, 0));
+    }
+
+    /// A reel of code 1 as an Eagle reel: with a trailer behind each trace, and a check in columns 79 and 80 of card 40.
+    fn as_eagle(reel: &[u8], samples: usize) -> Vec<u8> {
+        let mut eagle = reel[..3600].to_vec();
+        eagle[3198..3200].copy_from_slice(&[0x12, 0xC1]);
+        for trace in reel[3600..].chunks(240 + 4 * samples) {
+            eagle.extend(trace);
+            eagle.extend([0xA5; 958]);
+            eagle.extend([0xFF, 0xFF]);
+        }
+        eagle
+    }
+
+    /// An Eagle reel has the record of the plain reel that means the same; and what it is refused by.
+    #[test]
+    fn eagle_reels() {
+        let mut reel = example();
+        let second: Vec<u8> = reel[3600..].iter().map(|byte| byte | 0x02).collect();
+        reel.extend(&second);
+        for field in [68, 70, 114, 116] {
+            reel[3848 + field..][..2].fill(0);
+        }
+        let eagle = as_eagle(&reel, 2);
+        assert_eq!(eagle.len(), 3600 + 2 * 1208);
+        let (mut record, mut plain) = (vec![0xEE; 3669 + 5], vec![0xEE; 3669 + 5]);
+        let read = read_eagle(&eagle, &mut record).unwrap();
+        assert_eq!((read.traces, read.samples, read.length), (2, 2, 3669));
+        assert_eq!(read_reel(&reel, &mut plain), Ok(read));
+        assert_eq!(record, plain);
+        let refused = |eagle: &[u8], room: usize| {
+            let mut record = vec![0xEE; room];
+            let refused = read_eagle(eagle, &mut record).unwrap_err();
+            assert!(record.iter().all(|&byte| byte == 0xEE));
+            (refused.number, refused.beside)
+        };
+        assert_eq!(refused(&eagle, 3668), (10, 3669));
+        assert_eq!(refused(&eagle, 0), (10, 3669));
+        assert_eq!(refused(&eagle[..3599], 4000), (1, 3599));
+        assert_eq!(refused(&eagle[..eagle.len() - 1], 4000), (5, 4808));
+        assert_eq!(refused(&reel, 4000), (5, 3600));
+        assert_eq!(read_reel(&eagle, &mut []).unwrap_err().number, 5);
+        for (places, expected) in [
+            (&[3225][..], (2, 3224)),
+            (&[3216, 3217, 3220], (3, 3220)),
+            (&[3216], (4, 3216)),
+            (&[4806], (20, 4806)),
+            (&[4807], (20, 4806)),
+            (&[4806, 4807, 4808 + 115, 6015], (20, 4806)),
+            (&[3715, 4807], (7, 3714)),
+            (&[3717, 4807], (8, 3716)),
+            (&[3669, 4807], (18, 3668)),
+            (&[3671, 4807], (18, 3670)),
+            (&[4808 + 115, 6015], (7, 4808 + 114)),
+            (&[6015], (20, 6014)),
+        ] {
+            let mut damaged = eagle.clone();
+            for &place in places {
+                damaged[place] ^= 0x90;
+            }
+            assert_eq!(refused(&damaged, 4000), expected, "{places:?}");
+        }
+    }
+
+    /// Bytes that both calls take: four plain traces of 20 samples are as long as one with a trailer.
+    #[test]
+    fn both_layouts() {
+        let mut bytes = example();
+        bytes.truncate(3600);
+        bytes.resize(3600 + 1280, 0);
+        bytes[3221] = 20;
+        bytes[4878..].fill(0xFF);
+        let (mut record, mut eagle) = (vec![0; 4497], vec![0; 3579]);
+        let read = read_reel(&bytes, &mut record).unwrap();
+        assert_eq!((read.traces, read.samples, read.length), (4, 20, 4497));
+        let read = read_eagle(&bytes, &mut eagle).unwrap();
+        assert_eq!((read.traces, read.samples, read.length), (1, 20, 3579));
+        assert_eq!(record[..3572], eagle[..3572]);
     }
 
     /// Samples that become the nearest value, and those that have it already: the reel, the count, and what is left of the output.
@@ -788,18 +894,24 @@ mod tests {
             beside: 0,
             not_normal,
         };
-        let read_fails = |answer| catch_unwind(|| reel_read(answer, 9)).is_err();
+        let read_fails = |answer| catch_unwind(|| reel_read(answer, &[20], 9)).is_err();
+        let eagle_fails = |answer| catch_unwind(|| reel_read(answer, &[9, 19], 9)).is_err();
         let nearest_fails = |answer| catch_unwind(|| nearest_written(answer, 9)).is_err();
         let taken_fails = |answer| catch_unwind(|| taken(answer, 9)).is_err();
         let sample_fails =
             |answer, words| catch_unwind(|| sample_not_normal(answer, words)).is_err();
-        assert_eq!(reel_read(reel(0, 6, 0), 9).unwrap().not_normal, 6);
+        assert_eq!(reel_read(reel(0, 6, 0), &[20], 9).unwrap().not_normal, 6);
         assert!(read_fails(reel(0, 7, 0)));
         assert!(read_fails(reel(0, 6, 1)));
         assert!(read_fails(reel(5, 1, 0)));
         assert!(read_fails(reel(5, 0, 1)));
-        assert_eq!(reel_read(reel(19, 0, 0), 9).unwrap_err().number, 19);
+        assert_eq!(reel_read(reel(19, 0, 0), &[20], 9).unwrap_err().number, 19);
         assert!(read_fails(reel(20, 0, 0)));
+        assert_eq!(reel_read(reel(20, 0, 0), &[19], 9).unwrap_err().number, 20);
+        assert!(eagle_fails(reel(9, 0, 0)));
+        assert!(eagle_fails(reel(19, 0, 0)));
+        assert!(eagle_fails(reel(21, 0, 0)));
+        assert!(eagle_fails(reel(0, 7, 0)));
         assert_eq!(nearest_written(reel(0, 0, 6), 9).unwrap().changed, 6);
         assert!(nearest_fails(reel(0, 0, 7)));
         assert!(nearest_fails(reel(0, 1, 6)));

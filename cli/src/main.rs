@@ -24,7 +24,7 @@ use aukpocket::{
 };
 use files::{step, Target};
 use kinds::{is_record, is_reel, record_fault, reel_fault};
-use layout::Shape;
+use layout::{Layout, Shape};
 use listing::Encoding;
 use not_normal::NotNormal;
 use rounding::Rounding;
@@ -45,6 +45,7 @@ const FIRST_CARDS: usize = 5;
 struct Words {
     words: Vec<OsString>,
     force: bool,
+    layout: Layout,
     writing: Writing,
     cards: usize,
     encoding: Option<Encoding>,
@@ -123,7 +124,7 @@ static COMMANDS: [Command; 7] = [
         name: "read",
         words: &["REEL", "RECORD"],
         optional: &[],
-        options: &["--force"],
+        options: &["--eagle", "--force"],
         help: help::read,
         run: read,
     },
@@ -163,7 +164,7 @@ static COMMANDS: [Command; 7] = [
         name: "verify",
         words: &["REEL"],
         optional: &["RECORD"],
-        options: &[],
+        options: &["--eagle"],
         help: help::verify,
         run: verify,
     },
@@ -171,7 +172,7 @@ static COMMANDS: [Command; 7] = [
         name: "check",
         words: &[],
         optional: &[],
-        options: &[],
+        options: &["--eagle"],
         help: help::check,
         run: check,
     },
@@ -233,6 +234,7 @@ fn take_words(command: &Command, arguments: &[OsString]) -> Result<Option<Words>
     let mut taken = Words {
         words: Vec::new(),
         force: false,
+        layout: Layout::Plain,
         writing: Writing::Exact,
         cards: FIRST_CARDS,
         encoding: None,
@@ -249,6 +251,7 @@ fn take_words(command: &Command, arguments: &[OsString]) -> Result<Option<Words>
                 return Err(wrong(format!("there is no option `{option}`")));
             }
             Some("--force") if options => taken.force = true,
+            Some("--eagle") if options => taken.layout = Layout::Eagle,
             Some("--nearest") if options => taken.writing = Writing::Nearest,
             Some("--utf8") if options => taken.set_encoding(Encoding::Utf8).map_err(wrong)?,
             Some("--latin1") if options => taken.set_encoding(Encoding::Latin1).map_err(wrong)?,
@@ -314,9 +317,17 @@ fn print_bytes(bytes: &[u8]) -> Result<(), Trouble> {
         })
 }
 
+/// Warns of what the record of a reel that was taken leaves out, and of another meaning that the reel has in the other layout.
+fn warn_of_reel(reel: &[u8], layout: Layout, name: &str) {
+    warn_of_left_out(reel, layout, name);
+    if let Some(also) = kinds::also(reel, layout) {
+        warn(name, &format!("it is also {also}"));
+    }
+}
+
 /// Warns of what the record of a reel that was taken leaves out.
-fn warn_of_left_out(reel: &[u8], name: &str) {
-    if let Some(sentence) = left_out::warning(reel) {
+fn warn_of_left_out(reel: &[u8], layout: Layout, name: &str) {
+    for sentence in left_out::warnings(reel, layout) {
         warn(name, &sentence);
     }
 }
@@ -336,6 +347,15 @@ fn extent(traces: u64, samples: u64) -> String {
     )
 }
 
+/// The traces and samples of a reel that was read, and of which layout it is where that was asked for.
+fn extent_of(read: ReelRead, layout: Layout) -> String {
+    let extent = extent(read.traces, read.samples);
+    match layout {
+        Layout::Plain => extent,
+        Layout::Eagle => format!("{}, {extent}", layout.named().0),
+    }
+}
+
 /// How many words aren't normal, behind what joins it to a sentence; nothing where there is nothing to tell.
 fn joined(before: &str, counted: Option<NotNormal>) -> String {
     counted.map_or(String::new(), |counted| format!("{before}{counted}"))
@@ -343,18 +363,23 @@ fn joined(before: &str, counted: Option<NotNormal>) -> String {
 
 /// The record of a reel, and what reading answers. Its length is worked out from the reel's header; where that can't be, the library tells
 /// it.
-fn record_of(reel: &[u8], name: &str) -> Result<(Vec<u8>, ReelRead), Trouble> {
-    let mut room = Shape::of_reel(reel).record_length();
+fn record_of(reel: &[u8], layout: Layout, name: &str) -> Result<(Vec<u8>, ReelRead), Trouble> {
+    let mut room = Shape::of_reel(reel, layout).record_length();
     loop {
         step(format_args!("making the record of {name}"), room);
         let mut record = files::buffer(room, format_args!("{name}: its record"))?;
-        match read_reel(reel, &mut record) {
+        match layout.read(reel, &mut record) {
             Ok(read) => {
                 record.truncate(read.length);
                 return Ok((record, read));
             }
             Err(Refusal { number: 10, beside }) if beside > room => room = beside,
-            Err(refusal) => return Err(Trouble::refused(name, refusals::of_reel(reel, refusal))),
+            Err(refusal) => {
+                return Err(Trouble::refused(
+                    name,
+                    refusals::of_reel(reel, layout, refusal),
+                ));
+            }
         }
     }
 }
@@ -404,12 +429,12 @@ fn read(words: &Words) -> Result<(), Trouble> {
     let target = Target::new(to, words.force, &[from])?;
     let reel = files::load(from)?;
     let name = from.display().to_string();
-    let (record, read) = record_of(&reel, &name)?;
+    let (record, read) = record_of(&reel, words.layout, &name)?;
     target.put(&record)?;
-    warn_of_left_out(&reel, &name);
+    warn_of_reel(&reel, words.layout, &name);
     tell(&format!(
         "{name}: {}{}; {}: its record, {} bytes\n",
-        extent(read.traces, read.samples),
+        extent_of(read, words.layout),
         joined(", ", NotNormal::of(&reel, read)),
         to.display(),
         read.length
@@ -466,7 +491,7 @@ fn rounding_of(
         ))
     };
     let (back, read) = read_again(reel, code, record.len(), name)?
-        .map_err(|refusal| differs(refusals::of_reel(reel, refusal)))?;
+        .map_err(|refusal| differs(refusals::of_reel(reel, Layout::Plain, refusal)))?;
     if read.not_normal != 0 {
         let count = read.not_normal;
         return Err(differs(format!("{count} of its words aren't normal")));
@@ -535,22 +560,23 @@ fn info(words: &Words) -> Result<(), Trouble> {
 }
 
 fn info_of_reel(reel: &[u8], name: &str, cards: usize) -> Result<(), Trouble> {
-    let refusal = reel_fault(read_reel(reel, &mut []));
+    let (layout, refusal) = kinds::judged(reel);
     // Words are counted in reading alone, so the record is made, and dropped. In the other codes there is nothing to count.
     let counted = match refusal {
-        None if Shape::of_reel(reel).code == 1 => {
-            record_of(reel, name).map(|(_, read)| NotNormal::of(reel, read))
+        None if layout::code_of(reel) == 1 => {
+            record_of(reel, layout, name).map(|(_, read)| NotNormal::of(reel, read))
         }
         _ => Ok(None),
     };
-    let kind = match refusal {
-        None => "reel",
-        Some(Refusal { number: 1, .. }) => "neither a record nor as long as a reel",
-        Some(_) => "no record, and refused as a reel; its headers as they stand:",
+    let kind = match (refusal, layout) {
+        (None, Layout::Plain) => "reel",
+        (None, Layout::Eagle) => "Eagle reel, which `read --eagle` takes",
+        (Some(Refusal { number: 1, .. }), _) => "neither a record nor as long as a reel",
+        (Some(_), _) => "no record, and refused as a reel; its headers as they stand:",
     };
     let mut text = format!("file      {name}, {} bytes\nkind      {kind}\n", reel.len());
     if reel.len() >= layout::HEADERS {
-        let shape = Shape::of_reel(reel);
+        let shape = Shape::of_reel(reel, layout);
         // Without a code and samples a trace within their limits there are no traces to count.
         if !matches!(refusal, Some(Refusal { number: 2 | 3, .. })) {
             let _ = writeln!(text, "traces    {}", shape.traces);
@@ -568,13 +594,20 @@ fn info_of_reel(reel: &[u8], name: &str, cards: usize) -> Result<(), Trouble> {
         }
         if refusal.is_none() {
             let _ = writeln!(text, "record    {} bytes", shape.record_length());
+            if let Some(also) = kinds::also(reel, layout) {
+                let _ = writeln!(text, "also      {also}");
+            }
         }
-        add_cards(&mut text, &reel[..layout::CARDS], cards);
+        let mut card_bytes = reel[..layout::CARDS].to_vec();
+        if layout == Layout::Eagle {
+            card_bytes[layout::CHECK_PLACE..].fill(0); // which is shown as blanks
+        }
+        add_cards(&mut text, &card_bytes, cards);
     }
     print(&text)?;
     match refusal {
         None => {
-            warn_of_left_out(reel, name);
+            warn_of_left_out(reel, layout, name);
             if let Err(trouble) = counted {
                 warn(
                     &trouble.sentence,
@@ -583,7 +616,10 @@ fn info_of_reel(reel: &[u8], name: &str, cards: usize) -> Result<(), Trouble> {
             }
             Ok(())
         }
-        Some(refusal) => Err(Trouble::refused(name, refusals::of_reel(reel, refusal))),
+        Some(refusal) => Err(Trouble::refused(
+            name,
+            refusals::of_reel(reel, layout, refusal),
+        )),
     }
 }
 
@@ -755,20 +791,20 @@ fn put_cards(words: &Words) -> Result<(), Trouble> {
 
 fn verify(words: &Words) -> Result<(), Trouble> {
     match words.words.len() {
-        1 => verify_reel(words.path(0)),
-        _ => verify_record(words.path(0), words.path(1)),
+        1 => verify_reel(words.path(0), words.layout),
+        _ => verify_record(words.path(0), words.layout, words.path(1)),
     }
 }
 
 /// Compares a record on disk with the record of its reel. All of standard output can be handed to `sha256sum -c`.
-fn verify_record(reel_path: &Path, record_path: &Path) -> Result<(), Trouble> {
+fn verify_record(reel_path: &Path, layout: Layout, record_path: &Path) -> Result<(), Trouble> {
     let name = reel_path.display().to_string();
     let record_name = record_path.display().to_string();
     let (mut file, length) = files::open(record_path)?;
     let reel = files::load(reel_path)?;
-    let (record, read) = record_of(&reel, &name)?;
+    let (record, read) = record_of(&reel, layout, &name)?;
     let counted = joined("; on the reel ", NotNormal::of(&reel, read));
-    warn_of_left_out(&reel, &name);
+    warn_of_reel(&reel, layout, &name);
     step(format_args!("summing {name}"), reel.len() as u64);
     let reel_sum = sha256::sum(&reel);
     drop(reel);
@@ -788,7 +824,7 @@ fn verify_record(reel_path: &Path, record_path: &Path) -> Result<(), Trouble> {
     text.extend(
         format!(
             ": {}, {} bytes{counted}\n",
-            extent(read.traces, read.samples),
+            extent_of(read, layout),
             record.len()
         )
         .as_bytes(),
@@ -845,22 +881,26 @@ fn listed(path: &Path) -> (bool, Vec<u8>) {
     (name != bytes, name)
 }
 
-/// Writes a reel's record in each code and reads it again.
-fn verify_reel(path: &Path) -> Result<(), Trouble> {
+/// Writes a reel's record in each code, as plain reels, and reads it again.
+fn verify_reel(path: &Path, layout: Layout) -> Result<(), Trouble> {
     let name = path.display().to_string();
     let reel = files::load(path)?;
-    let (record, read) = record_of(&reel, &name)?;
-    let own = u32::from(Shape::of_reel(&reel).code);
+    let (record, read) = record_of(&reel, layout, &name)?;
+    let own = u32::from(layout::code_of(&reel));
     let counted = NotNormal::of(&reel, read);
     print(&format!(
         "{name}: {} in code {own}, {} bytes{}; its record, {} bytes\n",
-        extent(read.traces, read.samples),
+        extent_of(read, layout),
         reel.len(),
         joined(", ", counted),
         record.len()
     ))?;
-    warn_of_left_out(&reel, &name);
+    warn_of_reel(&reel, layout, &name);
     drop(reel);
+    let written = match layout {
+        Layout::Plain => "written",
+        Layout::Eagle => "written as a plain reel",
+    };
     let mut holding = Vec::new();
     let mut differences = Vec::new();
     for code in CODES.map(|code| code.number) {
@@ -872,7 +912,7 @@ fn verify_reel(path: &Path) -> Result<(), Trouble> {
                     Some(counted) if code == own && counted.any() => ", and all words are normal",
                     _ => "",
                 };
-                print(&format!("code {code}: holds it; written ({length} bytes) and read again, the record is the same{normal}\n"))?;
+                print(&format!("code {code}: holds it; {written} ({length} bytes) and read again, the record is the same{normal}\n"))?;
             }
             Again::Refused(sentence) if code != own => {
                 print(&format!("code {code}: doesn't hold it; {sentence}\n"))?;
@@ -917,7 +957,7 @@ fn again(record: &[u8], read: ReelRead, code: u32, name: &str) -> Result<Again, 
         }
     };
     Ok(match read_again(&reel, code, record.len(), name)? {
-        Err(refusal) => Again::Differs(refusals::of_reel(&reel, refusal)),
+        Err(refusal) => Again::Differs(refusals::of_reel(&reel, Layout::Plain, refusal)),
         Ok((_, ReelRead { not_normal, .. })) if not_normal != 0 => Again::Differs(format!(
             "{not_normal} words of the written reel aren't normal"
         )),
@@ -932,12 +972,12 @@ fn again(record: &[u8], read: ReelRead, code: u32, name: &str) -> Result<Again, 
     })
 }
 
-fn check(_: &Words) -> Result<(), Trouble> {
+fn check(words: &Words) -> Result<(), Trouble> {
     let reel = files::load_from(&mut io::stdin().lock(), 0, "standard input")?;
     step("checking standard input", reel.len() as u64);
-    match reel_fault(read_reel(&reel, &mut [])) {
+    match reel_fault(&reel, words.layout) {
         None => {
-            let (_, read) = record_of(&reel, "standard input")?;
+            let (_, read) = record_of(&reel, words.layout, "standard input")?;
             print(&format!(
                 "taken {} {} {} {}\n",
                 read.traces, read.samples, read.length, read.not_normal
@@ -947,7 +987,7 @@ fn check(_: &Words) -> Result<(), Trouble> {
             print(&format!("refused {} {}\n", refusal.number, refusal.beside))?;
             Err(Trouble::refused(
                 "standard input",
-                refusals::of_reel(&reel, refusal),
+                refusals::of_reel(&reel, words.layout, refusal),
             ))
         }
     }

@@ -1,6 +1,6 @@
 //! How many words of a reel aren't normal, for people.
 
-use crate::layout::Shape;
+use crate::layout::code_of;
 use aukpocket::ReelRead;
 use std::fmt;
 
@@ -18,7 +18,7 @@ impl NotNormal {
             count: read.not_normal,
             words: read.traces * read.samples,
         };
-        (Shape::of_reel(reel).code == 1 && counted.words > 0).then_some(counted)
+        (code_of(reel) == 1 && counted.words > 0).then_some(counted)
     }
 
     /// Whether some aren't normal.

@@ -3,9 +3,10 @@
 use crate::cards::{COLUMNS, COUNT};
 use crate::codes;
 use crate::fields::{header, meaning};
-use crate::kinds::{is_record, is_reel};
+use crate::kinds::{is_record, is_reel, reel_fault};
 use crate::layout::{
-    binary_place, number, Shape, BINARY, CARDS, FIRST_PAIR, FIRST_TRACE, HEADERS, SAMPLES, TAG,
+    binary_place, number, Layout, Shape, BINARY, CARDS, FIRST_PAIR, FIRST_TRACE, HEADERS, SAMPLES,
+    TAG, TRACE_HEADER,
 };
 use crate::listing::{exact, quoted, Edited};
 use crate::scalars::{self, COORDINATES, ELEVATIONS};
@@ -21,16 +22,26 @@ const ALLOWED: &str = "0, 1, -1, or plus or minus 10, 100, 1000 or 10000";
 const EARLIER: &str = "a damaged record is refused so, and one made before the rule of the smallest power: compare its SHA-256 with the \
                        one that was kept, then see EARLIER RECORDS in aukpocket(1), or README.md";
 
-/// A reel's refusal, by 1 to 10, 18 or 19. That it is a record is said first.
-pub fn of_reel(reel: &[u8], refusal: Refusal) -> String {
+/// The refusal of a reel that was read in a layout, by 1 to 10 or 18 to 20. That it is a record is said first; last, that the other layout
+/// takes it, or that it has whole traces in the other layout alone, and what that one refuses it by.
+pub fn of_reel(reel: &[u8], layout: Layout, refusal: Refusal) -> String {
+    let refused = as_reel(reel, layout, refusal);
     if is_record(reel) {
-        return format!("is a record, not a reel: {}", as_reel(reel, refusal));
+        return format!("is a record, not a reel: {refused}");
     }
-    as_reel(reel, refusal)
+    let other = layout.other();
+    let (kind, reads) = other.named();
+    match reel_fault(reel, other) {
+        None => format!("{refused}; it is {kind}, which {reads} takes"),
+        Some(fault) if refusal.number == 5 && fault.number > 6 => {
+            format!("{refused}; as {kind} it is {}", as_reel(reel, other, fault))
+        }
+        Some(_) => refused,
+    }
 }
 
-fn as_reel(reel: &[u8], refusal: Refusal) -> String {
-    let shape = Shape::of_reel(reel);
+fn as_reel(reel: &[u8], layout: Layout, refusal: Refusal) -> String {
+    let shape = Shape::of_reel(reel, layout);
     let place = place_of(refusal);
     let signed = number(reel, place) as i16;
     let what = match refusal.number {
@@ -40,7 +51,10 @@ fn as_reel(reel: &[u8], refusal: Refusal) -> String {
         ),
         2 => format!(
             "the format code is {signed}, not {} ({})",
-            codes::numbers(),
+            match layout {
+                Layout::Plain => codes::numbers(),
+                Layout::Eagle => "1, which every Eagle reel has".to_string(),
+            },
             binary_at(place)
         ),
         3 => format!(
@@ -52,10 +66,14 @@ fn as_reel(reel: &[u8], refusal: Refusal) -> String {
             binary_at(place)
         ),
         5 => format!(
-            "{} bytes follow the last whole trace (place {place}: trace {} would take {} bytes)",
+            "{} bytes follow the last whole trace (place {place}: trace {} would take {} bytes{})",
             reel.len().saturating_sub(place),
             shape.traces + 1,
-            shape.trace_length
+            shape.trace_length,
+            match layout {
+                Layout::Plain => "",
+                Layout::Eagle => " with its trailer",
+            }
         ),
         6 => format!(
             "it has {} traces, more than {MOST_TRACES} (place {place}: trace {})",
@@ -96,6 +114,11 @@ fn as_reel(reel: &[u8], refusal: Refusal) -> String {
                 reel_at(&shape, place)
             )
         }
+        20 => format!(
+            "the last two bytes of a trailer are {:04X}, not FFFF ({})",
+            number(reel, place),
+            reel_at(&shape, place)
+        ),
         _ => return other(refusal),
     };
     sentence(refusal, &what)
@@ -106,7 +129,7 @@ pub fn of_look_up(reel: &[u8], trace: usize, byte_number: u32, refusal: Refusal)
     let what = match refusal.number {
         15 => format!(
             "there is no trace {trace}: the reel has {} traces",
-            Shape::of_reel(reel).traces
+            Shape::of_reel(reel, Layout::Plain).traces
         ),
         16 => format!(
             "no assigned field of {} begins at byte number {byte_number}",
@@ -116,7 +139,7 @@ pub fn of_look_up(reel: &[u8], trace: usize, byte_number: u32, refusal: Refusal)
                 "a trace header"
             }
         ),
-        _ => return of_reel(reel, refusal),
+        _ => return of_reel(reel, Layout::Plain, refusal),
     };
     sentence(refusal, &what)
 }
@@ -234,14 +257,15 @@ fn reel_trace_at(shape: &Shape, place: usize) -> (usize, usize) {
 /// A place in a trace of a reel, by what it belongs to.
 fn reel_at(shape: &Shape, place: usize) -> String {
     let (trace, rest) = reel_trace_at(shape, place);
-    if rest < 240 {
-        format!("place {place}: trace {trace}, {}", field(trace, rest + 1))
+    let trailer = shape.trace_length - shape.trailer;
+    let part = if rest < TRACE_HEADER {
+        field(trace, rest + 1)
+    } else if rest < trailer {
+        format!("sample {}", (rest - TRACE_HEADER) / shape.sample_length + 1)
     } else {
-        format!(
-            "place {place}: trace {trace}, sample {}",
-            (rest - 240) / shape.sample_length + 1
-        )
-    }
+        format!("byte {} of its trailer", rest - trailer + 1)
+    };
+    format!("place {place}: trace {trace}, {part}")
 }
 
 /// A place in a trace of a record: the trace, from 1, and the bytes from its tag 03.
