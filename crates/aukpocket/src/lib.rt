@@ -7,7 +7,7 @@ ghost use Rattle.numbers.specs.BigEndian.{number, bytesOf};
 ghost use Rattle.cards.specs.Cards.{blank};
 ghost use Rattle.sample.specs.Calls as single;
 ghost use Rattle.record.specs.Answer.{saidBy, countedBy};
-ghost use Rattle.reel.specs.declared.Kind.the-variants.{Eagle};
+ghost use Rattle.reel.specs.declared.Layout.the-variants.{Eagle};
 ghost use Rattle.read_reel.specs.Reading.{readOutcome, readOutcomeBy};
 ghost use Rattle.write_reel.specs.Writing.{writeOutcome};
 ghost use Rattle.write_reel.specs.Nearest.{nearestOutcome};

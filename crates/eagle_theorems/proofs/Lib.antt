@@ -1,4 +1,6 @@
 -- The theorems about Eagle reels, and what they rest on.
 pub mod Refusals
+pub mod TraceLaws
 pub mod PlainLaws
+pub mod AlikeLaws
 pub mod Theorems

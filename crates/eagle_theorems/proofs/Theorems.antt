@@ -7,23 +7,23 @@
 -- and what the user's demands ask of reading is shown of it here, over that outcome. What an Eagle reel means is found from its own bytes by
 -- its own layout, `meaningBy Eagle`, and its record is the record of that meaning.
 --
--- - Demand 1: `eagle-ends`, `eagle-refused`, `eagle-taken`, `eagle-keeps`, `eagle-rest`; the rows are in `EagleTable`, in `specs/`.
--- - Demand 2, its first sentence: `eagle-reading`; `eagle-traces` and `eagle-cards` spell out where its layout differs.
+-- - Demand 1: `eagle-ends`, `eagle-refused`, `eagle-taken`, `eagle-keeps`, `eagle-rest`, `ends-both`; the rows are in `EagleTable`, in `specs/`.
+-- - Demand 2, its first sentence: `eagle-reading`; `eagle-traces`, `eagle-cards` and `eagle-binary` spell out what its layout gives;
+--   `eagle-counts` and `eagle-none-beside` the count.
 -- - Demand 3: `any-records-equal`, of two reels that are each plain or Eagle; `eagle-again`, `eagle-in-each-code`, `plain-exists`.
 -- - "Bytes that both calls take": `two-readings`, and `example-plain`, `example-eagle`.
 -- - "Trailers and checks carry no meaning": `alike-read`, and `without-trailers`.
 --
 -- Each byte of a reel is below 256; nothing else is assumed.
-use mathlib.Core.Path.{_≡_, refl, sym, ap, ap₂, _∙_, subst}
+use mathlib.Core.Path.{_≡_, refl, sym, ap, _∙_, subst}
 use mathlib.Core.List.{List, [], _∷_, _++_, map}
 use mathlib.Core.Logic.{_⊎_}
 use mathlib.Core.Bool.{true}
 use Prim.Native.Nat.{ℕ, _+_, _*_, _≤_, _<_}
-use native.Mathlib.Nat.{zero-add}
 use native.Mathlib.Omega.{arith}
 use lib.Dec.{ltb}
 use lib.ListN.{length, getD, take, drop, replicate}
-use Rattle.numbers.specs.Walk.{walk, flat, bytesAt}
+use Rattle.numbers.specs.Walk.{walk, bytesAt}
 use Rattle.numbers.specs.BigEndian.{number}
 use Rattle.numbers.specs.Cause.{refuseIf}
 use Rattle.numbers.specs.Outcome.{Said, taken, refused, Outcome}
@@ -32,7 +32,6 @@ use Rattle.numbers.specs.declared.Check.the-variants.{Fine, Refused}
 use Rattle.numbers.specs.Terms.{Bytes, atPlace}
 use Rattle.numbers.specs.Iff.{Iff}
 use Rattle.numbers.proofs.CauseLaws.{then-fine}
-use Rattle.numbers.proofs.WalkLaws.{walk-same}
 use Rattle.numbers.proofs.ByteLaws.{byte-at}
 use Rattle.numbers.proofs.RowLaws.{Tests, then-row, then-first, then-second, refused-where, row-where, test-room, not-enough, too-short}
 use Rattle.numbers.proofs.SaidLaws.{says-refused, says-fine, says-either, refused-by, taken-by}
@@ -40,32 +39,36 @@ use Rattle.formats.specs.Codes.{isCode, sampleBytes}
 use Rattle.formats.specs.Words.{isNormal}
 use Rattle.reel.specs.Layout.{samplesOf, intervalOf, codeOf, strideIn, wholeIn, tracesBy}
 use Rattle.reel.specs.Causes.{traceCauses, behindCausesBy, causesBy, causesOf}
-use Rattle.reel.specs.Meaning.{blank, traceMeaning, Meaning, cardTextBy, meaningBy, meaningOf, SameMeaning}
+use Rattle.reel.specs.Meaning.{blank, traceMeaning, Meaning, cardTextBy, binaryNumbers, meaningBy, meaningOf, SameMeaning}
 use Rattle.reel.specs.NotNormal.{notNormalIn, notNormalAmong}
-use Rattle.reel.specs.declared.Kind.{Kind}
-use Rattle.reel.specs.declared.Kind.the-variants.{Plain, Eagle}
+use Rattle.reel.specs.declared.Layout.{Layout}
+use Rattle.reel.specs.declared.Layout.the-variants.{Plain, Eagle}
 use Rattle.record.specs.Record.{recordOf, recordBy, reelRecord, recordLength}
 use Rattle.read_reel.specs.Reading.{recordLengthBy, readNumbersBy, readCausesBy, readEndBy, readOutcomeBy, readOutcome}
 use Rattle.write_reel.specs.Writing.{writeOutcome}
 use Rattle.reel_theorems.proofs.Output.{same-outputs}
 use Rattle.demands.specs.Words.{Worded}
 use Rattle.demands.specs.Results.{RecordRead}
+use Rattle.demands.specs.NotNormal.{countSaid, notNormalWords}
+use Rattle.demands.proofs.NotNormal.{counts-words}
 use Rattle.demands.proofs.Demand1.{read-rest}
 use Rattle.demands.proofs.Demand2.{reading}
 use Rattle.demands.proofs.Demand3 as plain
-use Rattle.eagle_theorems.specs.EagleTable.{traceLength, traceCount, EagleReadRow, trailerEnd, Ends}
-use Rattle.eagle_theorems.specs.PlainReel.{bareTrace, plainReel}
-use Rattle.eagle_theorems.specs.Results.{EagleRead, PlainAgain, AlikeButTrailers, example}
-use Rattle.eagle_theorems.proofs.Refusals.{exact-causes, no-cause}
-use Rattle.eagle_theorems.proofs.PlainLaws.{plain-bytes, plain-samples, plain-code, eagle-code, plain-traces, plain-no-cause, plain-means, plain-count, plain-reading}
+use Rattle.eagle_theorems.specs.EagleTable.{eagleLength, eagleCount, trailerEnd, Ends, EagleReadRow}
+use Rattle.eagle_theorems.specs.PlainReel.{plainReel}
+use Rattle.eagle_theorems.specs.Results.{EagleRead, PlainAgain, eagleWords, Alike, bothLayouts}
+use Rattle.eagle_theorems.proofs.Refusals.{exact-eagle-causes, no-eagle-cause}
+use Rattle.eagle_theorems.proofs.TraceLaws.{read-alike}
+use Rattle.eagle_theorems.proofs.PlainLaws.{plain-bytes, plain-samples, plain-code, eagle-code, plain-traces, plain-no-cause, plain-means, plain-count, plain-words, plain-reading}
+use Rattle.eagle_theorems.proofs.AlikeLaws.{alike-samples, alike-traces, alike-means, alike-count, alike-fine}
 
 -- ## Demand 1
 
 -- T, and with it the record's length, as the table has them.
-count-is : (s : List ℕ) → codeOf s ≡ 1 → tracesBy Eagle s ≡ traceCount s
+count-is : (s : List ℕ) → codeOf s ≡ 1 → tracesBy Eagle s ≡ eagleCount s
 count-is s e = ap (λ (c : ℕ). wholeIn (length s) (strideIn Eagle (samplesOf s) (sampleBytes c))) e
 
-length-is : (s : List ℕ) → codeOf s ≡ 1 → recordLengthBy Eagle s ≡ 3273 + traceCount s * (186 + 6 * samplesOf s)
+length-is : (s : List ℕ) → codeOf s ≡ 1 → recordLengthBy Eagle s ≡ 3273 + eagleCount s * (186 + 6 * samplesOf s)
 length-is s e = ap (λ (t : ℕ). recordLength t (samplesOf s)) (count-is s e)
 
 -- The causes of reading are the rows of the table.
@@ -73,21 +76,21 @@ read-exact : (s : List ℕ) (room number place : ℕ) → Iff (readCausesBy Eagl
 read-exact s room number place = (there, back)
   where
     size : ℕ
-    size = 3273 + traceCount s * (186 + 6 * samplesOf s)
+    size = 3273 + eagleCount s * (186 + 6 * samplesOf s)
 
     room-test : (l : ℕ) → Tests (l ≤ room) 10 l (refuseIf (ltb room l) 10 l)
     room-test l = test-room room l 10 l
 
     there : readCausesBy Eagle s room ≡ Refused number (atPlace place) → EagleReadRow s room number place
     there =
-        then-row (EagleReadRow s room) (causesBy Eagle s) _ (λ e. EagleReadRow.by-reel (exact-causes s number place .0 e))
-        (λ e r. row-where (room-test size) (EagleReadRow s room) (λ m. EagleReadRow.short-output (no-cause s .0 e) (not-enough room size m))
+        then-row (EagleReadRow s room) (causesBy Eagle s) _ (λ e. EagleReadRow.by-reel (exact-eagle-causes s number place .0 e))
+        (λ e r. row-where (room-test size) (EagleReadRow s room) (λ m. EagleReadRow.short-output (no-eagle-cause s .0 e) (not-enough room size m))
         (sym (ap (λ (l : ℕ). refuseIf (ltb room l) 10 l) (length-is s (eagle-code s e))) ∙ r))
 
     back : {number place : ℕ} → EagleReadRow s room number place → readCausesBy Eagle s room ≡ Refused number (atPlace place)
-    back {number} {place} (EagleReadRow.by-reel r) = then-first (causesBy Eagle s) _ (exact-causes s number place .1 r)
+    back {number} {place} (EagleReadRow.by-reel r) = then-first (causesBy Eagle s) _ (exact-eagle-causes s number place .1 r)
     back (EagleReadRow.short-output h l) =
-        let e = no-cause s .1 h in
+        let e = no-eagle-cause s .1 h in
         then-second (causesBy Eagle s) _ e (ap (λ (x : ℕ). refuseIf (ltb room x) 10 x) (length-is s (eagle-code s e)) ∙ refused-where (room-test size) (too-short room size l))
 
 module _ (s out : List ℕ) where
@@ -154,7 +157,7 @@ eagle-reading s out t n l c b e =
     let q = taken-plain s out (t ∷ n ∷ l ∷ c ∷ []) e in
     let k = reading (plainReel s) out t n l c (plain-bytes s b) (said-plain s out (t ∷ n ∷ l ∷ c ∷ []) e) in
     record {
-      traces = k .traces ∙ plain-traces s f ∙ count-is s (eagle-code s f);
+      traces = k .traces ∙ plain-traces s f;
       samples = k .samples ∙ plain-samples s;
       size = k .size;
       count = k .count ∙ plain-count s f;
@@ -166,7 +169,7 @@ eagle-reading s out t n l c b e =
 -- THEOREM. Where the Eagle layout differs: each trace stands with its trailer, so the next begins 240 + 4N + 960 bytes on; within a trace
 -- "header fields stand where the 1975 layout has them", and its words behind them, as on a plain reel of code 1.
 pub eagle-traces : (s : List ℕ) → codeOf s ≡ 1
-    → meaningBy Eagle s .traces ≡ walk (traceMeaning s 1 (samplesOf s) (intervalOf s)) (traceLength s) (traceCount s) 3600
+    → meaningBy Eagle s .traces ≡ walk (traceMeaning s 1 (samplesOf s) (intervalOf s)) (eagleLength s) (eagleCount s) 3600
 unfolding meaningBy
 eagle-traces s e =
     ap (λ (c : ℕ). walk (traceMeaning s c (samplesOf s) (intervalOf s)) (strideIn Eagle (samplesOf s) (sampleBytes c)) (wholeIn (length s) (strideIn Eagle (samplesOf s) (sampleBytes c))) 3600) e
@@ -177,16 +180,33 @@ pub eagle-cards : (s : List ℕ) → meaningBy Eagle s .cards ≡ map blank (byt
 unfolding meaningBy cardTextBy
 eagle-cards s = refl
 
+-- THEOREM. "header fields stand where the 1975 layout has them": so do those of the binary header.
+pub eagle-binary : (s : List ℕ) → meaningBy Eagle s .binary ≡ binaryNumbers s
+unfolding meaningBy
+eagle-binary s = refl
+
+-- THEOREM. The count is the number of words on the reel that are not normal (document 02, CR 3), trailers left out; beside a refusal it is 0.
+pub eagle-counts : (s out : List ℕ) (t n l c : ℕ) → Bytes s → readOutcomeBy Eagle s out .said ≡ taken (t ∷ n ∷ l ∷ c ∷ [])
+    → c ≡ length (notNormalWords (eagleWords s))
+eagle-counts s out t n l c b e =
+    let numbers = t ∷ n ∷ l ∷ c ∷ [] in
+    let f = taken-eagle s out numbers e in
+    counts-words (plainReel s) out t n l c (plain-bytes s b) (said-plain s out numbers e) (plain-code s ∙ eagle-code s f)
+    ∙ ap (λ (ws : List ℕ). length (notNormalWords ws)) (plain-words s f)
+
+pub eagle-none-beside : (s out : List ℕ) (number place : ℕ) → readOutcomeBy Eagle s out .said ≡ refused number place → countSaid (readOutcomeBy Eagle s out .said) ≡ 0
+eagle-none-beside s out number place e = ap countSaid e
+
 -- ## Demand 3
 
--- A reel of either kind whose reading is taken: there is a plain reel that means the same and is read alike.
-record AsPlain (kind : Kind) (s out : List ℕ) : Type 0 where
+-- A reel of either layout whose reading is taken: there is a plain reel that means the same and is read alike.
+record AsPlain (layout : Layout) (s out : List ℕ) : Type 0 where
   reel : List ℕ
   bytes : Bytes reel
-  same : readOutcomeBy kind s out ≡ readOutcome reel out
-  means : meaningBy kind s ≡ meaningOf reel
+  same : readOutcomeBy layout s out ≡ readOutcome reel out
+  means : meaningBy layout s ≡ meaningOf reel
 
-as-plain : (kind : Kind) (s out numbers : List ℕ) → Bytes s → readOutcomeBy kind s out .said ≡ taken numbers → AsPlain kind s out
+as-plain : (layout : Layout) (s out numbers : List ℕ) → Bytes s → readOutcomeBy layout s out .said ≡ taken numbers → AsPlain layout s out
 as-plain Plain s out numbers b e = record { reel = s; bytes = b; same = refl; means = refl }
 as-plain Eagle s out numbers b e =
     record { reel = plainReel s; bytes = plain-bytes s b; same = taken-plain s out numbers e; means = sym (plain-means s (taken-eagle s out numbers e)) }
@@ -194,19 +214,19 @@ as-plain Eagle s out numbers b e =
 -- THEOREM. "Take any two reels .. that are read without refusal .. Their records .. are equal byte for byte exactly when the two reels mean
 -- the same", of two reels that are each plain or Eagle. So "An Eagle reel and a plain reel of equal meaning have equal records" (document
 -- 02, CR 7).
-pub any-records-equal : (kind₁ kind₂ : Kind) (s₁ s₂ out₁ out₂ : List ℕ) (t₁ n₁ l₁ c₁ t₂ n₂ l₂ c₂ : ℕ) → Bytes s₁ → Bytes s₂
-    → readOutcomeBy kind₁ s₁ out₁ .said ≡ taken (t₁ ∷ n₁ ∷ l₁ ∷ c₁ ∷ []) → readOutcomeBy kind₂ s₂ out₂ .said ≡ taken (t₂ ∷ n₂ ∷ l₂ ∷ c₂ ∷ [])
-    → Iff (take l₁ (readOutcomeBy kind₁ s₁ out₁ .bytes) ≡ take l₂ (readOutcomeBy kind₂ s₂ out₂ .bytes)) (SameMeaning (meaningBy kind₁ s₁) (meaningBy kind₂ s₂))
-any-records-equal kind₁ kind₂ s₁ s₂ out₁ out₂ t₁ n₁ l₁ c₁ t₂ n₂ l₂ c₂ b₁ b₂ e₁ e₂ =
-    let p₁ = as-plain kind₁ s₁ out₁ (t₁ ∷ n₁ ∷ l₁ ∷ c₁ ∷ []) b₁ e₁ in
-    let p₂ = as-plain kind₂ s₂ out₂ (t₂ ∷ n₂ ∷ l₂ ∷ c₂ ∷ []) b₂ e₂ in
+pub any-records-equal : (layout₁ layout₂ : Layout) (s₁ s₂ out₁ out₂ : List ℕ) (t₁ n₁ l₁ c₁ t₂ n₂ l₂ c₂ : ℕ) → Bytes s₁ → Bytes s₂
+    → readOutcomeBy layout₁ s₁ out₁ .said ≡ taken (t₁ ∷ n₁ ∷ l₁ ∷ c₁ ∷ []) → readOutcomeBy layout₂ s₂ out₂ .said ≡ taken (t₂ ∷ n₂ ∷ l₂ ∷ c₂ ∷ [])
+    → Iff (take l₁ (readOutcomeBy layout₁ s₁ out₁ .bytes) ≡ take l₂ (readOutcomeBy layout₂ s₂ out₂ .bytes)) (SameMeaning (meaningBy layout₁ s₁) (meaningBy layout₂ s₂))
+any-records-equal layout₁ layout₂ s₁ s₂ out₁ out₂ t₁ n₁ l₁ c₁ t₂ n₂ l₂ c₂ b₁ b₂ e₁ e₂ =
+    let p₁ = as-plain layout₁ s₁ out₁ (t₁ ∷ n₁ ∷ l₁ ∷ c₁ ∷ []) b₁ e₁ in
+    let p₂ = as-plain layout₂ s₂ out₂ (t₂ ∷ n₂ ∷ l₂ ∷ c₂ ∷ []) b₂ e₂ in
     let q₁ = ap (λ (o : Outcome). take l₁ (o .bytes)) (p₁ .same) in
     let q₂ = ap (λ (o : Outcome). take l₂ (o .bytes)) (p₂ .same) in
     let same =
     same-outputs (p₁ .reel) (p₂ .reel) out₁ out₂ t₁ n₁ l₁ c₁ t₂ n₂ l₂ c₂ (p₁ .bytes) (p₂ .bytes)
     (sym (ap (λ (o : Outcome). o .said) (p₁ .same)) ∙ e₁) (sym (ap (λ (o : Outcome). o .said) (p₂ .same)) ∙ e₂) in (
-      λ e. subst (λ (m : Meaning). SameMeaning m (meaningBy kind₂ s₂)) (sym (p₁ .means)) (subst (SameMeaning (meaningOf (p₁ .reel))) (sym (p₂ .means)) (same .0 (sym q₁ ∙ e ∙ q₂))),
-      λ m. q₁ ∙ same .1 (subst (λ (x : Meaning). SameMeaning x (meaningOf (p₂ .reel))) (p₁ .means) (subst (SameMeaning (meaningBy kind₁ s₁)) (p₂ .means) m)) ∙ sym q₂,
+      λ e. subst (λ (m : Meaning). SameMeaning m (meaningBy layout₂ s₂)) (sym (p₁ .means)) (subst (SameMeaning (meaningOf (p₁ .reel))) (sym (p₂ .means)) (same .0 (sym q₁ ∙ e ∙ q₂))),
+      λ m. q₁ ∙ same .1 (subst (λ (x : Meaning). SameMeaning x (meaningOf (p₂ .reel))) (p₁ .means) (subst (SameMeaning (meaningBy layout₁ s₁)) (p₂ .means) m)) ∙ sym q₂,
     )
 
 -- THEOREM. "Every reel written from the record of a reel so read, in whichever of the formats holds it, is itself read without refusal,
@@ -274,57 +294,28 @@ pub two-readings : (s out₁ out₂ : List ℕ) (t₁ n₁ l₁ c₁ t₂ n₂ l
     → RecordRead s out₁ t₁ n₁ l₁ c₁ × EagleRead s out₂ t₂ n₂ l₂ c₂
 two-readings s out₁ out₂ t₁ n₁ l₁ c₁ t₂ n₂ l₂ c₂ b e₁ e₂ = (reading s out₁ t₁ n₁ l₁ c₁ b e₁, eagle-reading s out₂ t₂ n₂ l₂ c₂ b e₂)
 
--- THEOREM. The bytes of `example` are taken as a plain reel of 4 traces, with 1 word that isn't normal,
-pub example-plain : readOutcome example (replicate 4497 0) .said ≡ taken (4 ∷ 20 ∷ 4497 ∷ 1 ∷ [])
+-- THEOREM. The bytes of `bothLayouts` are taken as a plain reel of 4 traces, with 1 word that isn't normal,
+pub example-plain : readOutcome bothLayouts (replicate 4497 0) .said ≡ taken (4 ∷ 20 ∷ 4497 ∷ 1 ∷ [])
 unfolding causesBy behindCausesBy traceCauses bytesAt notNormalAmong notNormalIn isNormal
 example-plain = refl
 
 -- THEOREM. and as an Eagle reel of 1 trace, with none.
-pub example-eagle : readOutcomeBy Eagle example (replicate 3579 0) .said ≡ taken (1 ∷ 20 ∷ 3579 ∷ 0 ∷ [])
+pub example-eagle : readOutcomeBy Eagle bothLayouts (replicate 3579 0) .said ≡ taken (1 ∷ 20 ∷ 3579 ∷ 0 ∷ [])
 unfolding causesBy behindCausesBy traceCauses bytesAt notNormalAmong notNormalIn isNormal
 example-eagle = refl
 
 -- ## Trailers and checks carry no meaning
 
--- bytes that are the same one by one
-bytes-same : (s₁ s₂ : List ℕ) (at k : ℕ) → ((p : ℕ) → p < k → getD s₁ (at + p) 0 ≡ getD s₂ (at + p) 0) → bytesAt s₁ at k ≡ bytesAt s₂ at k
-unfolding bytesAt
-bytes-same s₁ s₂ at k h =
-    walk-same (λ a. getD s₁ a 0) (λ a. getD s₂ a 0) 1 1 k at at (λ j l. let e : j * 1 ≡ j = omega arith in rw e (h j l))
-
--- Eagle reels that are alike have the same plain reel.
-same-plain : (s₁ s₂ : List ℕ) → codeOf s₁ ≡ 1 → AlikeButTrailers s₁ s₂ → plainReel s₁ ≡ plainReel s₂
-unfolding plainReel
-same-plain s₁ s₂ c a =
-    ap₂ (λ (x y : List ℕ). x ++ (0x40 ∷ 0x40 ∷ y)) (bytes-same s₁ s₂ 0 3198 (λ p l. ap (λ (y : ℕ). getD s₁ y 0) (zero-add p) ∙ a .cards p l ∙ ap (λ (y : ℕ). getD s₂ y 0) (sym (zero-add p))))
-    (ap₂ (λ (x y : List ℕ). x ++ y) (binary 0 400 (omega arith)) (ap flat each ∙ ap₂ (λ (m t : ℕ). flat (walk (λ at. bytesAt s₂ at (240 + m * 4)) (240 + m * 4 + 960) t 3600)) samples count))
-  where
-    binary : (d k : ℕ) → d + k ≤ 400 → bytesAt s₁ (3200 + d) k ≡ bytesAt s₂ (3200 + d) k
-    binary d k h =
-        bytes-same s₁ s₂ (3200 + d) k
-        (λ p l. let e : 3200 + d + p ≡ 3200 + (d + p) = omega arith in rw e (a .binary (d + p) (omega (arith, h, l))))
-
-    samples : samplesOf s₁ ≡ samplesOf s₂
-    samples = ap number (binary 20 2 (omega arith))
-
-    count : tracesBy Eagle s₁ ≡ tracesBy Eagle s₂
-    count =
-        ap₂ (λ (size m : ℕ). wholeIn size (strideIn Eagle m (sampleBytes (codeOf s₁)))) (a .size) samples
-        ∙ ap (λ (x : ℕ). wholeIn (length s₂) (strideIn Eagle (samplesOf s₂) (sampleBytes x))) (ap number (binary 24 2 (omega arith)))
-
-    each : walk (λ at. bytesAt s₁ at (bareTrace s₁)) (bareTrace s₁ + 960) (tracesBy Eagle s₁) 3600 ≡ walk (λ at. bytesAt s₂ at (bareTrace s₁)) (bareTrace s₁ + 960) (tracesBy Eagle s₁) 3600
-    each =
-        walk-same (λ at. bytesAt s₁ at (bareTrace s₁)) (λ at. bytesAt s₂ at (bareTrace s₁)) (bareTrace s₁ + 960) (bareTrace s₁ + 960) (tracesBy Eagle s₁) 3600 3600
-        (λ j l. bytes-same s₁ s₂ (3600 + j * (bareTrace s₁ + 960)) (bareTrace s₁) (λ p m. a .traces j p (omega (arith, l, count-is s₁ c)) m))
-
--- THEOREM. "Trailers and checks carry no meaning": two Eagle reels that differ only there, neither with a cause of 1 to 8, 18 and 20, mean
--- the same and have the same record; read into one output, they give the same numbers and the same bytes.
-pub alike-read : (s₁ s₂ : List ℕ) → causesBy Eagle s₁ ≡ Fine → causesBy Eagle s₂ ≡ Fine → AlikeButTrailers s₁ s₂
-    → (meaningBy Eagle s₁ ≡ meaningBy Eagle s₂) × (recordBy Eagle s₁ ≡ recordBy Eagle s₂) × ((out : List ℕ) → readOutcomeBy Eagle s₁ out ≡ readOutcomeBy Eagle s₂ out)
-alike-read s₁ s₂ e₁ e₂ a =
-    let same = same-plain s₁ s₂ (eagle-code s₁ e₁) a in
-    let means = sym (plain-means s₁ e₁) ∙ ap meaningOf same ∙ plain-means s₂ e₂ in
-    (means, ap recordOf means, λ out. plain-reading s₁ e₁ out ∙ ap (λ (x : List ℕ). readOutcome x out) same ∙ sym (plain-reading s₂ e₂ out))
+-- THEOREM. "Trailers and checks carry no meaning": where no cause applies to an Eagle reel, and another is alike but for its trailers, its check
+-- on card 40 and its unassigned bytes, and each of its trailers ends in FFFF, no cause applies to that one either; both mean the same and
+-- have the same record; and read into one output they give the same numbers and the same bytes. So the end of a trailer can bring 20, and
+-- nothing else in a trailer, a check or an unassigned byte brings anything.
+pub alike-read : (s₁ s₂ : List ℕ) → causesBy Eagle s₁ ≡ Fine → Alike s₁ s₂ → ((k : ℕ) → k < eagleCount s₁ → Ends s₂ k)
+    → (causesBy Eagle s₂ ≡ Fine) × (meaningBy Eagle s₁ ≡ meaningBy Eagle s₂) × (recordBy Eagle s₁ ≡ recordBy Eagle s₂) × ((out : List ℕ) → readOutcomeBy Eagle s₁ out ≡ readOutcomeBy Eagle s₂ out)
+alike-read s₁ s₂ e a ends =
+    let f = alike-fine s₁ s₂ a e ends in
+    let means = alike-means s₁ s₂ a e in
+    (f, means, ap recordOf means, read-alike Eagle Eagle s₁ s₂ e f (alike-traces s₁ s₂ a) (alike-samples s₁ s₂ a) (alike-count s₁ s₂ a e) means)
 
 -- THEOREM. An Eagle reel without its trailers, with blanks in columns 79 and 80 of card 40, is a plain reel: where no cause applies to the
 -- one as an Eagle reel, none applies to the other as a plain reel, both mean the same, and read into one output they give the same numbers

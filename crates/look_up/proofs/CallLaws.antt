@@ -25,7 +25,7 @@ use Rattle.reel.specs.Causes.{causesOf, reelJudged}
 use Rattle.reel.specs.declared.Judged.the-variants as reel
 use Rattle.reel.proofs.CheckLaws.{Sound, inside}
 use Rattle.reel.proofs.JudgedLaws.{own}
-use Rattle.reel.specs.declared.Kind.the-variants.{Plain}
+use Rattle.reel.specs.declared.Layout.the-variants.{Plain}
 use Rattle.look_up.specs.LookUp.{found, fieldIn, fieldAt, isNone, headerNumber, foundNumber, fieldCauses, lookUpCauses, numberSaid, lookUpOutcome, lookedUp}
 use Rattle.look_up.specs.Parts.{widthOf, theField, OnReel, Own, InHeader}
 use Rattle.look_up.specs.declared.Answer.the-variants as answer

@@ -12,8 +12,8 @@ use Rattle.numbers.proofs.Filling.{size-over, over-part}
 use Rattle.headers.proofs.HeaderBytes.{size-header}
 use Rattle.reel.specs.Layout.{cardBytes}
 use Rattle.reel.specs.Meaning.{blank, cardTextBy}
-use Rattle.reel.specs.declared.Kind.{Kind}
-use Rattle.reel.specs.declared.Kind.the-variants.{Eagle}
+use Rattle.reel.specs.declared.Layout.{Layout}
+use Rattle.reel.specs.declared.Layout.the-variants.{Eagle}
 use Rattle.record.specs.Form.{tracesPlace, codePlace, heldStride}
 use Rattle.record.specs.Record.{recordLength}
 use Rattle.record.proofs.HeaderLaws.{size-text}
@@ -31,11 +31,11 @@ checks-blank s =
     ap (λ (l : List ℕ). overwritten l 3198 (bytesOf 2 0x4040)) parts
     ∙ over-part front checks [] (bytesOf 2 0x4040) 3198 (simp (length-map, size-bytes)) (simp (length-map, size-bytes))
 
-pub size-fields : (k : Kind) (s : List ℕ) → length (fieldsCopied k s) ≡ tracesPlace
+pub size-fields : (k : Layout) (s : List ℕ) → length (fieldsCopied k s) ≡ tracesPlace
 unfolding fieldsCopied
 size-fields k s = simp (length-append, size-text, size-bytes)
 
-pub size-head : (k : Kind) (s : List ℕ) → length (headCopied k s) ≡ tracesPlace
+pub size-head : (k : Layout) (s : List ℕ) → length (headCopied k s) ≡ tracesPlace
 unfolding headCopied
 size-head k s = size-over (fieldsCopied k s) (bytesOf 2 0) codePlace (omega (arith, size-fields k s)) ∙ size-fields k s
 
@@ -47,6 +47,6 @@ module _ (s : List ℕ) (code n i : ℕ) where
   pub size-traces : (w t at : ℕ) → length (flat (map (recordTraceCopied s code n i) (places w t at))) ≡ t * heldStride n
   size-traces w t at = flat-length (recordTraceCopied s code n i) (λ p. p) (heldStride n) size-trace w t at
 
-  pub size-record : (k : Kind) (w t : ℕ) → length (recordCopied k s code n i w t) ≡ recordLength t n
+  pub size-record : (k : Layout) (w t : ℕ) → length (recordCopied k s code n i w t) ≡ recordLength t n
   unfolding recordCopied
   size-record k w t = simp (length-append, size-head, size-traces) (omega arith)

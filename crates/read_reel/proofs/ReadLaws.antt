@@ -17,7 +17,7 @@ use Rattle.reel.specs.Causes.{mostSamples, mostTraces, causesBy}
 use Rattle.reel.specs.NotNormal.{notNormalAmong, notNormalBy}
 use Rattle.reel.proofs.CheckLaws.{Numbers, fine-by, inside-by, stride-holds}
 use Rattle.reel.proofs.JudgedLaws.{Own}
-use Rattle.reel.specs.declared.Kind.{Kind}
+use Rattle.reel.specs.declared.Layout.{Layout}
 use Rattle.record.specs.Form.{heldStride}
 use Rattle.record.specs.Record.{recordBy, recordLength}
 use Rattle.record.specs.Answer.{countedOutcome}
@@ -37,7 +37,7 @@ pub record Fit (s : List ℕ) (code n i v w t : ℕ) : Type 0 where
   pub room : firstTrace + t * w ≤ length s
   pub size : t * heldStride n ≤ 100000 * 48186
 
-pub fit : (k : Kind) (s : List ℕ) (code n i v w t : ℕ) → Own k s code n i v w t → Fit s code n i v w t
+pub fit : (k : Layout) (s : List ℕ) (code n i v w t : ℕ) → Own k s code n i v w t → Fit s code n i v w t
 fit x s code n i v w t o =
     let h = fine-by x s (o .fine) in
     let k : Numbers code n i = subst (λ (x : ℕ). Numbers code n x) (o .i-is) (subst (λ (x : ℕ). Numbers code x (intervalOf s)) (o .n-is) (subst (λ (x : ℕ). Numbers x (samplesOf s) (intervalOf s)) (o .code-is) (h .numbers))) in
@@ -57,39 +57,39 @@ fit x s code n i v w t o =
 
 -- ## The ends
 
-module _ (kind : Kind) (s out : List ℕ) where
-  pub refused-end : (number : ℕ) (place : Place) → causesBy kind s ≡ check.Refused number place → countedOutcome (Refused number place) out ≡ readOutcomeBy kind s out
+module _ (layout : Layout) (s out : List ℕ) where
+  pub refused-end : (number : ℕ) (place : Place) → causesBy layout s ≡ check.Refused number place → countedOutcome (Refused number place) out ≡ readOutcomeBy layout s out
   refused-end number place e = rw e
 
-  module _ (code n i v w t : ℕ) (o : Own kind s code n i v w t) where
-    length-is : recordLengthBy kind s ≡ recordLength t n
+  module _ (code n i v w t : ℕ) (o : Own layout s code n i v w t) where
+    length-is : recordLengthBy layout s ≡ recordLength t n
     length-is = ap₂ recordLength (o .t-is) (o .n-is)
 
-    pub short-end : length out < recordLength t n → countedOutcome (Refused 10 (record { 0 = recordLength t n })) out ≡ readOutcomeBy kind s out
+    pub short-end : length out < recordLength t n → countedOutcome (Refused 10 (record { 0 = recordLength t n })) out ≡ readOutcomeBy layout s out
     short-end l = rw (o .fine, length-is, lt-ltb (length out) (recordLength t n) l)
 
-    pub taken-end : Bytes s → (ys : List ℕ) (k : ℕ) → ys ≡ recordCopied kind s code n i w t → k ≡ notNormalAmong s code n w t firstTrace → recordLength t n ≤ length out
-        → countedOutcome (Taken t n (recordLength t n) k) (ys ++ drop (recordLength t n) out) ≡ readOutcomeBy kind s out
+    pub taken-end : Bytes s → (ys : List ℕ) (k : ℕ) → ys ≡ recordCopied layout s code n i w t → k ≡ notNormalAmong s code n w t firstTrace → recordLength t n ≤ length out
+        → countedOutcome (Taken t n (recordLength t n) k) (ys ++ drop (recordLength t n) out) ≡ readOutcomeBy layout s out
     taken-end b ys k e count l =
         let size = recordLength t n in
-        let r : recordBy kind s ≡ ys = record-is kind s b ∙ copied-is ∙ sym e in
-        let fine : readCausesBy kind s (length out) ≡ check.Fine = rw (o .fine, length-is, le-ltb (length out) size l) in
-        sym (ap (readEndBy kind s out) fine ∙ ap (λ (x : ℕ). made x (samplesOf s) (recordLengthBy kind s) (notNormalBy kind s) (recordBy kind s)) (o .t-is) ∙ ap (λ (x : ℕ). made t x (recordLengthBy kind s) (notNormalBy kind s) (recordBy kind s)) (o .n-is)
-        ∙ ap₂ (λ (x : ℕ) (y : List ℕ). made t n x (notNormalBy kind s) y) length-is r ∙ ap (λ (x : ℕ). made t n size x ys) (counted-is ∙ sym count))
+        let r : recordBy layout s ≡ ys = record-is layout s b ∙ copied-is ∙ sym e in
+        let fine : readCausesBy layout s (length out) ≡ check.Fine = rw (o .fine, length-is, le-ltb (length out) size l) in
+        sym (ap (readEndBy layout s out) fine ∙ ap (λ (x : ℕ). made x (samplesOf s) (recordLengthBy layout s) (notNormalBy layout s) (recordBy layout s)) (o .t-is) ∙ ap (λ (x : ℕ). made t x (recordLengthBy layout s) (notNormalBy layout s) (recordBy layout s)) (o .n-is)
+        ∙ ap₂ (λ (x : ℕ) (y : List ℕ). made t n x (notNormalBy layout s) y) length-is r ∙ ap (λ (x : ℕ). made t n size x ys) (counted-is ∙ sym count))
       where
         made : ℕ → ℕ → ℕ → ℕ → List ℕ → Outcome
         made a b size x y = record { said = taken (a ∷ b ∷ size ∷ x ∷ []); bytes = y ++ drop size out }
 
         -- by the reel's own numbers, which are those of the code
-        by-numbers : {A : Type 0} (f : ℕ → ℕ → ℕ → ℕ → ℕ → A) → f (codeOf s) (samplesOf s) (intervalOf s) (strideBy kind s) (tracesBy kind s) ≡ f code n i w t
+        by-numbers : {A : Type 0} (f : ℕ → ℕ → ℕ → ℕ → ℕ → A) → f (codeOf s) (samplesOf s) (intervalOf s) (strideBy layout s) (tracesBy layout s) ≡ f code n i w t
         by-numbers f =
-            ap (λ (x : ℕ). f x (samplesOf s) (intervalOf s) (strideBy kind s) (tracesBy kind s)) (o .code-is)
-            ∙ ap (λ (x : ℕ). f code x (intervalOf s) (strideBy kind s) (tracesBy kind s)) (o .n-is)
-            ∙ ap (λ (x : ℕ). f code n x (strideBy kind s) (tracesBy kind s)) (o .i-is)
+            ap (λ (x : ℕ). f x (samplesOf s) (intervalOf s) (strideBy layout s) (tracesBy layout s)) (o .code-is)
+            ∙ ap (λ (x : ℕ). f code x (intervalOf s) (strideBy layout s) (tracesBy layout s)) (o .n-is)
+            ∙ ap (λ (x : ℕ). f code n x (strideBy layout s) (tracesBy layout s)) (o .i-is)
             ∙ ap₂ (λ (x y : ℕ). f code n i x y) (o .w-is) (o .t-is)
 
-        copied-is : recordCopied kind s (codeOf s) (samplesOf s) (intervalOf s) (strideBy kind s) (tracesBy kind s) ≡ recordCopied kind s code n i w t
-        copied-is = by-numbers (recordCopied kind s)
+        copied-is : recordCopied layout s (codeOf s) (samplesOf s) (intervalOf s) (strideBy layout s) (tracesBy layout s) ≡ recordCopied layout s code n i w t
+        copied-is = by-numbers (recordCopied layout s)
 
-        counted-is : notNormalBy kind s ≡ notNormalAmong s code n w t firstTrace
+        counted-is : notNormalBy layout s ≡ notNormalAmong s code n w t firstTrace
         counted-is = by-numbers (λ c n i w t. notNormalAmong s c n w t firstTrace)

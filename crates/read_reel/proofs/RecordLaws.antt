@@ -13,7 +13,7 @@ use Rattle.formats.specs.Codes.{sampleBytes, wordLength}
 use Rattle.formats.specs.Value.{exactValue}
 use Rattle.reel.specs.Layout.{cardBytes, firstTrace, traceHeader, samplesOf, intervalOf, codeOf, strideBy, tracesBy}
 use Rattle.reel.specs.Meaning.{cardTextBy, binaryNumbers, traceNumber, headerOf, traceMeaning, meaningBy}
-use Rattle.reel.specs.declared.Kind.{Kind}
+use Rattle.reel.specs.declared.Layout.{Layout}
 use Rattle.record.specs.Record.{field, binaryBytes, samplesField, traceBytes, recordOf, recordBy}
 use Rattle.value.specs.Pair.{valueBytes}
 use Rattle.record.specs.Form.{binarySize, codePlace}
@@ -34,7 +34,7 @@ field-is tag k l e = ap (λ (x : ℕ). tag ∷ (bytesOf 2 x ++ l)) e
 
 -- ## The first two fields
 
-head-is : (k : Kind) (s : List ℕ) → Bytes s → headCopied k s ≡ field 1 (cardTextBy k s) ++ field 2 (binaryBytes 0 (binaryNumbers s))
+head-is : (k : Layout) (s : List ℕ) → Bytes s → headCopied k s ≡ field 1 (cardTextBy k s) ++ field 2 (binaryBytes 0 (binaryNumbers s))
 unfolding headCopied fieldsCopied binaryNumbers
 head-is k s h =
     let cards = tagBytes 1 cardBytes ++ cardTextBy k s in
@@ -75,7 +75,7 @@ module _ (s : List ℕ) (code n i : ℕ) where
 
 -- ## The record
 
-pub record-is : (k : Kind) (s : List ℕ) → Bytes s → recordBy k s ≡ recordCopied k s (codeOf s) (samplesOf s) (intervalOf s) (strideBy k s) (tracesBy k s)
+pub record-is : (k : Layout) (s : List ℕ) → Bytes s → recordBy k s ≡ recordCopied k s (codeOf s) (samplesOf s) (intervalOf s) (strideBy k s) (tracesBy k s)
 unfolding recordOf meaningBy recordCopied
 record-is k s b =
     let code = codeOf s in

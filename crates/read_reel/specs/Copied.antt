@@ -7,7 +7,7 @@ use Rattle.numbers.specs.BigEndian.{bytesOf}
 use Rattle.value.specs.Pair.{pairLength}
 use Rattle.reel.specs.Layout.{cardBytes, firstTrace, traceHeader}
 use Rattle.reel.specs.Meaning.{cardTextBy, traceNumber, headerOf}
-use Rattle.reel.specs.declared.Kind.{Kind}
+use Rattle.reel.specs.declared.Layout.{Layout}
 use Rattle.headers.specs.Header.{headerSize, headerBytes}
 use Rattle.record.specs.Form.{binarySize, codePlace}
 use Rattle.read_samples.specs.Samples.{places, samplePairs}
@@ -17,11 +17,11 @@ abbrev pub tagBytes : ℕ → ℕ → List ℕ
 tagBytes tag size = tag ∷ bytesOf 2 size
 
 -- The first two fields of the record: the card text, and the binary fields, from 3201 on, as they are on the reel.
-unfoldable pub fieldsCopied : Kind → List ℕ → List ℕ
+unfoldable pub fieldsCopied : Layout → List ℕ → List ℕ
 fieldsCopied k s = tagBytes 1 cardBytes ++ (cardTextBy k s ++ (tagBytes 2 binarySize ++ bytesAt s (bytePlace 0 3201) binarySize))
 
 -- The same with 0 in place of the format code.
-unfoldable pub headCopied : Kind → List ℕ → List ℕ
+unfoldable pub headCopied : Layout → List ℕ → List ℕ
 headCopied k s = overwritten (fieldsCopied k s) codePlace (bytesOf 2 0)
 
 -- A trace.
@@ -30,6 +30,6 @@ recordTraceCopied s code n i at =
     tagBytes 3 headerSize ++ (headerBytes (headerOf (traceNumber s n i at)) ++ (tagBytes 4 (pairLength * n) ++ samplePairs s code n (at + traceHeader)))
 
 -- The record of t traces of w bytes each.
-unfoldable pub recordCopied : Kind → List ℕ → ℕ → ℕ → ℕ → ℕ → ℕ → List ℕ
+unfoldable pub recordCopied : Layout → List ℕ → ℕ → ℕ → ℕ → ℕ → ℕ → List ℕ
 recordCopied k s code n i w t =
     headCopied k s ++ (flat (map (recordTraceCopied s code n i) (places w t firstTrace)) ++ (tagBytes 5 4 ++ bytesOf 4 t))

@@ -12,7 +12,7 @@ ghost use Rattle.formats.specs.Codes.{isCode, sampleBytes};
 ghost use Rattle.reel.specs.Layout.{cardBytes, firstTrace, traceHeader, stride};
 ghost use Rattle.reel.specs.Causes.{mostSamples, mostTraces, judgedBy};
 ghost use Rattle.reel.specs.Meaning.{cardTextBy};
-ghost use Rattle.reel.specs.declared.Kind.the-variants.{Eagle};
+ghost use Rattle.reel.specs.declared.Layout.the-variants.{Eagle};
 ghost use Rattle.reel.specs.NotNormal.{notNormalIn, notNormalAmong};
 ghost use Rattle.read_samples.specs.Samples.{places};
 ghost use Rattle.record.specs.Form.{tracesPlace, heldStride};
@@ -24,7 +24,7 @@ use numbers::ByteNo;
 use numbers::Place;
 use record::Counted;
 use reel::Judged;
-use reel::Kind;
+use reel::Layout;
 
 // A field's tag, and the length of its content.
 fn put_tag(tag: u8, size: u16, out: &mut [u8])
@@ -102,40 +102,40 @@ fn put_count(t: u32, out: &mut [u8])
 }
 
 // The card text: on an Eagle reel columns 79 and 80 of card 40, which hold a check, are blanks.
-fn put_text(kind: Kind, reel: &[u8], out: &mut [u8])
+fn put_text(layout: Layout, reel: &[u8], out: &mut [u8])
     requires { ⌜ (firstTrace ≤ length (now reel)) × (length (now out) ≡ cardBytes) ⌝ }
-    ensures { λ _. ⌜ now (out .exit) ≡ cardTextBy kind (now (reel .entry)) ⌝ }
+    ensures { λ _. ⌜ now (out .exit) ≡ cardTextBy layout (now (reel .entry)) ⌝ }
 {
     cards::put_cards(&reel[0..3200], out);
-    match kind {
-        Kind::Plain => {}
-        Kind::Eagle => put_over(0x4040, Place(3198), out),
+    match layout {
+        Layout::Plain => {}
+        Layout::Eagle => put_over(0x4040, Place(3198), out),
     }
 }
 
 // The card text and the binary header's 27 fields, each behind its tag.
-fn put_fields(kind: Kind, reel: &[u8], out: &mut [u8])
+fn put_fields(layout: Layout, reel: &[u8], out: &mut [u8])
     requires { ⌜ (firstTrace ≤ length (now reel)) × (length (now out) ≡ tracesPlace) ⌝ }
-    ensures { λ _. ⌜ now (out .exit) ≡ fieldsCopied kind (now (reel .entry)) ⌝ }
+    ensures { λ _. ⌜ now (out .exit) ≡ fieldsCopied layout (now (reel .entry)) ⌝ }
 {
     put_tag(1, 3200, &mut out[0..3]);
-    put_text(kind, reel, &mut out[3..3203]);
+    put_text(layout, reel, &mut out[3..3203]);
     put_tag(2, 60, &mut out[3203..3206]);
     slices::copy(&reel[3200..3260], &mut out[3206..3266]);
 }
 
 // The same, the format code replaced by 0. Byte number 1 would stand at the place 6 of the record.
-fn put_head(kind: Kind, reel: &[u8], out: &mut [u8])
+fn put_head(layout: Layout, reel: &[u8], out: &mut [u8])
     requires { ⌜ (firstTrace ≤ length (now reel)) × (length (now out) ≡ tracesPlace) ⌝ }
-    ensures { λ _. ⌜ now (out .exit) ≡ headCopied kind (now (reel .entry)) ⌝ }
+    ensures { λ _. ⌜ now (out .exit) ≡ headCopied layout (now (reel .entry)) ⌝ }
 {
-    put_fields(kind, reel, out);
+    put_fields(layout, reel, out);
     put_over(0, places::field_at(Place(6), ByteNo(3225)), out);
 }
 
 // The record of t traces of n samples, w bytes apart, which fills out; and how many of their words are not normal.
 fn put_record(
-    kind: Kind,
+    layout: Layout,
     reel: &[u8],
     code: usize,
     n: u16,
@@ -145,11 +145,11 @@ fn put_record(
     out: &mut [u8],
 ) -> usize
     requires { ⌜ (isCode code ≡ true) × (n ≤ mostSamples) × (stride n (sampleBytes code) ≤ w) × (t ≤ mostTraces) × (firstTrace + t * w ≤ length (now reel)) × (length (now out) ≡ recordLength t n) ⌝ }
-    ensures { λ r. ⌜ (r ≡ notNormalAmong (now (reel .entry)) code n w t firstTrace) × (now (out .exit) ≡ recordCopied kind (now (reel .entry)) code n i w t) ⌝ }
+    ensures { λ r. ⌜ (r ≡ notNormalAmong (now (reel .entry)) code n w t firstTrace) × (now (out .exit) ≡ recordCopied layout (now (reel .entry)) code n i w t) ⌝ }
 {
     let m = 186 + 6 * n as usize;
     let e = 3266 + t * m;
-    put_head(kind, reel, &mut out[0..3266]);
+    put_head(layout, reel, &mut out[0..3266]);
     let count = put_traces(reel, code, n, i, w, m, t, &mut out[3266..e]);
     put_count(t as u32, &mut out[e..e + 7]);
     count
@@ -157,7 +157,7 @@ fn put_record(
 
 // A reel to which no cause of 1 to 9, 18, 19 and 20 applies, by its own numbers.
 fn read_checked(
-    kind: Kind,
+    layout: Layout,
     reel: &[u8],
     code: usize,
     n: usize,
@@ -167,8 +167,8 @@ fn read_checked(
     t: usize,
     out: &mut [u8],
 ) -> Counted
-    requires { ⌜ judgedBy kind (now reel) ≡ Judged.Fine code n i v w t ⌝ }
-    ensures { λ r. ⌜ countedOutcome r (now (out .exit)) ≡ readOutcomeBy kind (now (reel .entry)) (now (out .entry)) ⌝ }
+    requires { ⌜ judgedBy layout (now reel) ≡ Judged.Fine code n i v w t ⌝ }
+    ensures { λ r. ⌜ countedOutcome r (now (out .exit)) ≡ readOutcomeBy layout (now (reel .entry)) (now (out .entry)) ⌝ }
 {
     let length = 3273 + t * (186 + 6 * n);
     if out.len() < length {
@@ -178,7 +178,7 @@ fn read_checked(
         };
     }
     let count = put_record(
-        kind,
+        layout,
         reel,
         code,
         n as u16,
@@ -196,9 +196,9 @@ fn read_checked(
 }
 
 // A reel by what judging it found.
-fn read_judged(kind: Kind, c: Judged, reel: &[u8], out: &mut [u8]) -> Counted
-    requires { ⌜ c ≡ judgedBy kind (now reel) ⌝ }
-    ensures { λ r. ⌜ countedOutcome r (now (out .exit)) ≡ readOutcomeBy kind (now (reel .entry)) (now (out .entry)) ⌝ }
+fn read_judged(layout: Layout, c: Judged, reel: &[u8], out: &mut [u8]) -> Counted
+    requires { ⌜ c ≡ judgedBy layout (now reel) ⌝ }
+    ensures { λ r. ⌜ countedOutcome r (now (out .exit)) ≡ readOutcomeBy layout (now (reel .entry)) (now (out .entry)) ⌝ }
 {
     match c {
         Judged::Refused { number, place } => Counted::Refused { number, place },
@@ -210,7 +210,7 @@ fn read_judged(kind: Kind, c: Judged, reel: &[u8], out: &mut [u8]) -> Counted
             stride,
             traces,
         } => read_checked(
-            kind,
+            layout,
             reel,
             code,
             samples,
@@ -227,12 +227,12 @@ fn read_judged(kind: Kind, c: Judged, reel: &[u8], out: &mut [u8]) -> Counted
 pub fn read_reel(reel: &[u8], out: &mut [u8]) -> Counted
     ensures { λ r. ⌜ countedOutcome r (now (out .exit)) ≡ readOutcome (now (reel .entry)) (now (out .entry)) ⌝ }
 {
-    read_judged(Kind::Plain, reel::judge_reel(reel), reel, out)
+    read_judged(Layout::Plain, reel::judge_reel(reel), reel, out)
 }
 
 // Reads an Eagle reel into the front of a record buffer.
 pub fn read_eagle(reel: &[u8], out: &mut [u8]) -> Counted
     ensures { λ r. ⌜ countedOutcome r (now (out .exit)) ≡ readOutcomeBy Eagle (now (reel .entry)) (now (out .entry)) ⌝ }
 {
-    read_judged(Kind::Eagle, reel::judge_eagle(reel), reel, out)
+    read_judged(Layout::Eagle, reel::judge_eagle(reel), reel, out)
 }

@@ -7,8 +7,8 @@ use lib.IntN.{pos}
 use Rattle.numbers.proofs.WalkLaws.{size-bytes}
 use Rattle.reel.specs.Layout.{fieldsFrom, binaryWidths, binaryFields, fieldNumber}
 use Rattle.reel.specs.Meaning.{cardTextBy, cardText, binaryNumbers}
-use Rattle.reel.specs.declared.Kind.{Kind}
-use Rattle.reel.specs.declared.Kind.the-variants.{Plain, Eagle}
+use Rattle.reel.specs.declared.Layout.{Layout}
+use Rattle.reel.specs.declared.Layout.the-variants.{Plain, Eagle}
 use Rattle.record.specs.Record.{withCode}
 use Rattle.headers.proofs.NumberLaws.{total}
 
@@ -41,8 +41,8 @@ pub parts : (total binary-front ≡ 24) × (total binary-back ≡ 34)
 unfolding binary-front binary-back
 parts = (refl, refl)
 
--- the card text of either kind of reel has 3,200 bytes
-pub size-text : (k : Kind) (s : List ℕ) → length (cardTextBy k s) ≡ 3200
+-- the card text of either layout has 3,200 bytes
+pub size-text : (k : Layout) (s : List ℕ) → length (cardTextBy k s) ≡ 3200
 unfolding cardTextBy
 size-text Plain s = simp (length-map, size-bytes)
 size-text Eagle s = simp (length-append, length-map, size-bytes)

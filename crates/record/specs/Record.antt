@@ -9,8 +9,8 @@ use Rattle.numbers.specs.BigEndian.{bytesOf}
 use Rattle.value.specs.Pair.{pairLength, valueBytes}
 use Rattle.reel.specs.Layout.{binaryWidths}
 use Rattle.reel.specs.Meaning.{Trace, Meaning, meaningBy}
-use Rattle.reel.specs.declared.Kind.{Kind}
-use Rattle.reel.specs.declared.Kind.the-variants.{Plain}
+use Rattle.reel.specs.declared.Layout.{Layout}
+use Rattle.reel.specs.declared.Layout.the-variants.{Plain}
 use Rattle.headers.specs.Header.{numberBytes, headerBytes}
 
 -- A tagged field: one byte of tag, two bytes of length, the content.
@@ -39,8 +39,8 @@ recordOf m =
     field 1 (m .cards)
     ++ (field 2 (binaryBytes 0 (m .binary)) ++ (flat (map traceBytes (m .traces)) ++ field 5 (bytesOf 4 (length (m .traces)))))
 
--- The record of a reel, of a kind and plain, is that of what it means.
-abbrev pub recordBy : Kind → List ℕ → List ℕ
+-- The record of a reel of a layout, and of a plain reel, is that of what it means.
+abbrev pub recordBy : Layout → List ℕ → List ℕ
 recordBy k s = recordOf (meaningBy k s)
 
 abbrev pub reelRecord : List ℕ → List ℕ

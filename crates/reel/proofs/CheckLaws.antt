@@ -5,8 +5,8 @@ use mathlib.Core.Bool.{Bool, true, false, not, _&&_}
 use Prim.Native.Nat.{ℕ, zero, suc, _+_, _-_, _*_, _≤_, _<_}
 use native.Mathlib.Nat.{mul-le-mul, div-mul-le-self}
 use native.Mathlib.Omega.{arith}
-use borrow.Author.Tests.{leb-true, le-leb, eqb-true, eq-eqb, ne-eqb, ltb-false, not-false}
-use lib.Dec.{T, leb, ltb, eqb}
+use borrow.Author.Tests.{leb-true, eqb-true, ne-eqb, ltb-false, not-false}
+use lib.Dec.{T, leb, ltb}
 use lib.ListN.{length}
 use Rattle.numbers.specs.Walk.{pick, walk}
 use Rattle.numbers.specs.Cause.{refuseIf, then, firstOf}
@@ -18,14 +18,13 @@ use Rattle.formats.specs.Value.{isBad, wordNumber, exactValue}
 use Rattle.sample.specs.Reading.{badNumber, pairTaken, readWord}
 use Rattle.sample.specs.declared.Sample.the-variants as sample
 use Rattle.numbers.proofs.SignLaws.{below-or}
-use Rattle.numbers.proofs.BoolLaws.{and-true, and-both, same-test}
 use mathlib.Core.Logic.{⊎-elim}
 use Rattle.formats.proofs.CodeLaws.{width-high}
 use Rattle.reel.specs.Layout.{firstTrace, traceHeader, elevationScalar, coordinateScalar, number16, samplesOf, codeOf, intervalOf, stride, trailerBytes, strideIn, strideBy, overIn, tracesBy, tracesOf, strideOf}
 use Rattle.reel.specs.Parts.{wordRefused, traceHeaderCauses}
 use Rattle.reel.specs.Causes.{mostSamples, mostTraces, within, neither, allows, limitCausesBy, sizeCauses, scalarCause, wordCause, traceCauses, traceCausesBy, behindCausesBy, causesBy, causesOf}
-use Rattle.reel.specs.declared.Kind.{Kind}
-use Rattle.reel.specs.declared.Kind.the-variants.{Plain, Eagle}
+use Rattle.reel.specs.declared.Layout.{Layout}
+use Rattle.reel.specs.declared.Layout.the-variants.{Plain, Eagle}
 
 -- ## Rows
 
@@ -86,19 +85,12 @@ pub record Numbers (code n i : ℕ) : Type 0 where
   pub i-low : 1 ≤ i
   pub i-high : i ≤ 32767
 
--- from 1 to 1 is 1 alone
-pub one-within : (n : ℕ) → within 1 1 n ≡ eqb n 1
-one-within n =
-    same-test (within 1 1 n) (eqb n 1)
-    (λ e. let t = and-true (leb 1 n) (leb n 1) e in eq-eqb n 1 (omega (arith, leb-true 1 n (t .0), leb-true n 1 (t .1))))
-    (λ e. let q = eqb-true n 1 e in and-both (leb 1 n) (leb n 1) (le-leb 1 n (omega (arith, q))) (le-leb n 1 (omega (arith, q))))
-
--- what a kind allows is a code; on an Eagle reel it is 1
-pub allowed-code : (k : Kind) (code : ℕ) → allows k code ≡ true → isCode code ≡ true
+-- what a layout allows is a code; on an Eagle reel it is 1
+pub allowed-code : (k : Layout) (code : ℕ) → allows k code ≡ true → isCode code ≡ true
 allowed-code Plain code e = e
 allowed-code Eagle code e = ap isCode (eqb-true code 1 e)
 
-pub header-fine : (k : Kind) (code n i : ℕ) → limitCausesBy k code n i ≡ Fine → Numbers code n i
+pub header-fine : (k : Layout) (code n i : ℕ) → limitCausesBy k code n i ≡ Fine → Numbers code n i
 header-fine k code n i e =
     let a = then-fine (refuseIf (not (allows k code)) 2 3224) _ e in
     let b = then-fine (refuseIf (not (within 1 mostSamples n)) 3 3220) _ (a .1) in
@@ -111,18 +103,18 @@ header-fine k code n i e =
 pub stride-high : (code n : ℕ) → n ≤ mostSamples → stride n (sampleBytes code) ≤ 32240
 stride-high code n h = let l = mul-le-mul h (width-high code) in omega arith
 
--- of either kind it has its header and its samples
-pub stride-holds : (k : Kind) (n v : ℕ) → stride n v ≤ strideIn k n v
+-- in either layout it has its header and its samples
+pub stride-holds : (k : Layout) (n v : ℕ) → stride n v ≤ strideIn k n v
 stride-holds Plain n v = omega arith
 stride-holds Eagle n v = omega arith
 
 -- and at most a trailer more
-pub stride-most : (k : Kind) (n v : ℕ) → strideIn k n v ≤ stride n v + trailerBytes
+pub stride-most : (k : Layout) (n v : ℕ) → strideIn k n v ≤ stride n v + trailerBytes
 stride-most Plain n v = omega arith
 stride-most Eagle n v = omega arith
 
--- what a reel of a kind is to which no cause applies
-pub record SoundBy (k : Kind) (s : List ℕ) : Type 0 where
+-- what a reel of a layout is to which no cause applies
+pub record SoundBy (k : Layout) (s : List ℕ) : Type 0 where
   pub long : firstTrace ≤ length s
   pub numbers : Numbers (codeOf s) (samplesOf s) (intervalOf s)
   pub allowed : allows k (codeOf s) ≡ true
@@ -130,7 +122,7 @@ pub record SoundBy (k : Kind) (s : List ℕ) : Type 0 where
   pub few : tracesBy k s ≤ mostTraces
   pub traces : firstOf (walk (traceCausesBy k s (codeOf s) (samplesOf s) (intervalOf s)) (strideBy k s) (tracesBy k s) firstTrace) ≡ Fine
 
-pub fine-by : (k : Kind) (s : List ℕ) → causesBy k s ≡ Fine → SoundBy k s
+pub fine-by : (k : Layout) (s : List ℕ) → causesBy k s ≡ Fine → SoundBy k s
 unfolding causesBy behindCausesBy
 fine-by k s e =
     let a = then-fine (refuseIf (ltb (length s) firstTrace) 1 (length s)) _ e in
@@ -152,7 +144,7 @@ fine-by k s e =
     none h = omega arith
 
 -- the traces end where the reel ends
-pub inside-by : (k : Kind) (s : List ℕ) → SoundBy k s → firstTrace + tracesBy k s * strideBy k s ≤ length s
+pub inside-by : (k : Layout) (s : List ℕ) → SoundBy k s → firstTrace + tracesBy k s * strideBy k s ≤ length s
 inside-by k s h = omega (arith, h .long, div-mul-le-self (length s - firstTrace) (strideBy k s))
 
 -- the same of a plain reel

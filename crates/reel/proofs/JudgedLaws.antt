@@ -9,11 +9,11 @@ use Rattle.numbers.specs.declared.Check.the-variants as check
 use Rattle.reel.specs.Layout.{samplesOf, intervalOf, codeOf, strideBy, tracesBy}
 use Rattle.formats.specs.Codes.{sampleBytes}
 use Rattle.reel.specs.Causes.{causesBy, foundBy, judgedBy}
-use Rattle.reel.specs.declared.Kind.{Kind}
+use Rattle.reel.specs.declared.Layout.{Layout}
 use Rattle.reel.specs.declared.Judged.the-variants as judged
 
--- a reel of a kind with no cause against it, by its own numbers
-pub record Own (k : Kind) (s : List ℕ) (code n i v w t : ℕ) : Type 0 where
+-- a reel of a layout with no cause against it, by its own numbers
+pub record Own (k : Layout) (s : List ℕ) (code n i v w t : ℕ) : Type 0 where
   pub fine : causesBy k s ≡ check.Fine
   pub code-is : codeOf s ≡ code
   pub n-is : samplesOf s ≡ n
@@ -22,14 +22,14 @@ pub record Own (k : Kind) (s : List ℕ) (code n i v w t : ℕ) : Type 0 where
   pub w-is : strideBy k s ≡ w
   pub t-is : tracesBy k s ≡ t
 
-pub own : (k : Kind) (s : List ℕ) {code n i v w t : ℕ} → judgedBy k s ≡ judged.Fine code n i v w t → Own k s code n i v w t
+pub own : (k : Layout) (s : List ℕ) {code n i v w t : ℕ} → judgedBy k s ≡ judged.Fine code n i v w t → Own k s code n i v w t
 own k s {code} {n} {i} {v} {w} {t} = go (causesBy k s) refl
   where
     go : (c : Check) → causesBy k s ≡ c → foundBy k s c ≡ judged.Fine code n i v w t → Own k s code n i v w t
     go check.Fine q e = record { fine = q; code-is = cc; n-is = cc; i-is = cc; v-is = cc; w-is = cc; t-is = cc }
     go (check.Refused number place) q e = absurd (let z : _≡_ {A = ℕ} 0 1 = cc in omega arith)
 
-pub refused-is : (k : Kind) (s : List ℕ) {number : ℕ} {place : Place} → judgedBy k s ≡ judged.Refused number place → causesBy k s ≡ check.Refused number place
+pub refused-is : (k : Layout) (s : List ℕ) {number : ℕ} {place : Place} → judgedBy k s ≡ judged.Refused number place → causesBy k s ≡ check.Refused number place
 refused-is k s {number} {place} = go (causesBy k s)
   where
     go : (c : Check) → foundBy k s c ≡ judged.Refused number place → c ≡ check.Refused number place

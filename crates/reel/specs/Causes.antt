@@ -1,6 +1,6 @@
 -- The causes 1 to 9, 18, 19 and 20 against a reel, in the order of document 01's table and, for 18, 19 and 20, of document 02 (CR 2, CR 4,
--- CR 7), each with what stands beside it. The kind of the reel, plain or Eagle, is a parameter; the names without it are those of plain reels,
--- to which 20 doesn't apply. 9 and 19 don't apply to Eagle reels, which have code 1.
+-- CR 7), each with what stands beside it. A name that ends in `By` takes the layout of the reel, plain or Eagle; the same name without it, or
+-- with `Of`, is that of plain reels, and so is `reelJudged`. 20 doesn't apply to plain reels, nor 9 and 19 to Eagle reels, which have code 1.
 use Prim.Native.Nat.{ℕ, _+_, _-_, _*_}
 use mathlib.Core.List.{List, [], _∷_}
 use mathlib.Core.Bool.{Bool, not, _&&_}
@@ -11,8 +11,8 @@ use Rattle.numbers.specs.Cause.{refuseIf, then, firstOf}
 use Rattle.numbers.specs.Places.{bytePlace}
 use Rattle.numbers.specs.declared.Check.{Check}
 use Rattle.numbers.specs.declared.Check.the-variants.{Fine, Refused}
-use Rattle.reel.specs.declared.Kind.{Kind}
-use Rattle.reel.specs.declared.Kind.the-variants.{Plain, Eagle}
+use Rattle.reel.specs.declared.Layout.{Layout}
+use Rattle.reel.specs.declared.Layout.the-variants.{Plain, Eagle}
 use Rattle.reel.specs.declared.Judged.{Judged}
 use Rattle.reel.specs.declared.Judged.the-variants as variant
 use Rattle.formats.specs.Codes.{wordLength, isCode, sampleBytes}
@@ -40,13 +40,13 @@ within a b n = leb a n && leb n b
 abbrev pub neither : ℕ → ℕ → Bool
 neither n m = not (eqb n 0) && not (eqb n m)
 
--- The format codes of a kind of reel: 1, 2, 3, 4, 5, 8; on an Eagle reel "Format code 1 is the only one allowed" (document 02, CR 7).
-abbrev pub allows : Kind → ℕ → Bool
+-- The format codes of a layout: 1, 2, 3, 4, 5, 8; on an Eagle reel "Format code 1 is the only one allowed" (document 02, CR 7).
+abbrev pub allows : Layout → ℕ → Bool
 allows Plain code = isCode code
 allows Eagle code = eqb code 1
 
 -- 2, 3, 4: format code not allowed, place 3224; N not 1 to 8,000, place 3220; interval not 1 to 32,767, place 3216.
-abbrev pub limitCausesBy : Kind → ℕ → ℕ → ℕ → Check
+abbrev pub limitCausesBy : Layout → ℕ → ℕ → ℕ → Check
 limitCausesBy k code n i =
     firstOf
     (refuseIf (not (allows k code)) 2 (bytePlace 0 3225)
@@ -89,13 +89,13 @@ traceCauses s code n i at =
 abbrev pub trailerCause : List ℕ → ℕ → Check
 trailerCause s at = refuseIf (not (eqb (number16 s (at + (trailerBytes - 2))) 0xFFFF)) 20 (at + (trailerBytes - 2))
 
--- The causes of the trace at a place; on an Eagle reel 20, "in each trace after its samples", where the trailer stands.
-abbrev pub traceCausesBy : Kind → List ℕ → ℕ → ℕ → ℕ → ℕ → Check
+-- The causes of the trace at a place; on an Eagle reel then 20, "in each trace after its samples", of the trailer that stands there.
+abbrev pub traceCausesBy : Layout → List ℕ → ℕ → ℕ → ℕ → ℕ → Check
 traceCausesBy Plain = traceCauses
 traceCausesBy Eagle = λ s code n i at. then (traceCauses s code n i at) (trailerCause s (at + stride n (sampleBytes code)))
 
 -- 5 and 6, then trace by trace 7, 8, 18, then 9 or 19, then 20, of traces of w bytes.
-unfoldable pub behindCausesBy : Kind → List ℕ → ℕ → ℕ → ℕ → ℕ → Check
+unfoldable pub behindCausesBy : Layout → List ℕ → ℕ → ℕ → ℕ → ℕ → Check
 behindCausesBy k s code n i w =
     then (sizeCauses (length s) w (wholeIn (length s) w) (overIn (length s) w))
     (firstOf (walk (traceCausesBy k s code n i) w (wholeIn (length s) w) firstTrace))
@@ -104,7 +104,7 @@ abbrev pub behindCauses : List ℕ → ℕ → ℕ → ℕ → ℕ → Check
 behindCauses s code n i w = behindCausesBy Plain s code n i w
 
 -- 1 to 6 in that order; then trace by trace 7, 8, 18, then 9 or 19, then 20.
-unfoldable pub causesBy : Kind → List ℕ → Check
+unfoldable pub causesBy : Layout → List ℕ → Check
 causesBy k s =
     then (refuseIf (ltb (length s) firstTrace) 1 (length s))
     (then (limitCausesBy k (codeOf s) (samplesOf s) (intervalOf s))
@@ -114,11 +114,11 @@ abbrev pub causesOf : List ℕ → Check
 causesOf s = causesBy Plain s
 
 -- A reel to which no cause applies, with its own numbers; or the first cause.
-abbrev pub foundBy : Kind → List ℕ → Check → Judged
+abbrev pub foundBy : Layout → List ℕ → Check → Judged
 foundBy k s Fine = variant.Fine (codeOf s) (samplesOf s) (intervalOf s) (sampleBytes (codeOf s)) (strideBy k s) (tracesBy k s)
 foundBy k s (Refused number place) = variant.Refused number place
 
-abbrev pub judgedBy : Kind → List ℕ → Judged
+abbrev pub judgedBy : Layout → List ℕ → Judged
 judgedBy k s = foundBy k s (causesBy k s)
 
 abbrev pub reelJudged : List ℕ → Judged

@@ -9,8 +9,8 @@ use Rattle.numbers.specs.BigEndian.{number}
 use Rattle.numbers.specs.TwosComplement.{signedOf}
 use Rattle.numbers.specs.Places.{bytePlace}
 use Rattle.formats.specs.Codes.{sampleBytes}
-use Rattle.reel.specs.declared.Kind.{Kind}
-use Rattle.reel.specs.declared.Kind.the-variants.{Plain, Eagle}
+use Rattle.reel.specs.declared.Layout.{Layout}
+use Rattle.reel.specs.declared.Layout.the-variants.{Plain, Eagle}
 -- The card bytes, 40 cards of 80, which `Cards` defines: 3,200.
 pub use Rattle.cards.specs.Cards.{cardBytes}
 
@@ -62,7 +62,7 @@ abbrev pub fieldNumber : List ℕ → ℕ → Field → ℤ
 fieldNumber s start f = signedOf (8 * f .width) (number (bytesAt s (bytePlace start (f .begins)) (f .width)))
 
 -- The number in two bytes, without sign. Of a reel's own numbers below, from 1 to 32,767 or refused, the sign plays no part; the length of
--- a record's field, up to 48,000, has none.
+-- a record's field, up to 48,000, and FFFF at the end of a trailer have none.
 abbrev pub number16 : List ℕ → ℕ → ℕ
 number16 s at = number (bytesAt s at 2)
 
@@ -80,7 +80,7 @@ samplesOf s = number16 s (bytePlace 0 3221)
 abbrev pub codeOf : List ℕ → ℕ
 codeOf s = number16 s (bytePlace 0 3225)
 
--- From one trace to the next: n samples of v bytes behind the header.
+-- A trace's header and its n samples of v bytes: on a plain reel that is all from one trace to the next.
 abbrev pub stride : ℕ → ℕ → ℕ
 stride n v = traceHeader + n * v
 
@@ -88,13 +88,13 @@ stride n v = traceHeader + n * v
 abbrev pub trailerBytes : ℕ
 trailerBytes = 960
 
--- From one trace to the next on a reel of a kind, plain or Eagle, with the trailer as part of the trace.
-abbrev pub strideIn : Kind → ℕ → ℕ → ℕ
+-- From one trace to the next in a layout, plain or Eagle, with the trailer as part of the trace.
+abbrev pub strideIn : Layout → ℕ → ℕ → ℕ
 strideIn Plain n v = stride n v
 strideIn Eagle n v = stride n v + trailerBytes
 
 -- The same of a reel, by its own numbers; and of a plain reel.
-abbrev pub strideBy : Kind → List ℕ → ℕ
+abbrev pub strideBy : Layout → List ℕ → ℕ
 strideBy k s = strideIn k (samplesOf s) (sampleBytes (codeOf s))
 
 abbrev pub strideOf : List ℕ → ℕ
@@ -108,7 +108,7 @@ abbrev pub overIn : ℕ → ℕ → ℕ
 overIn size w = (size - firstTrace) % w
 
 -- T, the whole traces of a reel by its own numbers; and of a plain reel.
-abbrev pub tracesBy : Kind → List ℕ → ℕ
+abbrev pub tracesBy : Layout → List ℕ → ℕ
 tracesBy k s = wholeIn (length s) (strideBy k s)
 
 abbrev pub tracesOf : List ℕ → ℕ

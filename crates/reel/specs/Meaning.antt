@@ -1,5 +1,5 @@
--- What a reel means, from its bytes alone and never from a record. The kind of the reel, plain or Eagle, is a parameter; the names without it
--- are those of plain reels.
+-- What a reel means, from its bytes alone and never from a record. A name that ends in `By` takes the layout of the reel, plain or Eagle; the
+-- same name without it, or with `Of`, is that of plain reels.
 use Prim.Native.Nat.{ℕ, _+_, _-_}
 use mathlib.Core.Path.{_≡_}
 use mathlib.Core.List.{List, [], _∷_, _++_, map}
@@ -12,14 +12,14 @@ use Rattle.scalars.specs.Scalar.{scaledValues}
 use Rattle.reel.specs.Layout.{Field, cardBytes, firstTrace, traceHeader, binaryFields, traceFields, elevationScalar, coordinateScalar, fieldNumber, intervalOf, samplesOf, codeOf, strideBy, tracesBy}
 use Rattle.formats.specs.Codes.{wordLength, sampleBytes}
 use Rattle.reel.specs.Causes.{within}
-use Rattle.reel.specs.declared.Kind.{Kind}
-use Rattle.reel.specs.declared.Kind.the-variants.{Plain, Eagle}
+use Rattle.reel.specs.declared.Layout.{Layout}
+use Rattle.reel.specs.declared.Layout.the-variants.{Plain, Eagle}
 -- How a card byte is taken, which `Cards` defines: 00 as the EBCDIC blank 40.
 pub use Rattle.cards.specs.Cards.{blank}
 
 -- The card text: the 3,200 card bytes with 40 in place of 00. On an Eagle reel "Columns 79 and 80 of card 40 hold a check and are taken as
 -- blanks" (document 02, CR 7): they are the last two card bytes.
-unfoldable pub cardTextBy : Kind → List ℕ → List ℕ
+unfoldable pub cardTextBy : Layout → List ℕ → List ℕ
 cardTextBy Plain s = map blank (bytesAt s 0 cardBytes)
 cardTextBy Eagle s = map blank (bytesAt s 0 (cardBytes - 2)) ++ (0x40 ∷ 0x40 ∷ [])
 
@@ -99,8 +99,8 @@ pub record Meaning : Type 0 where
   pub binary : List ℤ
   pub traces : List Trace
 
--- That of a reel of a kind: a trailer carries no meaning, so that an Eagle reel's traces are as a plain reel's, but stand further apart.
-unfoldable pub meaningBy : Kind → List ℕ → Meaning
+-- That of a reel of a layout: a trailer carries no meaning, so that an Eagle reel's traces are as a plain reel's, but stand further apart.
+unfoldable pub meaningBy : Layout → List ℕ → Meaning
 meaningBy k s =
     record {
       cards = cardTextBy k s;

@@ -1,6 +1,7 @@
 // A reel's causes, 1 to 9, 18, 19 and 20, and its own numbers: of a plain reel, and of an Eagle reel, whose traces end with a trailer.
 ghost use mathlib.Core.Path.{_≡_};
 ghost use Prim.Native.Nat.{_+_, _-_, _*_, _/_, _%_, _^_, _<_, _≤_};
+ghost use lib.Dec.{eqb};
 ghost use lib.ListN.{length};
 ghost use Rattle.numbers.specs.Walk.{walk};
 ghost use mathlib.Core.Bool.{not};
@@ -10,16 +11,16 @@ ghost use Rattle.numbers.specs.Places.{placeNo, byteNo, bytePlace};
 ghost use Rattle.formats.specs.Codes.{isCode, sampleBytes};
 ghost use Rattle.reel.specs.Layout.{traceHeader, number16, trailerBytes, strideIn};
 ghost use Rattle.reel.specs.Causes.{within, neither, allows, limitCausesBy, sizeCauses, scalarCause, wordCause, traceCauses, trailerCause, traceCausesBy, behindCausesBy, causesBy, judgedBy, reelJudged};
-ghost use Rattle.reel.specs.declared.Kind.the-variants.{Eagle};
+ghost use Rattle.reel.specs.declared.Layout.the-variants.{Eagle};
 ghost use Rattle.reel.specs.Parts.{wordRefused, traceHeaderCauses};
 use numbers::ByteNo;
 use numbers::Check;
 use numbers::Place;
 use sample::Sample;
 
-// The kinds of reels: plain, in the 1975 layout; and Eagle, in the layout of source document 004 (document 02, CR 7), where a trailer of 960
-// bytes stands behind the samples of each trace.
-pub enum Kind {
+// The layouts of reels: plain, that of 1975; and Eagle, that of source document 004 (document 02, CR 7), where a trailer of 960 bytes stands
+// behind the samples of each trace, and columns 79 and 80 of card 40 hold a check.
+pub enum Layout {
     Plain,
     Eagle,
 }
@@ -101,22 +102,32 @@ pub fn check_code(code: usize, number: u8, place: Place) -> Check
     Check::Refused { number, place }
 }
 
-// 2: the format code isn't one of the kind's.
-fn check_allowed(kind: Kind, code: usize) -> Check
-    ensures { λ r. ⌜ r ≡ refuseIf (not (allows kind code)) 2 (bytePlace 0 3225) ⌝ }
+// 2: the format code of an Eagle reel isn't 1.
+fn check_one(code: usize, place: Place) -> Check
+    ensures { λ r. ⌜ r ≡ refuseIf (not (eqb code 1)) 2 (placeNo place) ⌝ }
+{
+    if code == 1 {
+        return Check::Fine;
+    }
+    Check::Refused { number: 2, place }
+}
+
+// 2: the format code isn't one of the layout's.
+fn check_allowed(layout: Layout, code: usize) -> Check
+    ensures { λ r. ⌜ r ≡ refuseIf (not (allows layout code)) 2 (bytePlace 0 3225) ⌝ }
 {
     let place = places::field_at(Place(0), ByteNo(3225));
-    match kind {
-        Kind::Plain => check_code(code, 2, place),
-        Kind::Eagle => check_limits(code, 1, 1, 2, place),
+    match layout {
+        Layout::Plain => check_code(code, 2, place),
+        Layout::Eagle => check_one(code, place),
     }
 }
 
 // 2, 3 and 4: the format code, N and the interval.
-fn check_header(kind: Kind, code: usize, n: usize, i: usize) -> Check
-    ensures { λ r. ⌜ r ≡ limitCausesBy kind code n i ⌝ }
+fn check_header(layout: Layout, code: usize, n: usize, i: usize) -> Check
+    ensures { λ r. ⌜ r ≡ limitCausesBy layout code n i ⌝ }
 {
-    let a = check_allowed(kind, code);
+    let a = check_allowed(layout, code);
     let Check::Fine = a else {
         return a;
     };
@@ -230,7 +241,7 @@ fn check_trailer(reel: &[u8], at: usize) -> Check
 
 // The causes of the trace at a place, and on an Eagle reel that of its trailer behind them.
 fn check_whole(
-    kind: Kind,
+    layout: Layout,
     reel: &[u8],
     code: usize,
     n: usize,
@@ -238,22 +249,22 @@ fn check_whole(
     v: usize,
     at: usize,
 ) -> Check
-    requires { ⌜ (v ≡ sampleBytes code) × (at + strideIn kind n v ≤ length (now reel)) ⌝ }
-    ensures { λ r. ⌜ r ≡ traceCausesBy kind (now (reel .entry)) code n i at ⌝ }
+    requires { ⌜ (v ≡ sampleBytes code) × (at + strideIn layout n v ≤ length (now reel)) ⌝ }
+    ensures { λ r. ⌜ r ≡ traceCausesBy layout (now (reel .entry)) code n i at ⌝ }
 {
     let a = check_trace(reel, code, n, i, v, at);
     let Check::Fine = a else {
         return a;
     };
-    match kind {
-        Kind::Plain => Check::Fine,
-        Kind::Eagle => check_trailer(reel, at + (240 + n * v)),
+    match layout {
+        Layout::Plain => Check::Fine,
+        Layout::Eagle => check_trailer(reel, at + (240 + n * v)),
     }
 }
 
 // 7, 8, 18, then 9 or 19, then 20, trace by trace.
 fn check_traces(
-    kind: Kind,
+    layout: Layout,
     reel: &[u8],
     code: usize,
     n: usize,
@@ -262,13 +273,13 @@ fn check_traces(
     w: usize,
     t: usize,
 ) -> Check
-    requires { ⌜ (v ≡ sampleBytes code) × (w ≡ strideIn kind n v) × (3600 + t * w ≤ length (now reel)) ⌝ }
-    ensures { λ r. ⌜ r ≡ firstOf (walk (traceCausesBy kind (now (reel .entry)) code n i) w t 3600) ⌝ }
+    requires { ⌜ (v ≡ sampleBytes code) × (w ≡ strideIn layout n v) × (3600 + t * w ≤ length (now reel)) ⌝ }
+    ensures { λ r. ⌜ r ≡ firstOf (walk (traceCausesBy layout (now (reel .entry)) code n i) w t 3600) ⌝ }
 {
     let mut at = 3600;
     let mut left = t;
     while 0 < left {
-        let c = check_whole(kind, reel, code, n, i, v, at);
+        let c = check_whole(layout, reel, code, n, i, v, at);
         let Check::Fine = c else {
             return c;
         };
@@ -280,7 +291,7 @@ fn check_traces(
 
 // 5 to 9, 18, 19 and 20.
 fn check_behind(
-    kind: Kind,
+    layout: Layout,
     reel: &[u8],
     code: usize,
     n: usize,
@@ -288,8 +299,8 @@ fn check_behind(
     v: usize,
     w: usize,
 ) -> Check
-    requires { ⌜ (v ≡ sampleBytes code) × (w ≡ strideIn kind n v) × (w ≤ 40000) × (3600 ≤ length (now reel)) ⌝ }
-    ensures { λ r. ⌜ r ≡ behindCausesBy kind (now (reel .entry)) code n i w ⌝ }
+    requires { ⌜ (v ≡ sampleBytes code) × (w ≡ strideIn layout n v) × (w ≤ 40000) × (3600 ≤ length (now reel)) ⌝ }
+    ensures { λ r. ⌜ r ≡ behindCausesBy layout (now (reel .entry)) code n i w ⌝ }
 {
     let size = reel.len();
     let t = (size - 3600) / w;
@@ -297,36 +308,36 @@ fn check_behind(
     let Check::Fine = a else {
         return a;
     };
-    check_traces(kind, reel, code, n, i, v, w, t)
+    check_traces(layout, reel, code, n, i, v, w, t)
 }
 
 // The bytes from one trace to the next, of n samples of v bytes.
-fn stride_in(kind: Kind, n: usize, v: usize) -> usize
+fn stride_in(layout: Layout, n: usize, v: usize) -> usize
     requires { ⌜ n * v ≤ 4 * 65536 ⌝ }
-    ensures { λ r. ⌜ r ≡ strideIn kind n v ⌝ }
+    ensures { λ r. ⌜ r ≡ strideIn layout n v ⌝ }
 {
-    match kind {
-        Kind::Plain => 240 + n * v,
-        Kind::Eagle => 240 + n * v + 960,
+    match layout {
+        Layout::Plain => 240 + n * v,
+        Layout::Eagle => 240 + n * v + 960,
     }
 }
 
 // 2 to 9, 18, 19 and 20.
-fn check_numbers(kind: Kind, reel: &[u8], code: usize, n: usize, i: usize) -> Check
+fn check_numbers(layout: Layout, reel: &[u8], code: usize, n: usize, i: usize) -> Check
     requires { ⌜ 3600 ≤ length (now reel) ⌝ }
-    ensures { λ r. ⌜ r ≡ then (limitCausesBy kind code n i) (behindCausesBy kind (now (reel .entry)) code n i (strideIn kind n (sampleBytes code))) ⌝ }
+    ensures { λ r. ⌜ r ≡ then (limitCausesBy layout code n i) (behindCausesBy layout (now (reel .entry)) code n i (strideIn layout n (sampleBytes code))) ⌝ }
 {
-    let a = check_header(kind, code, n, i);
+    let a = check_header(layout, code, n, i);
     let Check::Fine = a else {
         return a;
     };
     let v = formats::width_of(code);
-    check_behind(kind, reel, code, n, i, v, stride_in(kind, n, v))
+    check_behind(layout, reel, code, n, i, v, stride_in(layout, n, v))
 }
 
 // The causes 1 to 9, 18, 19 and 20.
-fn check_causes(kind: Kind, reel: &[u8]) -> Check
-    ensures { λ r. ⌜ r ≡ causesBy kind (now (reel .entry)) ⌝ }
+fn check_causes(layout: Layout, reel: &[u8]) -> Check
+    ensures { λ r. ⌜ r ≡ causesBy layout (now (reel .entry)) ⌝ }
 {
     let size = reel.len();
     if size < 3600 {
@@ -336,7 +347,7 @@ fn check_causes(kind: Kind, reel: &[u8]) -> Check
         };
     }
     check_numbers(
-        kind,
+        layout,
         reel,
         binary_number(reel, ByteNo(3225)),
         binary_number(reel, ByteNo(3221)),
@@ -345,15 +356,15 @@ fn check_causes(kind: Kind, reel: &[u8]) -> Check
 }
 
 // The reel's own numbers.
-fn own_numbers(kind: Kind, reel: &[u8]) -> Judged
-    requires { ⌜ causesBy kind (now reel) ≡ Fine ⌝ }
-    ensures { λ r. ⌜ r ≡ judgedBy kind (now (reel .entry)) ⌝ }
+fn own_numbers(layout: Layout, reel: &[u8]) -> Judged
+    requires { ⌜ causesBy layout (now reel) ≡ Fine ⌝ }
+    ensures { λ r. ⌜ r ≡ judgedBy layout (now (reel .entry)) ⌝ }
 {
     let code = binary_number(reel, ByteNo(3225));
     let samples = binary_number(reel, ByteNo(3221));
     let interval = binary_number(reel, ByteNo(3217));
     let width = formats::width_of(code);
-    let stride = stride_in(kind, samples, width);
+    let stride = stride_in(layout, samples, width);
     Judged::Fine {
         code,
         samples,
@@ -364,14 +375,14 @@ fn own_numbers(kind: Kind, reel: &[u8]) -> Judged
     }
 }
 
-// Whether a cause applies to a reel of a kind, and its own numbers where none does.
-fn judge(kind: Kind, reel: &[u8]) -> Judged
-    ensures { λ r. ⌜ r ≡ judgedBy kind (now (reel .entry)) ⌝ }
+// Whether a cause applies to a reel of a layout, and its own numbers where none does.
+fn judge(layout: Layout, reel: &[u8]) -> Judged
+    ensures { λ r. ⌜ r ≡ judgedBy layout (now (reel .entry)) ⌝ }
 {
-    let c = check_causes(kind, reel);
+    let c = check_causes(layout, reel);
     match c {
         Check::Refused { number, place } => Judged::Refused { number, place },
-        Check::Fine => own_numbers(kind, reel),
+        Check::Fine => own_numbers(layout, reel),
     }
 }
 
@@ -379,12 +390,12 @@ fn judge(kind: Kind, reel: &[u8]) -> Judged
 pub fn judge_reel(reel: &[u8]) -> Judged
     ensures { λ r. ⌜ r ≡ reelJudged (now (reel .entry)) ⌝ }
 {
-    judge(Kind::Plain, reel)
+    judge(Layout::Plain, reel)
 }
 
 // Whether a cause of 1 to 8, 18 and 20 applies to an Eagle reel, and its own numbers where none does.
 pub fn judge_eagle(reel: &[u8]) -> Judged
     ensures { λ r. ⌜ r ≡ judgedBy Eagle (now (reel .entry)) ⌝ }
 {
-    judge(Kind::Eagle, reel)
+    judge(Layout::Eagle, reel)
 }

@@ -469,7 +469,7 @@ struct Shape {
 }
 
 impl Shape {
-    /// The bytes of a trace on a plain reel.
+    /// The bytes of a trace: its header and its samples, without a trailer.
     fn trace_length(&self, code: Code) -> usize {
         TRACE_HEADER + self.samples as usize * code.width()
     }

@@ -2,9 +2,8 @@
 use Rattle.digests.specs.Digest.{digestFrom, digestOf}
 use Rattle.numbers.proofs.WalkLaws.{drop-next}
 use lib.ListN.{length, drop, drop-of-length-le}
-use Prim.Native.Nat.{ℕ, _-_, _^_, _≤_, _<_}
+use Prim.Native.Nat.{_-_, _^_, _≤_, _<_}
 use native.Mathlib.Nat.{mod-lt}
-use mathlib.Core.List.{List}
 use mathlib.Core.Path.{_≡_, refl, sym, ap, _∙_}
 use native.Mathlib.Omega.{arith}
 use borrow.Author.Needs.{needs}

@@ -1,7 +1,7 @@
 -- `look_up::look_up` meets its contract. Assumes nothing.
 use mathlib.Core.Path.{sym, _∙_}
 use Rattle.reel.proofs.JudgedLaws.{refused-is}
-use Rattle.reel.specs.declared.Kind.the-variants.{Plain}
+use Rattle.reel.specs.declared.Layout.the-variants.{Plain}
 use Rattle.look_up.proofs.CallLaws.{own-numbers, stopped-is}
 use borrow.Author.Needs.{needs}
 use Rattle.look_up.proofs.look_up.Statement.{statement}

@@ -43,17 +43,17 @@ returns c =
     let b = c .before .before .before .before .before .before .before .before .before .before .before .before .before .before .before .before .before .before .before in
     let s = b .args .reel .now in
     let z = bytesAt s 3200 60 in
-    let text = cardTextBy (b .args .kind) s in
-    let w₀ = start _ (b .args .out .now) (b .pre .1 ∙ sym (size-fields (b .args .kind) s)) in
+    let text = cardTextBy (b .args .layout) s in
+    let w₀ = start _ (b .args .out .now) (b .pre .1 ∙ sym (size-fields (b .args .layout) s)) in
     let w₁ = lend (tagBytes 1 3200) (text ++ (tagBytes 2 60 ++ z)) 3 w₀ (omega arith) refl (c .before .before .before .before .before .before .before .before .before .before .before .before .before .before .before .put-tag .ensures) in
-    let w₂ = lend text (tagBytes 2 60 ++ z) 3203 w₁ (omega arith) (size-text (b .args .kind) s) (c .before .before .before .before .before .before .before .before .before .before .before .put-text .ensures) in
+    let w₂ = lend text (tagBytes 2 60 ++ z) 3203 w₁ (omega arith) (size-text (b .args .layout) s) (c .before .before .before .before .before .before .before .before .before .before .before .put-text .ensures) in
     let w₃ = lend (tagBytes 2 60) z 3206 w₂ (omega arith) refl (c .before .before .before .before .before .before .before .put-tag2 .ensures) in
     close z 3266 w₃ (omega arith) (size-bytes s 3200 60) (copied _ _ (c .before .before .copy .ensures) (c .before .before .before .copy-arg2 .given .2 ∙ sym (c .before .before .before .before .copy-arg .given .2)) ∙ bytes-between s 3200 3260 60 (omega (arith, b .pre .0)) refl)
 
 same-length : tie.Need-same-length
 same-length c =
     let b = c .before .before .before .before .before .before .before .before .before .before .before .before .before .before .before .before .before .before .before in
-    ap length (returns c) ∙ (size-fields (b .args .kind) (b .args .reel .now) ∙ sym (b .pre .1))
+    ap length (returns c) ∙ (size-fields (b .args .layout) (b .args .reel .now) ∙ sym (b .pre .1))
 
 pub put-fields-spec : {M : Type 1} → statement M
 put-fields-spec =

@@ -20,7 +20,7 @@ place : (c : tie.After-field-at) → placeNo (c .field-at .result) ≡ codePlace
 place c = ap placeNo (c .field-at .ensures ∙ field-place (record { 0 = 6 }) (record { 0 = 3225 }) (omega arith) (omega arith))
 
 put-over-requires : tie.Need-put-over-requires
-put-over-requires c κs = let f = c .before .before .before .before in omega (arith, place (c .before), ap length (f .put-fields .ensures) ∙ size-fields (f .before .before .before .before .args .kind) (f .before .before .before .before .args .reel .now))
+put-over-requires c κs = let f = c .before .before .before .before in omega (arith, place (c .before), ap length (f .put-fields .ensures) ∙ size-fields (f .before .before .before .before .args .layout) (f .before .before .before .before .args .reel .now))
 
 returns : tie.Need-returns
 unfolding headCopied

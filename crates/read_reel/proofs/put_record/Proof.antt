@@ -62,15 +62,15 @@ returns c =
     let g = flat (map (recordTraceCopied s (a .code) (a .n) (a .i)) (places (a .w) (a .t) firstTrace)) in
     let z = tagBytes 5 4 ++ bytesOf 4 (a .t) in
     let e = tracesPlace + a .t * heldStride (a .n) in
-    let w₀ = start _ (a .out .now) (b .pre .5 ∙ sym (size-record s (a .code) (a .n) (a .i) (a .kind) (a .w) (a .t))) in
-    let w₁ = lend (headCopied (a .kind) s) (g ++ z) tracesPlace w₀ (omega arith) (size-head (a .kind) s) (c .before .before .before .before .before .before .before .before .before .before .put-head .ensures) in
+    let w₀ = start _ (a .out .now) (b .pre .5 ∙ sym (size-record s (a .code) (a .n) (a .i) (a .layout) (a .w) (a .t))) in
+    let w₁ = lend (headCopied (a .layout) s) (g ++ z) tracesPlace w₀ (omega arith) (size-head (a .layout) s) (c .before .before .before .before .before .before .before .before .before .before .put-head .ensures) in
     let w₂ = lend g z e w₁ (omega arith) (size-traces s (a .code) (a .n) (a .i) (a .w) (a .t) firstTrace ∙ omega arith) (c .before .before .before .before .before .before .put-traces .ensures .1) in
     (c .before .before .before .before .before .before .put-traces .ensures .0, close z (e + 7) w₂ (omega arith) (omega arith) (c .before .before .put-count .ensures))
 
 same-length : tie.Need-same-length
 same-length c =
     let b = c .before .before .before .before .before .before .before .before .before .before .before .before .before .before in
-    ap length (returns c .1) ∙ (size-record (b .args .reel .now) (b .args .code) (b .args .n) (b .args .i) (b .args .kind) (b .args .w) (b .args .t) ∙ sym (b .pre .5))
+    ap length (returns c .1) ∙ (size-record (b .args .reel .now) (b .args .code) (b .args .n) (b .args .i) (b .args .layout) (b .args .w) (b .args .t) ∙ sym (b .pre .5))
 
 pub put-record-spec : {M : Type 1} → statement M
 put-record-spec =

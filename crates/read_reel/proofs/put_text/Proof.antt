@@ -2,7 +2,7 @@
 use Rattle.read_reel.proofs.CopiedLaws.{checks-blank}
 use Rattle.reel.specs.Layout.{cardBytes}
 use Rattle.reel.specs.Meaning.{blank, cardTextBy}
-use Rattle.reel.specs.declared.Kind.{Kind}
+use Rattle.reel.specs.declared.Layout.{Layout}
 use Rattle.cards.proofs.EightLaws.{cards-put}
 use Rattle.numbers.proofs.WalkLaws.{bytes-between}
 use Rattle.numbers.specs.Walk.{bytesAt, overwritten}
@@ -26,7 +26,7 @@ returns : tie.Need-returns
 unfolding cardTextBy
 returns c =
     let b = c .before .before .before .before in
-    put b ∙ ap (λ (k : Kind). cardTextBy k (b .before .before .before .before .before .args .reel .now)) (sym (c .enum-told .given .1))
+    put b ∙ ap (λ (k : Layout). cardTextBy k (b .before .before .before .before .before .args .reel .now)) (sym (c .enum-told .given .1))
 
 returns-2 : tie.Need-returns-2
 returns-2 c =
@@ -35,7 +35,7 @@ returns-2 c =
     let b = e .before .before .before .before in
     let s = b .before .before .before .before .before .args .reel .now in
     o .put-over .ensures ∙ ap (λ (l : List ℕ). overwritten l 3198 (bytesOf 2 0x4040)) (put b) ∙ checks-blank s
-    ∙ ap (λ (k : Kind). cardTextBy k s) (sym (e .enum-told2 .given .1))
+    ∙ ap (λ (k : Layout). cardTextBy k s) (sym (e .enum-told2 .given .1))
 
 pub put-text-spec : {M : Type 1} → statement M
 put-text-spec =

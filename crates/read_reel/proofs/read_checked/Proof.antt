@@ -12,11 +12,11 @@ use borrow.Author.Needs.{needs}
 use Rattle.read_reel.proofs.read_checked.Statement.{statement}
 use Rattle.read_reel.proofs.read_checked.Tie as tie
 
-owns : (c : tie.Start) → let a = c .args in Own (a .kind) (a .reel .now) (a .code) (a .n) (a .i) (a .v) (a .w) (a .t)
-owns c = let a = c .args in own (a .kind) (a .reel .now) (c .pre)
+owns : (c : tie.Start) → let a = c .args in Own (a .layout) (a .reel .now) (a .code) (a .n) (a .i) (a .v) (a .w) (a .t)
+owns c = let a = c .args in own (a .layout) (a .reel .now) (c .pre)
 
 fits : (c : tie.Start) → let a = c .args in Fit (a .reel .now) (a .code) (a .n) (a .i) (a .v) (a .w) (a .t)
-fits c = let a = c .args in fit (a .kind) (a .reel .now) (a .code) (a .n) (a .i) (a .v) (a .w) (a .t) (owns c)
+fits c = let a = c .args in fit (a .layout) (a .reel .now) (a .code) (a .n) (a .i) (a .v) (a .w) (a .t) (owns c)
 
 mul-length : tie.Need-mul-length
 mul-length c = omega (arith, fits (c .before .before) .n-high)
@@ -34,7 +34,7 @@ returns : tie.Need-returns
 returns c =
     let s = c .before .before .before in
     let a = s .args in
-    short-end (a .kind) (a .reel .now) (a .out .now) (a .code) (a .n) (a .i) (a .v) (a .w) (a .t) (owns s) (c .if1 .taken)
+    short-end (a .layout) (a .reel .now) (a .out .now) (a .code) (a .n) (a .i) (a .v) (a .w) (a .t) (owns s) (c .if1 .taken)
 
 cast-put-record : tie.Need-cast-put-record
 cast-put-record c = omega (arith, fits (c .before .before .before) .n-high)
@@ -56,7 +56,7 @@ returns-2 : tie.Need-returns-2
 returns-2 c =
     let s = c .before .before .before .before .before .before .before in
     let a = s .args in
-    taken-end (a .kind) (a .reel .now) (a .out .now) (a .code) (a .n) (a .i) (a .v) (a .w) (a .t) (owns s) (all-bytes (a .reel .now) (λ i. omega (arith, c .before .before .before .before .before .before .shared-slice-known .given i))) _ _ (c .before .before .put-record .ensures .1) (c .before .before .put-record .ensures .0) (c .before .before .before .before .if1 .left)
+    taken-end (a .layout) (a .reel .now) (a .out .now) (a .code) (a .n) (a .i) (a .v) (a .w) (a .t) (owns s) (all-bytes (a .reel .now) (λ i. omega (arith, c .before .before .before .before .before .before .shared-slice-known .given i))) _ _ (c .before .before .put-record .ensures .1) (c .before .before .put-record .ensures .0) (c .before .before .before .before .if1 .left)
 
 pub read-checked-spec : {M : Type 1} → statement M
 read-checked-spec =

@@ -13,7 +13,7 @@ returns : tie.Need-returns
 returns c =
     let s = c .before .before .before .before .before in
     let a = s .args in
-    refused-end (a .kind) (a .reel .now) (a .out .now) _ _ (refused-is (a .kind) (a .reel .now) (sym (s .pre) ∙ c .before .c .given .1))
+    refused-end (a .layout) (a .reel .now) (a .out .now) _ _ (refused-is (a .layout) (a .reel .now) (sym (s .pre) ∙ c .before .c .given .1))
 
 pub read-judged-spec : {M : Type 1} → statement M
 read-judged-spec =

@@ -1,13 +1,13 @@
 -- `reel::check_allowed` meets its contract. Assumes nothing.
-use Rattle.reel.proofs.CheckLaws.{one-within}
 use Rattle.reel.specs.Causes.{allows}
 use Rattle.numbers.specs.Cause.{refuseIf}
 use Rattle.numbers.specs.Places.{placeNo}
 use Rattle.formats.specs.Codes.{isCode}
-use Rattle.reel.specs.declared.Kind.{Kind}
+use Rattle.reel.specs.declared.Layout.{Layout}
 use Prim.Native.Nat.{ℕ}
-use mathlib.Core.Bool.{Bool, not}
-use mathlib.Core.Path.{sym, ap, ap₂, _∙_}
+use mathlib.Core.Bool.{not}
+use lib.Dec.{eqb}
+use mathlib.Core.Path.{sym, ap, _∙_}
 use borrow.Author.Needs.{needs}
 use Rattle.reel.proofs.check_allowed.Statement.{statement}
 use Rattle.reel.proofs.check_allowed.Tie as tie
@@ -17,14 +17,14 @@ returns c =
     let f = c .before .before .before in
     let code = f .before .args .code in
     c .check-code .ensures ∙ ap (λ (x : ℕ). refuseIf (not (isCode code)) 2 x) (ap placeNo (f .field-at .ensures))
-    ∙ ap (λ (k : Kind). refuseIf (not (allows k code)) 2 3224) (sym (c .before .enum-told .given .1))
+    ∙ ap (λ (k : Layout). refuseIf (not (allows k code)) 2 3224) (sym (c .before .enum-told .given .1))
 
 returns-2 : tie.Need-returns-2
 returns-2 c =
     let f = c .before .before .before in
     let code = f .before .args .code in
-    c .check-limits .ensures ∙ ap₂ (λ (b : Bool) (x : ℕ). refuseIf (not b) 2 x) (one-within code) (ap placeNo (f .field-at .ensures))
-    ∙ ap (λ (k : Kind). refuseIf (not (allows k code)) 2 3224) (sym (c .before .enum-told2 .given .1))
+    c .check-one .ensures ∙ ap (λ (x : ℕ). refuseIf (not (eqb code 1)) 2 x) (ap placeNo (f .field-at .ensures))
+    ∙ ap (λ (k : Layout). refuseIf (not (allows k code)) 2 3224) (sym (c .before .enum-told2 .given .1))
 
 pub check-allowed-spec : {M : Type 1} → statement M
 check-allowed-spec =

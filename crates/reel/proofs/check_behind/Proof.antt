@@ -14,7 +14,7 @@ use Rattle.reel.proofs.check_behind.Tie as tie
 
 -- a trace has a header, so that there is something to divide by
 some : (c : tie.Start) → 0 < c .args .w
-some c = let a = c .args in omega (arith, c .pre .1, stride-holds (a .kind) (a .n) (a .v))
+some c = let a = c .args in omega (arith, c .pre .1, stride-holds (a .layout) (a .n) (a .v))
 
 check-size-requires : tie.Need-check-size-requires
 check-size-requires c κs =

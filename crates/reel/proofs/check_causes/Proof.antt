@@ -23,7 +23,7 @@ unfolding causesBy
 returns-2 c =
     let a = c .before .before .before .before .before .before .args in
     let s = a .reel .now in
-    let k = a .kind in
+    let k = a .layout in
     let f : ℕ → ℕ → ℕ → Check = λ x y z. then (limitCausesBy k x y z) (behindCausesBy k s x y z (strideIn k y (sampleBytes x))) in
     let e₁ = ap (λ (x : ℕ). f x (c .before .before .binary-number2 .result) (c .before .binary-number3 .result)) (c .before .before .before .binary-number .ensures .0) in
     let e₂ = ap (λ (x : ℕ). f (codeOf s) x (c .before .binary-number3 .result)) (c .before .before .binary-number2 .ensures .0) in

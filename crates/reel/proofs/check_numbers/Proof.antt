@@ -15,7 +15,7 @@ use Rattle.reel.proofs.check_numbers.Tie as tie
 small : (c : tie.After-width-of) → c .before .before .before .before .before .args .n * c .width-of .result ≤ 32000
 small c =
     let a = c .before .before .before .before .before .args in
-    let f = header-fine (a .kind) (a .code) (a .n) (a .i) (sym (c .before .before .before .check-header .ensures) ∙ c .before .enum-told .given .1) in
+    let f = header-fine (a .layout) (a .code) (a .n) (a .i) (sym (c .before .before .before .check-header .ensures) ∙ c .before .enum-told .given .1) in
     mul-le-mul (f .n-high) (c .width-of .ensures .2)
 
 returns : tie.Need-returns
@@ -28,13 +28,13 @@ check-behind-requires : tie.Need-check-behind-requires
 check-behind-requires c κs =
     let s = c .before .before .before .before .before .before in
     let a = s .args in
-    (c .before .width-of .ensures .0, c .stride-in .ensures, omega (arith, c .stride-in .ensures, small (c .before), stride-most (a .kind) (a .n) (c .before .width-of .result)), s .pre)
+    (c .before .width-of .ensures .0, c .stride-in .ensures, omega (arith, c .stride-in .ensures, small (c .before), stride-most (a .layout) (a .n) (c .before .width-of .result)), s .pre)
 
 returns-2 : tie.Need-returns-2
 returns-2 c =
     let a = c .before .before .before .before .before .before .before .args in
     let h = c .before .before .before in
-    c .check-behind .ensures ∙ ap (behindCausesBy (a .kind) (a .reel .now) (a .code) (a .n) (a .i)) (c .before .stride-in .ensures ∙ ap (strideIn (a .kind) (a .n)) (c .before .before .width-of .ensures .0))
+    c .check-behind .ensures ∙ ap (behindCausesBy (a .layout) (a .reel .now) (a .code) (a .n) (a .i)) (c .before .stride-in .ensures ∙ ap (strideIn (a .layout) (a .n)) (c .before .before .width-of .ensures .0))
     ∙ then-next _ _ (sym (h .before .before .check-header .ensures) ∙ h .enum-told .given .1)
 
 pub check-numbers-spec : {M : Type 1} → statement M

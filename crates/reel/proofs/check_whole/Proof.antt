@@ -2,8 +2,8 @@
 use Rattle.reel.proofs.CheckLaws.{stride-holds}
 use Rattle.reel.specs.Layout.{stride, trailerBytes, strideIn}
 use Rattle.reel.specs.Causes.{traceCauses, trailerCause, traceCausesBy}
-use Rattle.reel.specs.declared.Kind.{Kind}
-use Rattle.reel.specs.declared.Kind.the-variants.{Plain, Eagle}
+use Rattle.reel.specs.declared.Layout.{Layout}
+use Rattle.reel.specs.declared.Layout.the-variants.{Plain, Eagle}
 use Rattle.numbers.proofs.CauseLaws.{then-stop, then-next}
 use Rattle.numbers.specs.declared.Check.the-variants.{Fine, Refused}
 use Rattle.numbers.specs.declared.Place.{Place}
@@ -20,10 +20,10 @@ check-trace-requires : tie.Need-check-trace-requires
 check-trace-requires c κs =
     let s = c .before in
     let a = s .args in
-    (s .pre .0, omega (arith, stride-holds (a .kind) (a .n) (a .v), s .pre .1))
+    (s .pre .0, omega (arith, stride-holds (a .layout) (a .n) (a .v), s .pre .1))
 
 -- a trace that is refused before its trailer
-stopped : (k : Kind) (s : List ℕ) (code n i at : ℕ) {number : ℕ} {place : Place} → traceCauses s code n i at ≡ Refused number place → traceCauses s code n i at ≡ traceCausesBy k s code n i at
+stopped : (k : Layout) (s : List ℕ) (code n i at : ℕ) {number : ℕ} {place : Place} → traceCauses s code n i at ≡ Refused number place → traceCauses s code n i at ≡ traceCausesBy k s code n i at
 stopped Plain s code n i at e = refl
 stopped Eagle s code n i at e = then-stop _ _ e
 
@@ -31,7 +31,7 @@ stopped Eagle s code n i at e = then-stop _ _ e
 room : (c : tie.After-enum-told4) → let a = c .before .before .before .before .before .before .args in a .at + (stride (a .n) (a .v) + trailerBytes) ≤ length (a .reel .now)
 room c =
     let s = c .before .before .before .before .before .before in
-    subst (λ (k : Kind). s .args .at + strideIn k (s .args .n) (s .args .v) ≤ length (s .args .reel .now)) (c .enum-told4 .given .1) (s .pre .1)
+    subst (λ (k : Layout). s .args .at + strideIn k (s .args .n) (s .args .v) ≤ length (s .args .reel .now)) (c .enum-told4 .given .1) (s .pre .1)
 
 fine : (c : tie.After-enum-told) → let a = c .before .before .before .before .args in traceCauses (a .reel .now) (a .code) (a .n) (a .i) (a .at) ≡ Fine
 fine c = sym (c .before .before .check-trace .ensures) ∙ c .enum-told .given .1
@@ -41,7 +41,7 @@ returns c =
     let t = c .before .before in
     let a = t .before .before .args in
     let e = t .check-trace .ensures in
-    e ∙ stopped (a .kind) (a .reel .now) (a .code) (a .n) (a .i) (a .at) (sym e ∙ c .enum-told2 .given .1)
+    e ∙ stopped (a .layout) (a .reel .now) (a .code) (a .n) (a .i) (a .at) (sym e ∙ c .enum-told2 .given .1)
 
 mul-check-trailer : tie.Need-mul-check-trailer
 mul-check-trailer c = omega (arith, room c)
@@ -59,7 +59,7 @@ returns-2 : tie.Need-returns-2
 returns-2 c =
     let f = c .before .before in
     let a = f .before .before .before .before .args in
-    sym (fine f) ∙ ap (λ (k : Kind). traceCausesBy k (a .reel .now) (a .code) (a .n) (a .i) (a .at)) (sym (c .enum-told3 .given .1))
+    sym (fine f) ∙ ap (λ (k : Layout). traceCausesBy k (a .reel .now) (a .code) (a .n) (a .i) (a .at)) (sym (c .enum-told3 .given .1))
 
 returns-3 : tie.Need-returns-3
 returns-3 c =
@@ -68,7 +68,7 @@ returns-3 c =
     let a = s .args in
     c .check-trailer .ensures ∙ ap (λ (v : ℕ). trailerCause (a .reel .now) (a .at + stride (a .n) v)) (s .pre .0)
     ∙ then-next _ _ (fine f)
-    ∙ ap (λ (k : Kind). traceCausesBy k (a .reel .now) (a .code) (a .n) (a .i) (a .at)) (sym (c .before .enum-told4 .given .1))
+    ∙ ap (λ (k : Layout). traceCausesBy k (a .reel .now) (a .code) (a .n) (a .i) (a .at)) (sym (c .before .enum-told4 .given .1))
 
 pub check-whole-spec : {M : Type 1} → statement M
 check-whole-spec =

@@ -11,7 +11,7 @@ own-numbers-requires c κs = sym (c .before .before .check-causes .ensures) ∙ 
 returns : tie.Need-returns
 returns c =
     let a = c .before .before .before .before .before .args in
-    ap (foundBy (a .kind) (a .reel .now)) (sym (c .before .c .given .1) ∙ c .before .before .before .check-causes .ensures)
+    ap (foundBy (a .layout) (a .reel .now)) (sym (c .before .c .given .1) ∙ c .before .before .before .check-causes .ensures)
 
 pub judge-spec : {M : Type 1} → statement M
 judge-spec =

@@ -7,8 +7,8 @@ use borrow.Author.Needs.{needs}
 use Rattle.reel.proofs.own_numbers.Statement.{statement}
 use Rattle.reel.proofs.own_numbers.Tie as tie
 
-fine : (c : tie.Start) → SoundBy (c .args .kind) (c .args .reel .now)
-fine c = fine-by (c .args .kind) (c .args .reel .now) (c .pre)
+fine : (c : tie.Start) → SoundBy (c .args .layout) (c .args .reel .now)
+fine c = fine-by (c .args .layout) (c .args .reel .now) (c .pre)
 
 small : (c : tie.After-width-of) → c .before .before .binary-number2 .result * c .width-of .result ≤ 65536 * 4
 small c = mul-le-mul (le-of-lt (c .before .before .binary-number2 .ensures .1)) (c .width-of .ensures .2)
@@ -21,7 +21,7 @@ sub-t10 c = fine (c .before .before .before .before .before .before) .long
 
 -- a trace has a header, so that there is something to divide by
 some : tie.Need-div-t11
-some c = let a = c .before .before .before .before .before .before .args in omega (arith, c .stride-in .ensures, stride-holds (a .kind) (c .before .before .before .binary-number2 .result) (c .before .width-of .result))
+some c = let a = c .before .before .before .before .before .before .args in omega (arith, c .stride-in .ensures, stride-holds (a .layout) (c .before .before .before .binary-number2 .result) (c .before .width-of .result))
 
 returns : tie.Need-returns
 returns c =
