@@ -59,7 +59,26 @@ fn put_trace(reel: &[u8], code: usize, n: u16, i: u16, at: usize, out: &mut [u8]
     count_words::count_words(reel, code, n as usize, Place(at + 240))
 }
 
-// The traces, one behind the other, and how many of their words are not normal. The last has a call of its own: with one call in all, the
+// Looks at a byte in every 128 of some, and gives 0. Behind a trailer that nobody looks at, the processor's fetching ahead along the reel
+// begins anew with each trace, which takes as long as a hundred samples. No byte is as large as the reel is long; the compiler doesn't know
+// that, and so leaves the bytes in.
+fn look_over(reel: &[u8], from: usize, size: usize) -> usize
+    requires { ⌜ (from + size ≤ length (now reel)) × (firstTrace ≤ length (now reel)) ⌝ }
+    ensures { λ r. ⌜ r ≡ 0 ⌝ }
+{
+    let mut seen: u8 = 0;
+    let mut i = 0;
+    while i < size {
+        let b = reel[from + i];
+        if seen < b {
+            seen = b;
+        }
+        i += 128;
+    }
+    if reel.len() <= seen as usize { 1 } else { 0 }
+}
+
+// The traces, one behind the other, each with `behind` bytes behind it, and how many of their words are not normal. The last has a call of its own: with one call in all, the
 // compiler makes one function of this loop and of what it does with a trace, and reads code 3 by a tenth slower.
 fn put_traces(
     reel: &[u8],
@@ -67,11 +86,12 @@ fn put_traces(
     n: u16,
     i: u16,
     w: usize,
+    behind: usize,
     m: usize,
     t: usize,
     out: &mut [u8],
 ) -> usize
-    requires { ⌜ (isCode code ≡ true) × (n ≤ mostSamples) × (stride n (sampleBytes code) ≤ w) × (m ≡ heldStride n) × (firstTrace + t * w ≤ length (now reel)) × (length (now out) ≡ t * m) ⌝ }
+    requires { ⌜ (isCode code ≡ true) × (n ≤ mostSamples) × (stride n (sampleBytes code) ≤ w) × (behind ≤ w) × (m ≡ heldStride n) × (firstTrace + t * w ≤ length (now reel)) × (length (now out) ≡ t * m) ⌝ }
     ensures { λ r. ⌜ (r ≡ notNormalAmong (now (reel .entry)) code n w t firstTrace) × (now (out .exit) ≡ flat (map (recordTraceCopied (now (reel .entry)) code n i) (places w t firstTrace))) ⌝ }
 {
     let mut at = 3600;
@@ -82,6 +102,7 @@ fn put_traces(
         let e = o + m;
         count += put_trace(reel, code, n, i, at, &mut out[o..e]);
         at += w;
+        count += look_over(reel, at - behind, behind);
         o = e;
         left -= 1;
     }
@@ -133,7 +154,7 @@ fn put_head(layout: Layout, reel: &[u8], out: &mut [u8])
     put_over(0, places::field_at(Place(6), ByteNo(3225)), out);
 }
 
-// The record of t traces of n samples, w bytes apart, which fills out; and how many of their words are not normal.
+// The record of t traces of n samples, w bytes apart and each with `behind` bytes behind it, which fills out; and how many of their words are not normal.
 fn put_record(
     layout: Layout,
     reel: &[u8],
@@ -141,16 +162,17 @@ fn put_record(
     n: u16,
     i: u16,
     w: usize,
+    behind: usize,
     t: usize,
     out: &mut [u8],
 ) -> usize
-    requires { ⌜ (isCode code ≡ true) × (n ≤ mostSamples) × (stride n (sampleBytes code) ≤ w) × (t ≤ mostTraces) × (firstTrace + t * w ≤ length (now reel)) × (length (now out) ≡ recordLength t n) ⌝ }
+    requires { ⌜ (isCode code ≡ true) × (n ≤ mostSamples) × (stride n (sampleBytes code) ≤ w) × (behind ≤ w) × (t ≤ mostTraces) × (firstTrace + t * w ≤ length (now reel)) × (length (now out) ≡ recordLength t n) ⌝ }
     ensures { λ r. ⌜ (r ≡ notNormalAmong (now (reel .entry)) code n w t firstTrace) × (now (out .exit) ≡ recordCopied layout (now (reel .entry)) code n i w t) ⌝ }
 {
     let m = 186 + 6 * n as usize;
     let e = 3266 + t * m;
     put_head(layout, reel, &mut out[0..3266]);
-    let count = put_traces(reel, code, n, i, w, m, t, &mut out[3266..e]);
+    let count = put_traces(reel, code, n, i, w, behind, m, t, &mut out[3266..e]);
     put_count(t as u32, &mut out[e..e + 7]);
     count
 }
@@ -177,6 +199,7 @@ fn read_checked(
             place: Place(length),
         };
     }
+    let behind = w - (240 + n * v);
     let count = put_record(
         layout,
         reel,
@@ -184,6 +207,7 @@ fn read_checked(
         n as u16,
         i as u16,
         w,
+        behind,
         t,
         &mut out[..length],
     );

@@ -22,33 +22,33 @@ add-m : tie.Need-add-m
 add-m c = omega (arith, c .before .before .pre .1)
 
 mul-e : tie.Need-mul-e
-mul-e c = omega (arith, c .before .before .pre .5, c .before .before .good .1 .1 .1 .1 .1 .1 .0)
+mul-e c = omega (arith, c .before .before .pre .6, c .before .before .good .1 .1 .1 .1 .1 .1 .0)
 
 add-e : tie.Need-add-e
-add-e c = omega (arith, c .before .before .pre .5, c .before .before .good .1 .1 .1 .1 .1 .1 .0)
+add-e c = omega (arith, c .before .before .pre .6, c .before .before .good .1 .1 .1 .1 .1 .1 .0)
 
 part-put-head-end : tie.Need-part-put-head-end
-part-put-head-end c = omega (arith, c .before .before .pre .5)
+part-put-head-end c = omega (arith, c .before .before .pre .6)
 
 put-head-requires : tie.Need-put-head-requires
-put-head-requires c κs = (omega (arith, c .before .before .before .pre .4), c .put-head-arg .given .2)
+put-head-requires c κs = (omega (arith, c .before .before .before .pre .5), c .put-head-arg .given .2)
 
 part-put-traces-end : tie.Need-part-put-traces-end
-part-put-traces-end c = omega (arith, c .before .before .before .before .before .before .pre .5, c .before .out .given .1)
+part-put-traces-end c = omega (arith, c .before .before .before .before .before .before .pre .6, c .before .out .given .1)
 
 put-traces-requires : tie.Need-put-traces-requires
 put-traces-requires c κs =
     let s = c .before .before .before .before .before .before .before in
-    (s .pre .0, s .pre .1, s .pre .2, refl, s .pre .4, omega (arith, c .put-traces-arg .given .2))
+    (s .pre .0, s .pre .1, s .pre .2, s .pre .3, refl, s .pre .5, omega (arith, c .put-traces-arg .given .2))
 
 cast-put-count : tie.Need-cast-put-count
-cast-put-count c = omega (arith, c .before .before .before .before .before .before .before .before .before .before .pre .3)
+cast-put-count c = omega (arith, c .before .before .before .before .before .before .before .before .before .before .pre .4)
 
 add-put-count : tie.Need-add-put-count
-add-put-count c = omega (arith, c .before .before .before .before .before .before .before .before .before .before .pre .5, c .before .before .before .before .before .before .before .before .before .before .good .1 .1 .1 .1 .1 .1 .0)
+add-put-count c = omega (arith, c .before .before .before .before .before .before .before .before .before .before .pre .6, c .before .before .before .before .before .before .before .before .before .before .good .1 .1 .1 .1 .1 .1 .0)
 
 part-put-count-end : tie.Need-part-put-count-end
-part-put-count-end c = omega (arith, c .before .before .before .before .before .before .before .before .before .before .pre .5, c .before .before .before .before .before .out .given .1, c .before .out2 .given .1)
+part-put-count-end c = omega (arith, c .before .before .before .before .before .before .before .before .before .before .pre .6, c .before .before .before .before .before .out .given .1, c .before .out2 .given .1)
 
 put-count-requires : tie.Need-put-count-requires
 put-count-requires c κs = omega (arith, c .put-count-arg .given .2)
@@ -62,7 +62,7 @@ returns c =
     let g = flat (map (recordTraceCopied s (a .code) (a .n) (a .i)) (places (a .w) (a .t) firstTrace)) in
     let z = tagBytes 5 4 ++ bytesOf 4 (a .t) in
     let e = tracesPlace + a .t * heldStride (a .n) in
-    let w₀ = start _ (a .out .now) (b .pre .5 ∙ sym (size-record s (a .code) (a .n) (a .i) (a .layout) (a .w) (a .t))) in
+    let w₀ = start _ (a .out .now) (b .pre .6 ∙ sym (size-record s (a .code) (a .n) (a .i) (a .layout) (a .w) (a .t))) in
     let w₁ = lend (headCopied (a .layout) s) (g ++ z) tracesPlace w₀ (omega arith) (size-head (a .layout) s) (c .before .before .before .before .before .before .before .before .before .before .put-head .ensures) in
     let w₂ = lend g z e w₁ (omega arith) (size-traces s (a .code) (a .n) (a .i) (a .w) (a .t) firstTrace ∙ omega arith) (c .before .before .before .before .before .before .put-traces .ensures .1) in
     (c .before .before .before .before .before .before .put-traces .ensures .0, close z (e + 7) w₂ (omega arith) (omega arith) (c .before .before .put-count .ensures))
@@ -70,7 +70,7 @@ returns c =
 same-length : tie.Need-same-length
 same-length c =
     let b = c .before .before .before .before .before .before .before .before .before .before .before .before .before .before in
-    ap length (returns c .1) ∙ (size-record (b .args .reel .now) (b .args .code) (b .args .n) (b .args .i) (b .args .layout) (b .args .w) (b .args .t) ∙ sym (b .pre .5))
+    ap length (returns c .1) ∙ (size-record (b .args .reel .now) (b .args .code) (b .args .n) (b .args .i) (b .args .layout) (b .args .w) (b .args .t) ∙ sym (b .pre .6))
 
 pub put-record-spec : {M : Type 1} → statement M
 put-record-spec =

@@ -36,6 +36,16 @@ returns c =
     let a = s .args in
     short-end (a .layout) (a .reel .now) (a .out .now) (a .code) (a .n) (a .i) (a .v) (a .w) (a .t) (owns s) (c .if1 .taken)
 
+-- a trace's header and samples are no more than what is from trace to trace
+mul-behind : tie.Need-mul-behind
+mul-behind c = omega (arith, fits (c .before .before .before) .strides)
+
+add-behind : tie.Need-add-behind
+add-behind c = omega (arith, fits (c .before .before .before) .strides)
+
+sub-behind : tie.Need-sub-behind
+sub-behind c = omega (arith, fits (c .before .before .before) .strides)
+
 cast-put-record : tie.Need-cast-put-record
 cast-put-record c = omega (arith, fits (c .before .before .before) .n-high)
 
@@ -50,7 +60,7 @@ put-record-requires c κs =
     let s = c .before .before .before .before in
     let a = s .args in
     let f = fits s in
-    (f .a-code, f .n-high, subst (λ (x : ℕ). stride (a .n) x ≤ a .w) (f .width) (f .strides), f .few, f .room, length-take-le (recordLength (a .t) (a .n)) (a .out .now) (c .before .if1 .left))
+    (f .a-code, f .n-high, subst (λ (x : ℕ). stride (a .n) x ≤ a .w) (f .width) (f .strides), omega arith, f .few, f .room, length-take-le (recordLength (a .t) (a .n)) (a .out .now) (c .before .if1 .left))
 
 returns-2 : tie.Need-returns-2
 returns-2 c =
@@ -67,6 +77,9 @@ read-checked-spec =
     mul-length-2
     add-length-2
     returns
+    mul-behind
+    add-behind
+    sub-behind
     cast-put-record
     cast-put-record-2
     (λ c. search needs)
