@@ -59,23 +59,33 @@ fn put_trace(reel: &[u8], code: usize, n: u16, i: u16, at: usize, out: &mut [u8]
     count_words::count_words(reel, code, n as usize, Place(at + 240))
 }
 
-// Looks at a byte in every 128 of some, and gives 0. Behind a trailer that nobody looks at, the processor's fetching ahead along the reel
+// The larger of two bytes.
+fn larger(a: u8, b: u8) -> u8 {
+    if a < b { b } else { a }
+}
+
+// The largest of four bytes, 128 apart.
+fn largest(reel: &[u8], from: usize) -> u8
+    requires { ⌜ from + 385 ≤ length (now reel) ⌝ }
+{
+    larger(
+        larger(reel[from], reel[from + 128]),
+        larger(reel[from + 256], reel[from + 384]),
+    )
+}
+
+// Looks at a byte in every 128 of a trailer, and gives 0. Behind a trailer that nobody looks at, the processor's fetching ahead along the reel
 // begins anew with each trace, which takes as long as a hundred samples. No byte is as large as the reel is long; the compiler doesn't know
 // that, and so leaves the bytes in.
 fn look_over(reel: &[u8], from: usize, size: usize) -> usize
     requires { ⌜ (from + size ≤ length (now reel)) × (firstTrace ≤ length (now reel)) ⌝ }
     ensures { λ r. ⌜ r ≡ 0 ⌝ }
 {
-    let mut seen: u8 = 0;
-    let mut i = 0;
-    while i < size {
-        let b = reel[from + i];
-        if seen < b {
-            seen = b;
-        }
-        i += 128;
+    if size < 960 {
+        return 0;
     }
-    if reel.len() <= seen as usize { 1 } else { 0 }
+    let b = larger(largest(reel, from), largest(reel, from + 512));
+    if reel.len() <= b as usize { 1 } else { 0 }
 }
 
 // The traces, one behind the other, each with `behind` bytes behind it, and how many of their words are not normal. The last has a call of its own: with one call in all, the
