@@ -4,6 +4,7 @@
 #
 #   sh bench/run.sh                         the whole
 #   sh bench/run.sh --mb 16 --runs 3        on reels of 16 MB and less, to try it
+#   sh bench/run.sh eagle                   the table of one part: nearest, growth, cards or eagle
 set -eu
 cd "$(dirname "$0")/.."
 
@@ -19,7 +20,14 @@ done
 model=$(sed -n 's/^model name[^:]*: *//p' /proc/cpuinfo | head -n 1)
 memory=$(awk '/^MemTotal/ { printf "%.0f", $2 / 1e6 }' /proc/meminfo)
 echo "Processor: $model, $(nproc) cores; memory: $memory GB; $(rustc --version | cut -d ' ' -f 1-2)."
+case ${1:-} in
+    nearest | growth | cards | eagle)
+        build/cargo/bench/release/bench "$@"
+        exit
+        ;;
+esac
 build/cargo/bench/release/bench ${reader:+--segyio "$reader"} "$@"
 build/cargo/bench/release/bench nearest "$@"
 build/cargo/bench/release/bench growth "$@"
 build/cargo/bench/release/bench cards "$@"
+build/cargo/bench/release/bench eagle "$@"

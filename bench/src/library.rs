@@ -1,15 +1,24 @@
-//! The three calls of the library that are measured, through the safe module over its C interface.
+//! The four calls of the library that are measured, through the safe module over its C interface.
 //! Their answers are given in the terms that all contenders share.
 
 use independent::{NearestWritten, ReelRead, Refused, Taken};
 
 pub fn read_reel(reel: &[u8], out: &mut [u8]) -> Result<ReelRead, Refused> {
+    read(aukpocket::read_reel(reel, out))
+}
+
+/// Reading an Eagle reel.
+pub fn read_eagle(reel: &[u8], out: &mut [u8]) -> Result<ReelRead, Refused> {
+    read(aukpocket::read_eagle(reel, out))
+}
+
+fn read(answer: Result<aukpocket::ReelRead, aukpocket::Refusal>) -> Result<ReelRead, Refused> {
     let aukpocket::ReelRead {
         traces,
         samples,
         length,
         not_normal,
-    } = aukpocket::read_reel(reel, out).map_err(refused)?;
+    } = answer.map_err(refused)?;
     Ok(ReelRead {
         traces,
         samples,

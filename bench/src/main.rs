@@ -1,7 +1,9 @@
 //! Measures the library's reading and writing of whole reels, exactly and to the nearest, beside other ways
-//! to do the same; and all its calls that put or judge cards, on a small reel.
+//! to do the same; all its calls that put or judge cards, on a small reel; and its reading of Eagle reels
+//! beside that of plain ones.
 
 mod cards;
+mod eagle;
 mod library;
 mod nearest;
 mod passes;
@@ -27,10 +29,11 @@ const USAGE: &str = "usage: bench [--mb SIZE] [--runs COUNT] [--codes 1,2,3,...]
        bench growth [--mb MOST] [--runs COUNT]
        bench nearest [--mb SIZE] [--runs COUNT] [--codes 1,2,3,...] [--samples N]
        bench cards [--runs COUNT]
+       bench eagle [--mb SIZE] [--runs COUNT]
        bench versions OLD OLD NEW NEW [--mb SIZE] [--runs COUNT] [--codes 1,2,3,...] [--samples N]
        bench versions OLD OLD NEW NEW --small [--runs COUNT]
-       bench one read|write|nearest CODE [--not-normal] [--kind fit|half|rounded|beyond] [--mb SIZE]
-                 [--who library|same|tuned|independent]";
+       bench one read|eagle|write|nearest CODE [--not-normal] [--kind fit|half|rounded|beyond]
+                 [--mb SIZE] [--samples N] [--who library|same|tuned|independent]";
 
 /// N of the reels that are compared, where no other is asked for.
 const SAMPLES: u16 = 2_000;
@@ -159,6 +162,7 @@ fn main() {
         ["growth"] => growth(&options),
         ["nearest"] => nearest::compare(&options),
         ["cards"] => cards::compare(&options),
+        ["eagle"] => eagle::compare(&options),
         ["versions", old, old_again, new, new_again] => {
             let paths = [old, old_again, new, new_again];
             if options.small {
@@ -170,6 +174,7 @@ fn main() {
         ["one", call, code] => {
             let call = match call {
                 "read" => Call::Read,
+                "eagle" => Call::Eagle,
                 "write" => Call::Write,
                 "nearest" => Call::Nearest,
                 _ => usage(),
@@ -179,6 +184,9 @@ fn main() {
                 usage();
             }
             if options.kind != Kind::Fit && call != Call::Nearest {
+                usage();
+            }
+            if call == Call::Eagle && code != 1 {
                 usage();
             }
             one(&options, call, code);
@@ -262,6 +270,13 @@ fn call(who: Who, call: Call, code: u32, input: &[u8], out: &mut [u8]) -> Answer
             Who::Same => same::read_reel(input, out),
             Who::Tuned => tuned::read_reel(input, out),
             Who::Independent => independent::read_reel(input, out),
+            _ => unreachable!("it has no such call"),
+        }
+        .map(Answered::from),
+        Call::Eagle => match who {
+            Who::Library => library::read_eagle(input, out),
+            Who::Same => same::read_eagle(input, out),
+            Who::Independent => independent::read_eagle(input, out),
             _ => unreachable!("it has no such call"),
         }
         .map(Answered::from),
@@ -529,6 +544,7 @@ fn one(options: &Options, what: Call, code: u32) {
     let room = record_length(&reel, code);
     let (input, room) = match what {
         Call::Read => (reel, room),
+        Call::Eagle => (reels::with_trailers(&reel, options.samples), room),
         Call::Write => {
             let mut record = vec![1; room];
             independent::read_reel(&reel, &mut record).expect("a valid reel");

@@ -2,12 +2,20 @@
 //! lent buffer, around what is done for each group of a trace header and for each sample.
 
 use independent::{NearestWritten, ReelRead, Refused, Taken};
+use std::ops::Range;
 
 pub const CARD_BYTES: usize = 3_200;
 pub const REEL_HEADERS: usize = 3_600;
 const TRACE_HEADER: usize = 240;
 const BINARY_FIELDS: usize = 60;
 const TRACE_FIELDS: usize = 180;
+
+/// The bytes of a trailer, which follows each trace of an Eagle reel, and the two at its end.
+pub const TRAILER: usize = 960;
+pub const TRAILER_END: [u8; 2] = [0xFF, 0xFF];
+
+/// The check of an Eagle reel is the last two card bytes, columns 79 and 80 of card 40.
+pub const CHECK: Range<usize> = CARD_BYTES - 2..CARD_BYTES;
 
 /// Offsets in a trace header: of fields 41 to 65 and of 69, their scalar; of field 71 and of 73 to 85,
 /// on which it acts.
@@ -116,9 +124,13 @@ pub fn held_pairs(record: &mut [u8], samples: usize) -> impl Iterator<Item = &mu
 
 // ## Reading
 
+/// Reads a plain reel or an Eagle reel.
 #[inline(always)]
-pub fn read_reel<S: Steps>(reel: &[u8], out: &mut [u8]) -> Result<ReelRead, Refused> {
-    let numbers = check_reel::<S>(reel)?;
+pub fn read_reel<S: Steps, const EAGLE: bool>(
+    reel: &[u8],
+    out: &mut [u8],
+) -> Result<ReelRead, Refused> {
+    let numbers = check_reel::<S, EAGLE>(reel)?;
     let ReelNumbers {
         samples, traces, ..
     } = numbers;
@@ -126,7 +138,7 @@ pub fn read_reel<S: Steps>(reel: &[u8], out: &mut [u8]) -> Result<ReelRead, Refu
     if out.len() < length {
         return refused(10, length);
     }
-    let not_normal = put_record::<S>(reel, &numbers, &mut out[..length]);
+    let not_normal = put_record::<S, EAGLE>(reel, &numbers, &mut out[..length]);
     Ok(ReelRead {
         traces: traces as u64,
         samples: samples as u64,
@@ -143,14 +155,14 @@ struct ReelNumbers {
     traces: usize,
 }
 
-fn check_reel<S: Steps>(reel: &[u8]) -> Result<ReelNumbers, Refused> {
+fn check_reel<S: Steps, const EAGLE: bool>(reel: &[u8]) -> Result<ReelNumbers, Refused> {
     if reel.len() < REEL_HEADERS {
         return refused(1, reel.len());
     }
     let (headers, behind) = reel.split_at(REEL_HEADERS);
     let binary = &headers[CARD_BYTES..];
     let code = u32::from(be16(binary, CODE));
-    if !is_code(code) {
+    if !is_code(code) || EAGLE && code != 1 {
         return refused(2, CARD_BYTES + CODE);
     }
     let count = be16(binary, COUNT);
@@ -163,7 +175,8 @@ fn check_reel<S: Steps>(reel: &[u8]) -> Result<ReelNumbers, Refused> {
     }
 
     let samples = usize::from(count);
-    let stride = TRACE_HEADER + samples * sample_bytes(code);
+    let trailer = if EAGLE { TRAILER } else { 0 };
+    let stride = TRACE_HEADER + samples * sample_bytes(code) + trailer;
     let traces = behind.len() / stride;
     if behind.len() % stride != 0 {
         return refused(5, REEL_HEADERS + traces * stride);
@@ -189,6 +202,9 @@ fn check_reel<S: Steps>(reel: &[u8]) -> Result<ReelNumbers, Refused> {
                 return refused(18, place + scalar);
             }
         }
+        if EAGLE && !trace.ends_with(&TRAILER_END) {
+            return refused(20, place + stride - TRAILER_END.len());
+        }
         let (number, word) = match code {
             4 => (BAD_GAIN, S::refused_gain(words)),
             5 => (NOT_FINITE, S::refused_ieee(words)),
@@ -208,15 +224,23 @@ fn check_reel<S: Steps>(reel: &[u8]) -> Result<ReelNumbers, Refused> {
 }
 
 /// Puts the record, and says how many words are not normal.
-fn put_record<S: Steps>(reel: &[u8], numbers: &ReelNumbers, out: &mut [u8]) -> u64 {
+fn put_record<S: Steps, const EAGLE: bool>(
+    reel: &[u8],
+    numbers: &ReelNumbers,
+    out: &mut [u8],
+) -> u64 {
     let (headers, behind) = reel.split_at(REEL_HEADERS);
     let (cards, binary) = headers.split_at(CARD_BYTES);
     let (front, rest) = out.split_at_mut(RECORD_HEAD);
     let (held, end) = rest.split_at_mut(rest.len() - RECORD_END);
 
     let (card_field, binary_field) = front.split_at_mut(FIELD_HEAD + CARD_BYTES);
-    for (to, &byte) in put_head(card_field, 1).iter_mut().zip(cards) {
+    let held_cards = put_head(card_field, 1);
+    for (to, &byte) in held_cards.iter_mut().zip(cards) {
         *to = if byte == 0 { 0x40 } else { byte };
+    }
+    if EAGLE {
+        held_cards[CHECK].fill(0x40);
     }
     let fields = put_head(binary_field, 2);
     fields.copy_from_slice(&binary[..BINARY_FIELDS]);
@@ -227,6 +251,7 @@ fn put_record<S: Steps>(reel: &[u8], numbers: &ReelNumbers, out: &mut [u8]) -> u
         .chunks_exact(numbers.stride)
         .zip(held.chunks_exact_mut(held_stride(numbers.samples)))
     {
+        let (trace, _) = trace.split_at(trace.len() - if EAGLE { TRAILER } else { 0 });
         let (header, words) = trace.split_at(TRACE_HEADER);
         let (header_field, samples_field) = held.split_at_mut(FIELD_HEAD + TRACE_FIELDS);
         let fields = put_head(header_field, 3);

@@ -2,9 +2,13 @@
 //! and the same at every run.
 
 use crate::passes::{held_pairs, sample_bytes, CARD_BYTES, MOST_TRACES, PAIR_BYTES, REEL_HEADERS};
+use crate::passes::{CHECK, TRAILER, TRAILER_END};
 
 const TRACE_HEADER: usize = 240;
 const INTERVAL: u16 = 2_000;
+
+/// The check of an Eagle reel. A record has blanks in its place, whatever it is.
+const EAGLE_CHECK: [u8; 2] = [0xC1, 0xF7];
 
 /// What the samples of each code are, for the reader of a table.
 pub const SAMPLES: [(u32, &str); 6] = [
@@ -120,6 +124,14 @@ impl Random {
 
     pub fn below(&mut self, limit: u32) -> u32 {
         ((u64::from(self.next()) * u64::from(limit)) >> 32) as u32
+    }
+
+    /// Any bytes.
+    fn fill(&mut self, bytes: &mut [u8]) {
+        for some in bytes.chunks_mut(4) {
+            let any = self.next().to_be_bytes();
+            some.copy_from_slice(&any[..some.len()]);
+        }
     }
 
     fn one_of(&mut self, scalars: &[i16]) -> [u8; 2] {
@@ -271,6 +283,31 @@ pub fn make_not_normal(samples: u16, bytes: usize, one_in: u32) -> Vec<u8> {
     reel
 }
 
+/// The Eagle reel of a plain one of code 1: the same traces, each with a trailer of any bytes behind it, and
+/// a check on card 40.
+pub fn with_trailers(plain: &[u8], samples: u16) -> Vec<u8> {
+    let (headers, behind) = plain.split_at(REEL_HEADERS);
+    let stride = TRACE_HEADER + 4 * usize::from(samples);
+    let traces = behind.len() / stride;
+    let mut reel = vec![0; plain.len() + traces * TRAILER];
+    let mut random = Random(1983);
+
+    let (to, rest) = reel.split_at_mut(REEL_HEADERS);
+    to.copy_from_slice(headers);
+    to[CHECK].copy_from_slice(&EAGLE_CHECK);
+    for (to, trace) in rest
+        .chunks_exact_mut(stride + TRAILER)
+        .zip(behind.chunks_exact(stride))
+    {
+        let (to, trailer) = to.split_at_mut(stride);
+        to.copy_from_slice(trace);
+        let (any, end) = trailer.split_at_mut(TRAILER - TRAILER_END.len());
+        random.fill(any);
+        end.copy_from_slice(&TRAILER_END);
+    }
+    reel
+}
+
 /// A reel of a code, of one trace, with any bytes on its cards.
 pub fn make_small(code: u32, samples: u16, zeros: Zeros) -> Vec<u8> {
     let mut reel = make(code, samples, 0);
@@ -302,10 +339,7 @@ pub fn make(code: u32, samples: u16, bytes: usize) -> Vec<u8> {
     headers[3_224..3_226].copy_from_slice(&(code as u16).to_be_bytes());
     for (trace, number) in behind.chunks_exact_mut(stride).zip(1u32..) {
         let (header, words) = trace.split_at_mut(TRACE_HEADER);
-        for field in header[8..114].chunks_mut(4) {
-            let bytes = random.next().to_be_bytes();
-            field.copy_from_slice(&bytes[..field.len()]);
-        }
+        random.fill(&mut header[8..114]);
         random.put_groups(header);
         header[..4].copy_from_slice(&number.to_be_bytes());
         header[4..8].copy_from_slice(&number.to_be_bytes());

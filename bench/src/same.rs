@@ -68,7 +68,13 @@ struct Same;
 
 #[inline(never)]
 pub fn read_reel(reel: &[u8], out: &mut [u8]) -> Result<ReelRead, Refused> {
-    passes::read_reel::<Same>(reel, out)
+    passes::read_reel::<Same, false>(reel, out)
+}
+
+/// Reads an Eagle reel.
+#[inline(never)]
+pub fn read_eagle(reel: &[u8], out: &mut [u8]) -> Result<ReelRead, Refused> {
+    passes::read_reel::<Same, true>(reel, out)
 }
 
 #[inline(never)]

@@ -1,6 +1,7 @@
 //! What is printed, in Markdown, as docs/BENCHMARKS.md has it.
 
 use crate::cards::{self, CALLS, PLACES};
+use crate::eagle::{self, Seconds};
 use crate::nearest::Rounding;
 use crate::reels::{Kind, KINDS, ZEROS};
 use crate::versions::{Compared, ComparedSmall};
@@ -9,6 +10,7 @@ use crate::{reels, Grown, Who, ALL};
 #[derive(Clone, Copy, PartialEq)]
 pub enum Call {
     Read,
+    Eagle,
     Write,
     Nearest,
 }
@@ -81,6 +83,7 @@ pub fn untouched(rows: &[Row]) {
             [speeds[0], speeds[1], speeds[2]].map(|speed| speed.unwrap_or(f64::NAN));
         let call = match row.call {
             Call::Read => "reading",
+            Call::Eagle => "Eagle reading",
             Call::Write => "writing",
             Call::Nearest => "nearest writing",
         };
@@ -159,6 +162,40 @@ fn small_runs(runs: usize) -> String {
     format!("best of {runs} runs of {CALLS} calls in a row, all in turn in each run, each run beginning with another and taking the next of {PLACES} places for the buffers")
 }
 
+/// Eagle reels beside the plain reels of the same traces, by their sizes in megabytes, each with its runs.
+pub fn eagle(rows: &[eagle::Row], sizes: &[(usize, usize)]) {
+    let runs: Vec<String> = sizes
+        .iter()
+        .map(|(megabytes, runs)| format!("of {runs} runs with {megabytes} MB"))
+        .collect();
+    println!("\nReading plain reels of code 1 and the Eagle reels of the same traces; medians {}, all reels of a row in turn in each run, each run beginning with another. A copy of the plain reel says what a difference is worth.", runs.join(" and "));
+    println!(
+        "\nThe library's speeds in millions of samples a second, and speeds over one another:\n"
+    );
+    println!("| plain reel | N | words | Eagle reel's bytes over plain's | plain | Eagle | Eagle over plain | same algorithm in Rust, Eagle over plain | library over Rust, Eagle | plain's copy over plain |");
+    println!("|---|---|---|---|---|---|---|---|---|---|");
+    for row in rows {
+        let words = match row.not_normal {
+            true => format!("1 in {} not normal", reels::ONE_IN),
+            false => "all normal".into(),
+        };
+        let speed = |seconds: f64| row.count as f64 / 1e6 / seconds;
+        let over = |seconds: Seconds| seconds.plain / seconds.eagle;
+        println!(
+            "| {} MB | {} | {words} | {:.2} | {:.0} | {:.0} | {:.2} | {:.2} | {:.2} | {:.2} |",
+            row.megabytes,
+            row.samples,
+            row.longer,
+            speed(row.library.plain),
+            speed(row.library.eagle),
+            over(row.library),
+            over(row.same),
+            row.same.eagle / row.library.eagle,
+            row.library.plain / row.copy
+        );
+    }
+}
+
 /// Two versions on a small reel and its record.
 pub fn small_versions(rows: &[ComparedSmall], runs: usize) {
     println!("Calls on {} and on its record, no card byte 00; {}. There are two copies of both versions. The faster copy counts; the slower one is given over it.", small_reel(), small_runs(runs));
@@ -191,9 +228,13 @@ pub fn versions(rows: &[Compared], megabytes: usize, samples: u16, runs: usize) 
     println!("A reel of {megabytes} MB for each code, N = {samples}; best of {runs} runs, both copies of both versions in turn in each run, each run beginning with another. The faster copy counts; the slower one is given over it.");
     for (call, title) in [
         (Call::Read, "Reading"),
+        (Call::Eagle, "Reading Eagle reels of the same traces"),
         (Call::Write, "Writing"),
         (Call::Nearest, "Nearest writing"),
     ] {
+        if rows.iter().all(|row| row.call != call) {
+            continue;
+        }
         println!("\n{title}, MB of reel a second:\n");
         println!("| code | old | new | new over old | old's slower copy | new's slower copy |");
         println!("|---|---|---|---|---|---|");

@@ -1,18 +1,23 @@
 //! The Rust that is written after the library answers as the independent implementation does,
-//! refusals and every byte of the output too; and in nearest writing and on cards as the library does.
+//! refusals and every byte of the output too; and in nearest writing, on cards and on Eagle reels as the
+//! library does.
 
 use crate::cards::{self, LOOPS};
+use crate::eagle::{self, Reading};
 use crate::passes::{held_pairs, CARD_BYTES, FIELD_HEAD, PAIR_BYTES, REEL_HEADERS};
 use crate::reels::{self, Kind, Random, Zeros, KINDS, ZEROS};
 use crate::tables::{name, Call};
 use crate::versions::Version;
-use crate::{call, Answer, Who};
+use crate::{call, library, same, Answer, Who};
+use independent::{ReelRead, Refused};
+use std::panic::catch_unwind;
 
-/// Who is compared with the independent implementation. There is no tuned Rust of nearest writing.
+/// Who is compared with the independent implementation. There is no tuned Rust of nearest writing, and none
+/// of Eagle reading.
 fn compared(what: Call) -> [Who; 2] {
     match what {
         Call::Read | Call::Write => [Who::Same, Who::Tuned],
-        Call::Nearest => [Who::Same, Who::Library],
+        Call::Nearest | Call::Eagle => [Who::Same, Who::Library],
     }
 }
 
@@ -21,7 +26,7 @@ const BYTES: usize = 5_000;
 const DAMAGES: usize = 20_000;
 
 /// One more than the highest number of a cause.
-const CAUSES: usize = 20;
+const CAUSES: usize = 21;
 
 /// Changes some bytes, one or two at a place, and the length now and then.
 fn damaged(random: &mut Random, bytes: &[u8]) -> Vec<u8> {
@@ -477,4 +482,138 @@ fn blanking_one_card_byte_among_any() {
         assert!(blanked(&reel) == expected, "00 at {place}");
         reel[place] = before;
     }
+}
+
+/// A plain reel of code 1 and its Eagle reel, of as many traces as stand in so many bytes.
+fn plain_and_eagle(samples: u16, bytes: usize, not_normal: bool) -> [Vec<u8>; 2] {
+    let plain = if not_normal {
+        reels::make_not_normal(samples, bytes, reels::ONE_IN)
+    } else {
+        reels::make(1, samples, bytes)
+    };
+    let eagle = reels::with_trailers(&plain, samples);
+    [plain, eagle]
+}
+
+/// The Eagle reels of the benchmark have the traces of the plain ones, each with 960 bytes behind it that end
+/// in FFFF, and all else but a check on card 40; and all agree on both.
+#[test]
+fn eagle_reels_of_the_benchmark() {
+    for samples in eagle::SAMPLES {
+        for not_normal in [false, true] {
+            let stride = 240 + 4 * usize::from(samples);
+            let [plain, reel] = plain_and_eagle(samples, 3_600 + 5 * stride, not_normal);
+            assert_eq!(plain.len(), 3_600 + 5 * stride);
+            assert_eq!(reel.len(), 3_600 + 5 * (stride + 960));
+
+            assert_eq!(plain[3_198..3_200], [0x40, 0x40]);
+            assert!(reel[3_198..3_200].iter().all(|&byte| byte != 0x40));
+            assert_eq!(reel[..3_198], plain[..3_198]);
+            assert_eq!(reel[3_200..3_600], plain[3_200..3_600]);
+            let mut before: &[u8] = &[];
+            for (with_trailer, trace) in reel[3_600..]
+                .chunks_exact(stride + 960)
+                .zip(plain[3_600..].chunks_exact(stride))
+            {
+                let (front, trailer) = with_trailer.split_at(stride);
+                assert!(front == trace && trailer != before);
+                assert_eq!(trailer[958..], [0xFF, 0xFF]);
+                before = trailer;
+            }
+
+            let read = eagle::agree(&plain, &reel, library::read_reel, library::read_eagle);
+            assert_eq!((read.traces, read.samples), (5, samples.into()));
+            assert_eq!(read.not_normal > 0, not_normal);
+            assert_eq!(
+                eagle::agree(&plain, &reel, same::read_reel, same::read_eagle),
+                read
+            );
+        }
+    }
+}
+
+/// A library that reads either reel wrongly is noticed before anything is timed.
+#[test]
+fn wrong_readings_are_noticed() {
+    fn one_byte(reading: Reading, reel: &[u8], out: &mut [u8]) -> Result<ReelRead, Refused> {
+        let read = reading(reel, out)?;
+        out[out.len() / 2] ^= 1;
+        Ok(read)
+    }
+    fn one_byte_of_plain(reel: &[u8], out: &mut [u8]) -> Result<ReelRead, Refused> {
+        one_byte(library::read_reel, reel, out)
+    }
+    fn one_byte_of_eagle(reel: &[u8], out: &mut [u8]) -> Result<ReelRead, Refused> {
+        one_byte(library::read_eagle, reel, out)
+    }
+    /// The check stands in the record.
+    fn check_kept(reel: &[u8], out: &mut [u8]) -> Result<ReelRead, Refused> {
+        let read = library::read_eagle(reel, out)?;
+        out[FIELD_HEAD..][..CARD_BYTES].copy_from_slice(&reel[..CARD_BYTES]);
+        Ok(read)
+    }
+    /// It counts one word too few.
+    fn count_wrong(reel: &[u8], out: &mut [u8]) -> Result<ReelRead, Refused> {
+        let read = library::read_eagle(reel, out)?;
+        Ok(ReelRead {
+            not_normal: read.not_normal - 1,
+            ..read
+        })
+    }
+    /// It answers, and writes nothing.
+    fn nothing_written(reel: &[u8], out: &mut [u8]) -> Result<ReelRead, Refused> {
+        library::read_eagle(reel, &mut out.to_vec())
+    }
+
+    let [plain, reel] = plain_and_eagle(100, 12_000, true);
+    let is_noticed = |read_reel: Reading, read_eagle: Reading| {
+        catch_unwind(|| eagle::agree(&plain, &reel, read_reel, read_eagle)).is_err()
+    };
+    assert!(!is_noticed(library::read_reel, library::read_eagle));
+    assert!(is_noticed(one_byte_of_plain, library::read_eagle));
+    assert!(is_noticed(library::read_eagle, library::read_eagle));
+    for wrong in [
+        one_byte_of_eagle,
+        check_kept,
+        count_wrong,
+        nothing_written,
+        library::read_reel,
+    ] {
+        assert!(is_noticed(library::read_reel, wrong));
+    }
+}
+
+/// Damaged Eagle reels, in their trailers' last bytes too, into buffers that may be too short.
+#[test]
+fn reading_damaged_eagle_reels() {
+    let mut random = Random(7);
+    let mut causes = [0; CAUSES];
+    for not_normal in [false, true] {
+        let [_, whole] = plain_and_eagle(SAMPLES, BYTES, not_normal);
+        let stride = 240 + 4 * usize::from(SAMPLES) + 960;
+        for _ in 0..DAMAGES {
+            let mut reel = damaged(&mut random, &whole);
+            if random.below(8) == 0 {
+                let trace = 1 + random.below(5) as usize;
+                let place = 3_600 + trace * stride - 1 - random.below(2) as usize;
+                if let Some(byte) = reel.get_mut(place) {
+                    *byte ^= 1 << random.below(8);
+                }
+            }
+            let room = 7_000 - random.below(3_000) as usize;
+            causes[agreed(Call::Eagle, 1, &reel, room)] += 1;
+        }
+    }
+    for number in [0, 1, 2, 3, 4, 5, 7, 8, 10, 18, 20] {
+        assert!(causes[number] > 50, "{causes:?}");
+    }
+    assert_eq!((causes[9], causes[19]), (0, 0));
+}
+
+/// The median of an odd number of runs and of an even one.
+#[test]
+fn medians() {
+    assert_eq!(eagle::median(vec![3.0]), 3.0);
+    assert_eq!(eagle::median(vec![5.0, 1.0, 3.0]), 3.0);
+    assert_eq!(eagle::median(vec![4.0, 1.0, 3.0, 2.0]), 3.0);
 }

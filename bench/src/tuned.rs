@@ -16,7 +16,7 @@ struct Tuned;
 
 #[inline(never)]
 pub fn read_reel(reel: &[u8], out: &mut [u8]) -> Result<ReelRead, Refused> {
-    passes::read_reel::<Tuned>(reel, out)
+    passes::read_reel::<Tuned, false>(reel, out)
 }
 
 #[inline(never)]

@@ -34,6 +34,7 @@ type TakeCards = unsafe extern "C" fn(*const u8, usize, *const u8, usize, *mut u
 // The version that is linked with this.
 extern "C" {
     fn aukpocket_read_reel(from: *const u8, length: usize, to: *mut u8, room: usize) -> Answer;
+    fn aukpocket_read_eagle(from: *const u8, length: usize, to: *mut u8, room: usize) -> Answer;
     fn aukpocket_write_reel(
         from: *const u8,
         length: usize,
@@ -67,9 +68,11 @@ extern "C" {
 /// The machine's number for binding all names when it is loaded.
 const RTLD_NOW: c_int = 2;
 
-/// The calls of a version. One before CR 1 has no listings, one before CR 5 no nearest writing.
+/// The calls of a version. One before CR 1 has no listings, one before CR 5 no nearest writing, one before
+/// CR 7 no Eagle reading.
 pub struct Version {
     read: ReadReel,
+    eagle: Option<ReadReel>,
     write: WriteReel,
     nearest: Option<WriteReel>,
     list: Option<ReadReel>,
@@ -81,6 +84,7 @@ impl Version {
     pub fn linked() -> Version {
         Version {
             read: aukpocket_read_reel,
+            eagle: Some(aukpocket_read_eagle),
             write: aukpocket_write_reel,
             nearest: Some(aukpocket_write_nearest),
             list: Some(aukpocket_list_cards),
@@ -103,6 +107,7 @@ impl Version {
         };
         let [read, write] = [c"aukpocket_read_reel", c"aukpocket_write_reel"]
             .map(|name| find(name).unwrap_or_else(|| panic!("{path} has no {name:?}")));
+        let eagle = find(c"aukpocket_read_eagle");
         let nearest = find(c"aukpocket_write_nearest");
         let list = find(c"aukpocket_list_cards");
         let take = find(c"aukpocket_take_cards");
@@ -111,6 +116,7 @@ impl Version {
         unsafe {
             Version {
                 read: mem::transmute::<*mut c_void, ReadReel>(read),
+                eagle: eagle.map(|found| mem::transmute::<*mut c_void, ReadReel>(found)),
                 write: mem::transmute::<*mut c_void, WriteReel>(write),
                 nearest: nearest.map(|found| mem::transmute::<*mut c_void, WriteReel>(found)),
                 list: list.map(|found| mem::transmute::<*mut c_void, ReadReel>(found)),
@@ -121,16 +127,20 @@ impl Version {
 
     /// The seconds of a call, where there is one and it is taken with so long an output.
     fn timed(&self, call: Call, code: u32, input: &[u8], out: &mut [u8]) -> Option<f64> {
+        let read = match call {
+            Call::Eagle => self.eagle?,
+            _ => self.read,
+        };
         let write = match call {
             Call::Nearest => self.nearest?,
-            Call::Read | Call::Write => self.write,
+            _ => self.write,
         };
         let (from, to) = (black_box(input.as_ptr()), black_box(out.as_mut_ptr()));
         let start = Instant::now();
         // SAFETY: both buffers are lent for the call with their lengths.
         let answer = unsafe {
             match call {
-                Call::Read => (self.read)(from, input.len(), to, out.len()),
+                Call::Read | Call::Eagle => read(from, input.len(), to, out.len()),
                 Call::Write | Call::Nearest => write(from, input.len(), code, to, out.len()),
             }
         };
@@ -173,29 +183,40 @@ pub struct Compared {
 }
 
 /// What is timed of each copy, one after the other: reading, writing from the record that it has read just
-/// before, and nearest writing of that record and of one whose samples have to be rounded.
-const TURNS: [(Call, Kind); 4] = [
+/// before, nearest writing of that record and of one whose samples have to be rounded, and reading the Eagle
+/// reel of the same traces.
+const TURNS: [(Call, Kind); 5] = [
     (Call::Read, Kind::Fit),
     (Call::Write, Kind::Fit),
     (Call::Nearest, Kind::Fit),
     (Call::Nearest, Kind::Rounded),
+    (Call::Eagle, Kind::Fit),
 ];
 
 /// All calls by each copy in turn, each run beginning with another of them; the best run counts. A reel that
-/// has words that aren't normal is only read and written.
+/// has words that aren't normal is not written to the nearest. There is Eagle reading of code 1 where both
+/// versions have it.
 pub fn compare(options: &Options, paths: [&str; 4]) {
     let versions = paths.map(Version::load);
     let megabytes = options.megabytes.unwrap_or(SIZE);
     let runs = options.runs.unwrap_or(RUNS);
+    let all_read_eagle = versions.iter().all(|version| version.eagle.is_some());
     let mut rows = Vec::new();
     for (code, not_normal) in kinds(&options.codes) {
         let reel = reel_of(code, options.samples, not_normal, megabytes);
+        let with_eagle = all_read_eagle && code == 1;
+        let eagle = with_eagle.then(|| reels::with_trailers(&reel, options.samples));
         let bytes = megabytes * MEGABYTE;
         let rounded = reels::make_record(code, options.samples, bytes, Kind::Rounded);
         let mut record = vec![1; record_length(&reel, code)];
         let mut written = vec![1; reel.len()];
 
-        let turns = if not_normal { &TURNS[..2] } else { &TURNS[..] };
+        let mut turns = TURNS.to_vec();
+        turns.retain(|(call, _)| match call {
+            Call::Read | Call::Write => true,
+            Call::Nearest => !not_normal,
+            Call::Eagle => with_eagle,
+        });
         let mut best = [[None; 4]; TURNS.len()];
         let mut given = [[None; 4]; TURNS.len()];
         for run in 0..runs {
@@ -204,6 +225,7 @@ pub fn compare(options: &Options, paths: [&str; 4]) {
                 for (k, &(call, kind)) in turns.iter().enumerate() {
                     let (input, out) = match (call, kind) {
                         (Call::Read, _) => (&reel, &mut record),
+                        (Call::Eagle, _) => (eagle.as_ref().expect("it was made"), &mut record),
                         (_, Kind::Fit) => (&record, &mut written),
                         _ => (&rounded, &mut written),
                     };
@@ -230,7 +252,10 @@ pub fn compare(options: &Options, paths: [&str; 4]) {
                 code,
                 not_normal,
                 kind,
-                bytes: reel.len(),
+                bytes: match (call, &eagle) {
+                    (Call::Eagle, Some(eagle)) => eagle.len(),
+                    _ => reel.len(),
+                },
                 old: [a, b],
                 new: [c, d],
                 same_bytes: old.is_none() || old == new,
