@@ -49,7 +49,7 @@ pub record PlainAgain (s : List ℕ) (t n l : ℕ) (r : List ℕ) (code t₂ n�
   -- and reading it as a plain reel into any output that is long enough returns t, n, l and the count 0 and gives r.
   pub read : (out : List ℕ) → l ≤ length out → readOutcome reel out ≡ record { said = taken (t ∷ n ∷ l ∷ 0 ∷ []); bytes = r ++ drop l out }
 
--- The words of an Eagle reel, each as a number of 32 bits, trace by trace: 240 bytes behind the begin of each trace, N of them.
+-- The words of an Eagle reel, each as a number of 32 bits, trace by trace: N of them, 240 bytes behind the beginning of each trace.
 unfoldable pub eagleWords : List ℕ → List ℕ
 eagleWords s = flat (walk (λ at. walk (λ p. number (bytesAt s p 4)) 4 (samplesOf s) (at + 240)) (eagleLength s) (eagleCount s) 3600)
 
