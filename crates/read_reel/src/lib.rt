@@ -88,8 +88,9 @@ fn look_over(reel: &[u8], from: usize, size: usize) -> usize
     if reel.len() <= b as usize { 1 } else { 0 }
 }
 
-// The traces, one behind the other, each with `behind` bytes behind it, and how many of their words are not normal. The last has a call of its own: with one call in all, the
-// compiler makes one function of this loop and of what it does with a trace, and reads code 3 by a tenth slower.
+// The traces, one behind the other on the reel with `behind` bytes between them, and how many of their words are not normal. The last has a
+// call of its own: with one call in all, the compiler makes one function of this loop and of what it does with a trace, and reads code 3 by a
+// tenth slower.
 fn put_traces(
     reel: &[u8],
     code: usize,
@@ -164,7 +165,8 @@ fn put_head(layout: Layout, reel: &[u8], out: &mut [u8])
     put_over(0, places::field_at(Place(6), ByteNo(3225)), out);
 }
 
-// The record of t traces of n samples, w bytes apart and each with `behind` bytes behind it, which fills out; and how many of their words are not normal.
+// The record of t traces of n samples, w bytes apart with `behind` bytes between them, which fills out; and how many of their words are not
+// normal.
 fn put_record(
     layout: Layout,
     reel: &[u8],
