@@ -1,0 +1,2 @@
+pub mod FieldsLaws
+pub mod EachLaws
