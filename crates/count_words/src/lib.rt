@@ -12,7 +12,7 @@ ghost use Rattle.count_words.specs.Parts.{lowFirst, zeroDigit, tested, p
 use numbers::Place;
 
 // The most samples of a trace.
-const MOST_SAMPLES: usize = 8000;
+const MOST_SAMPLES: usize = 32767;
 
 // The number in the four bytes at a place, the first byte lowest, as a processor of today fetches it.
 fn low_first_at(reel: &[u8], at: usize) -> u32

@@ -29,10 +29,9 @@ use mathlib.Core.List.{List, [], _∷_}
 use mathlib.Core.Logic.{_⊎_, ⊎-elim}
 use mathlib.Core.Bool.{Bool, true, false, not}
 use Prim.Native.Nat.{ℕ, _^_, _≤_, _<_}
-use native.Mathlib.Omega.{arith}
-use borrow.Author.Tests.{lt-ltb, le-ltb, ne-eqb, eqb-true, eqb-false, not-true}
+use borrow.Author.Tests.{lt-ltb, le-ltb, eqb-true, eqb-false, not-true}
 use lib.Dec.{T, ltb, eqb}
-use lib.ListN.{length, getD, drop, replicate}
+use lib.ListN.{length, drop, replicate}
 use lib.IntN.{pos}
 use Rattle.numbers.specs.Walk.{pick, bytesAt}
 use Rattle.numbers.specs.Cause.{refuseIf, then}
@@ -44,7 +43,6 @@ use Rattle.numbers.specs.declared.Check.the-variants.{Fine, Refused}
 use Rattle.numbers.specs.Terms.{All, Bytes, atPlace}
 use Rattle.numbers.specs.Iff.{Iff}
 use Rattle.numbers.proofs.CauseLaws.{passed, then-fine, at-most}
-use Rattle.numbers.proofs.BoolLaws.{and-true, and-both}
 use Rattle.numbers.proofs.RowLaws.{Tests, apart, refused-where, row-where, then-row, then-first, then-second, test-room, test-by, not-enough, too-short, test-flag, not-no, fine-then, refused-then, row-then, no-row}
 use Rattle.numbers.proofs.SaidLaws.{not-taken, iff-trans, says-refused, says-fine, says-either, refused-by, taken-by, keeps-rest}
 use Rattle.formats.specs.Codes.{isCode}
@@ -65,6 +63,7 @@ use Rattle.sample_theorems.proofs.Pairs.{value-pair-back}
 use Rattle.reel.specs.Layout.{Field, tracesOf}
 use Rattle.reel.specs.Causes.{traceCauses, behindCausesBy, causesBy, causesOf}
 use Rattle.record.specs.Record.{reelRecord}
+use Rattle.fields.specs.Fields.{fieldsIn}
 use Rattle.record.specs.Held.{heldBy}
 use Rattle.fit.specs.Target.{isUnfit, targetCauses}
 use Rattle.reel.specs.NotNormal.{notNormalIn, notNormalAmong}
@@ -149,13 +148,13 @@ module _ (s out : List ℕ) where
 -- with T 1, N 2, a record of 3,471 bytes, for which an output of that length is long enough, and no word that isn't normal.
 -- Rules out a reader that declines every reel.
 pub example-taken : readOutcome example (replicate 3471 0) .said ≡ taken (1 ∷ 2 ∷ 3471 ∷ 0 ∷ [])
-unfolding causesBy behindCausesBy traceCauses bytesAt notNormalAmong notNormalIn isNormal
+unfolding causesBy behindCausesBy traceCauses bytesAt notNormalAmong notNormalIn isNormal fieldsIn
 example-taken = refl
 
 -- THEOREM. The same reel with the words 42010000 and 80000000, neither of which is normal, is taken with the count 2.
 -- Rules out a count of 0 for every reel.
 pub example-counted : readOutcome (exampleWith (0x42 ∷ 0x01 ∷ 0 ∷ 0 ∷ 0x80 ∷ 0 ∷ 0 ∷ 0 ∷ [])) (replicate 3471 0) .said ≡ taken (1 ∷ 2 ∷ 3471 ∷ 2 ∷ [])
-unfolding causesBy behindCausesBy traceCauses bytesAt notNormalAmong notNormalIn isNormal
+unfolding causesBy behindCausesBy traceCauses bytesAt notNormalAmong notNormalIn isNormal fieldsIn
 example-counted = refl
 
 -- ## Writing a reel

@@ -36,7 +36,7 @@ use mathlib.Core.Logic.{_⊎_, inl, inr, ⊎-elim}
 use Prim.Native.Nat.{ℕ, _+_, _-_, _*_, _^_, _≤_, _<_, suc}
 use native.Mathlib.Nat.{div-add-mod'}
 use native.Mathlib.Omega.{arith}
-use borrow.Author.Tests.{le-leb, eqb-true}
+use borrow.Author.Tests.{eqb-true}
 use lib.ListN.{length, take, drop}
 use lib.IntN.{ℤ, pos, negsuc, natAbs}
 use lib.Dec.{eqb}
@@ -63,7 +63,8 @@ use Rattle.reel_theorems.proofs.Output.{taken-reel, same-outputs}
 use Rattle.demands.proofs.ByNumber.{means-agree, agree-means}
 use Rattle.demands.proofs.Taken.{written-needs, needs, write-taken, written-bytes, written-no-cause, written-code, written-record}
 use Rattle.demands.proofs.Demand2.{reading, written, read-back}
-use Rattle.demands.proofs.Determined.{read-valid}
+use Rattle.demands.proofs.Determined.{read-valid, held-record}
+use Rattle.record.specs.Held.{renewed}
 use Rattle.demands.specs.Words.{HasWord, Worded}
 use Rattle.demands.specs.Results.{sampleValue, Agree, ReelAgain, OwnCode}
 
@@ -156,7 +157,8 @@ reel-again s out t n l c code out₂ t₂ n₂ l₂ b e e₂ =
     let k = written r code out₂ t₂ n₂ l₂ e₂ in
     let size : length r ≡ l = ap length (x .content) ∙ x .whole in
     let f = written-no-cause r h code out₂ w in
-    let has = written-record r h code out₂ w in
+    let own : renewed r ≡ r = held-record r h (v .valid) (v .newest) in
+    let has = written-record r h code out₂ w ∙ own in
     let means = same-records s _ b (written-bytes r h code out₂ w) (taken-reel s out (t ∷ n ∷ l ∷ c ∷ []) e) f .0 (sym (x .content) ∙ sym has) in
     record {
       traces = k .traces ∙ v .traces;
@@ -167,7 +169,8 @@ reel-again s out t n l c code out₂ t₂ n₂ l₂ b e e₂ =
       means = subst (MeanTheSame s) (sym (k .content)) means;
       has = ap reelRecord (k .content) ∙ has;
       read = λ out₃ room.
-          read-back r code out₂ out₃ t₂ n₂ l₂ h e₂ (rw size room)
+          read-back r code out₂ out₃ t₂ n₂ l₂ h e₂ (rw (own, size) room)
+          ∙ ap (λ (x : List ℕ). record { said = taken (t₂ ∷ n₂ ∷ length x ∷ 0 ∷ []); bytes = x ++ drop (length x) out₃ }) own
           ∙ ap (λ (j : ℕ). record { said = taken (t₂ ∷ n₂ ∷ j ∷ 0 ∷ []); bytes = r ++ drop j out₃ }) size
           ∙ ap₂ (λ (i j : ℕ). record { said = taken (i ∷ j ∷ l ∷ 0 ∷ []); bytes = r ++ drop l out₃ }) (k .traces ∙ v .traces) (k .samples ∙ v .samples);
     }

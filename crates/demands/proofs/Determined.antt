@@ -7,8 +7,8 @@
 -- - `read-valid`: where reading a reel is taken, the record in the output is valid, it holds what the reel means, and its T and N are those
 --   returned.
 -- - `valid-is`: valid means that neither 12 nor 13 applies, and this spells it out, tag by tag.
--- - `held-same`: two valid records that hold the same are equal byte for byte.
--- - `held-record`: a valid record is the record of what it holds.
+-- - `held-same`: two valid records in the newest form that hold the same are equal byte for byte.
+-- - `held-record`: a valid record in the newest form is the record of what it holds.
 --
 -- Each byte of a reel and of a record is below 256; nothing else is assumed.
 use mathlib.Core.Path.{_≡_, sym, ap, _∙_}
@@ -24,13 +24,13 @@ use Rattle.reel.specs.Causes.{causesOf}
 use Rattle.reel.specs.Meaning.{meaningOf}
 use Rattle.record.specs.Record.{recordOf}
 use Rattle.record.specs.Form.{heldSamples, heldCount, formCauses}
-use Rattle.record.specs.Held.{heldBy}
+use Rattle.record.specs.Held.{heldBy, IsNewest, renewed}
 use Rattle.read_reel.specs.Reading.{readOutcome}
 use Rattle.reel_theorems.proofs.Output.{taken-reel}
 use Rattle.demands.proofs.Again.{held-again}
 use Rattle.demands.proofs.Proper.{Proper}
 use Rattle.demands.proofs.ProperLaws.{reel-proper}
-use Rattle.demands.proofs.RecordBack.{record-bytes, record-samples, record-traces, record-no-cause, record-again}
+use Rattle.demands.proofs.RecordBack.{record-bytes, record-samples, record-traces, record-no-cause, record-newest, record-again}
 use Rattle.demands.proofs.Taken.{meant-count}
 use Rattle.demands.proofs.Valid.{record-fine, record-right}
 use Rattle.demands.proofs.Demand2.{reading}
@@ -49,6 +49,7 @@ meant s b f =
     record {
       bytes = record-bytes n i m p;
       valid = record-no-cause n i m p;
+      newest = record-newest n i m p;
       holds = record-again n i m p;
       traces = ap (heldCount (recordOf m)) (record-samples n i m p) ∙ record-traces n i m p ∙ meant-count s;
       samples = record-samples n i m p;
@@ -74,13 +75,14 @@ read-valid s out t n l c b e =
 pub valid-is : (r : List ℕ) → Iff (formCauses r ≡ Fine) ((t : ℕ) × RecordRight r t)
 valid-is r = (λ e. (heldCount r (heldSamples r), record-right r e), λ h. record-fine r (h .0) (h .1))
 
--- THEOREM. "Two records are equal byte for byte when they have the same length and the same bytes" (document 01): two valid records that
--- hold the same are.
+-- THEOREM. "Two records are equal byte for byte when they have the same length and the same bytes" (document 01): two valid records in the
+-- newest form that hold the same are.
 -- With `read-valid` it leaves no second record to a reel. Alone it rules out none of the list, as it speaks of records only.
-pub held-same : (r₁ r₂ : List ℕ) → Bytes r₁ → Bytes r₂ → formCauses r₁ ≡ Fine → formCauses r₂ ≡ Fine → heldBy r₁ ≡ heldBy r₂ → r₁ ≡ r₂
-held-same r₁ r₂ b₁ b₂ v₁ v₂ e = sym (held-again r₁ b₁ v₁) ∙ ap recordOf e ∙ held-again r₂ b₂ v₂
+pub held-same : (r₁ r₂ : List ℕ) → Bytes r₁ → Bytes r₂ → formCauses r₁ ≡ Fine → formCauses r₂ ≡ Fine → IsNewest r₁ → IsNewest r₂
+    → heldBy r₁ ≡ heldBy r₂ → r₁ ≡ r₂
+held-same r₁ r₂ b₁ b₂ v₁ v₂ w₁ w₂ e = sym (held-again r₁ b₁ v₁ w₁) ∙ ap recordOf e ∙ held-again r₂ b₂ v₂ w₂
 
--- THEOREM. "gives the record again" (demand 2): a valid record is the record of what it holds.
+-- THEOREM. "gives the record again" (demand 2): a valid record in the newest form is the record of what it holds.
 -- Alone it rules out none of the list; `read-back` and `reel-again`, which do, rest on it.
-pub held-record : (r : List ℕ) → Bytes r → formCauses r ≡ Fine → recordOf (heldBy r) ≡ r
+pub held-record : (r : List ℕ) → Bytes r → formCauses r ≡ Fine → IsNewest r → renewed r ≡ r
 held-record = held-again

@@ -8,13 +8,11 @@ use mathlib.Core.Bool.{Bool, true, false}
 use Prim.Native.Nat.{ℕ, _+_}
 use lib.Dec.{T}
 use lib.IntN.{ℤ}
-use Rattle.numbers.specs.BigEndian.{bytesOf}
 use Rattle.numbers.specs.Cause.{refuseIf}
 use Rattle.numbers.specs.declared.Check.the-variants.{Fine}
 use Rattle.numbers.specs.Terms.{All}
 use Rattle.numbers.specs.Iff.{Iff}
 use Rattle.numbers.proofs.CauseLaws.{passed, first-all, all-first}
-use Rattle.numbers.proofs.ByteLaws.{bytes-of}
 use Rattle.formats.specs.Codes.{isCode}
 use Rattle.value.specs.Pair.{pairOf, isCanonical, pairLength}
 use Rattle.formats.specs.Words.{wordOf, Writes}
@@ -26,9 +24,11 @@ use Rattle.value.proofs.WrittenLaws.{written-is}
 use Rattle.sample.specs.Calls.{singleWord}
 use Rattle.sample_theorems.proofs.Words.{single-bytes, writing-sound, writing-complete}
 use Rattle.reel.specs.Meaning.{Trace, Meaning}
-use Rattle.record.specs.Form.{tracesPlace, heldSamples, heldStride, heldCount}
-use Rattle.record.specs.Held.{heldValue, heldTrace, heldBy}
-use Rattle.fit.specs.Target.{isUnfit, fitCause, traceFit, fitCauses}
+use Rattle.fields.specs.Fields.{pairPlace}
+use Rattle.record.specs.Kind.{tag04}
+use Rattle.record.specs.Form.{heldSamples, shareIn, tracePlace, heldCount}
+use Rattle.record.specs.Held.{heldValue, heldValuesIn, heldTraceIn, heldByIn, heldBy}
+use Rattle.fit.specs.Target.{isUnfit, fitCause, samplesFit, traceFit, fitCauses}
 use Rattle.demands.specs.Words.{HasWord}
 
 -- ## What a record holds
@@ -42,21 +42,24 @@ abbrev pub Fitting : ℕ → Meaning → Type 0
 Fitting code m = All (FittingTrace code) (m .traces)
 
 -- 14 finds nothing in a trace exactly when each of its values has a word.
-trace-fit-is : (s : List ℕ) (code n at : ℕ) → Iff (traceFit s code n at ≡ Fine) (FittingTrace code (heldTrace s n at))
-unfolding traceFit heldTrace
+trace-fit-is : (s : List ℕ) (code n at : ℕ) → Iff (traceFit s code n at ≡ Fine) (FittingTrace code (heldTraceIn tag04 s n at))
+unfolding samplesFit heldTraceIn heldValuesIn
 trace-fit-is s code n at = (
-  first-all (fitCause s code) (heldValue s) (λ v. isUnfit (wordOf code v) ≡ false) (λ a e. passed (isUnfit (wordOf code (heldValue s a))) 14 a e) pairLength n (at + 186),
-  all-first (fitCause s code) (heldValue s) (λ v. isUnfit (wordOf code v) ≡ false) (λ a e. ap (λ (b : Bool). refuseIf b 14 a) e) pairLength n (at + 186),
+  first-all (λ j. fitCause s code (place j)) (λ j. heldValue s (place j)) (λ v. isUnfit (wordOf code v) ≡ false) (λ j e. passed (isUnfit (wordOf code (heldValue s (place j)))) 14 (place j) e) 1 n 0,
+  all-first (λ j. fitCause s code (place j)) (λ j. heldValue s (place j)) (λ v. isUnfit (wordOf code v) ≡ false) (λ j e. ap (λ (b : Bool). refuseIf b 14 (place j)) e) 1 n 0,
 )
+  where
+    place : ℕ → ℕ
+    place j = pairPlace pairLength (shareIn tag04 s n (at + 183)) (at + 183) j
 
 -- LAW. 14 finds nothing in a record exactly when each sample that it holds has a word under the code.
 pub fit-is : (s : List ℕ) (code : ℕ) → Iff (fitCauses s code (heldSamples s) (heldCount s (heldSamples s)) ≡ Fine) (Fitting code (heldBy s))
-unfolding fitCauses heldBy
+unfolding fitCauses heldByIn
 fit-is s code =
     let n = heldSamples s in
     let t = heldCount s n in (
-      first-all (traceFit s code n) (heldTrace s n) (FittingTrace code) (λ a. trace-fit-is s code n a .0) (heldStride n) t tracesPlace,
-      all-first (traceFit s code n) (heldTrace s n) (FittingTrace code) (λ a. trace-fit-is s code n a .1) (heldStride n) t tracesPlace,
+      first-all (λ j. traceFit s code n (tracePlace s n j)) (λ j. heldTraceIn tag04 s n (tracePlace s n j)) (FittingTrace code) (λ j. trace-fit-is s code n (tracePlace s n j) .0) 1 t 0,
+      all-first (λ j. traceFit s code n (tracePlace s n j)) (λ j. heldTraceIn tag04 s n (tracePlace s n j)) (FittingTrace code) (λ j. trace-fit-is s code n (tracePlace s n j) .1) 1 t 0,
     )
 
 -- ## A value

@@ -2,39 +2,45 @@
 --
 -- The rows of 12 and 13 are `FormRow`, in `specs/Tables`: a record is refused by one of them with a place exactly when that row applies to
 -- it, and it is valid exactly when no row does. Assumes nothing.
-use mathlib.Core.Path.{_≡_, refl, sym, _∙_}
+use mathlib.Core.Path.{_≡_, refl, sym, ap, _∙_}
 use mathlib.Core.List.{List}
 use Prim.Native.Nat.{ℕ, zero, suc, _+_}
 use native.Mathlib.Omega.{arith}
 use lib.ListN.{length, getD}
-use Rattle.numbers.specs.Walk.{walk}
 use Rattle.numbers.specs.Cause.{firstOf}
 use Rattle.numbers.specs.Iff.{Iff}
 use Rattle.numbers.specs.Terms.{atPlace}
 use Rattle.numbers.specs.declared.Check.the-variants.{Fine, Refused}
 use Rattle.numbers.proofs.RowLaws.{then-row, then-first, then-second, fine-then, refused-then, row-then, no-row, not-enough, too-short, first-is, first-of, walk-refused, walk-row, fine-none}
-use Rattle.value.specs.Pair.{pairLength}
 use Rattle.reel.specs.Layout.{elevationScalar, coordinateScalar}
 use Rattle.reel.specs.Meaning.{elevationFields, coordinateFields}
-use Rattle.record.specs.Form.{cardCause, cardsCauses, heldInterval, heldSamples, binaryCauses, tracesPlace, heldStride, pairCause, samplesCauses, endCauses, bodyCauses, formCauses}
-use Rattle.demands.specs.ValidRecord.{CanonicalAt, tracePlace, pairPlace, CardsRight, HeadRight, ScalarsRight, HeaderRight, TraceNext, EndNext}
-use Rattle.demands.specs.Tables.{FormRow, no-cards, bad-card, no-binary, bad-held-interval, bad-held-samples, bad-held-code, no-header, bad-held-69, bad-held-71, bad-held-115, bad-held-117, no-samples, no-end, bad-count, after}
-use Rattle.demands.proofs.Valid.{card-tests, cards-test, binary-test, interval-test, number-test, code-test, end-test, total-test, last-test, cards-fine, cards-right, head-right, formAt, pair-tests, header-test, scalar-test, count-test, spacing-test, samples-test, form-parts, behind-scalars, behind-header, trace-fine, countIn, next-counted, end-next, trace-next, body-end, form-body}
+use Rattle.fields.specs.Fields.{each}
+use Rattle.fields.proofs.FieldsLaws.{step-is}
+use Rattle.record.specs.Kind.{tag04}
+use Rattle.record.specs.Form.{cardCause, cardsCauses, heldInterval, heldSamples, binaryCauses, endCauses, samplesCausesIn, bodyCausesIn, formCausesIn, formCauses}
+use Rattle.numbers.specs.declared.Check.{Check}
+use Rattle.demands.specs.ValidRecord.{tracePlace, CardsRight, HeadRight, ScalarsRight, HeaderRight, TraceNext, EndNext}
+use Rattle.demands.specs.Tables.{FormRow, no-cards, bad-card, no-binary, bad-held-interval, bad-held-samples, bad-held-code, no-header, bad-held-69, bad-held-71, bad-held-115, bad-held-117, no-end, bad-count, after}
+use Rattle.demands.proofs.Valid.{card-tests, cards-test, binary-test, interval-test, number-test, code-test, end-test, total-test, last-test, cards-fine, cards-right, head-right, formAt, header-test, scalar-test, count-test, spacing-test, form-parts, behind-scalars, behind-header, trace-fine, countIn, next-counted, end-next, trace-next, body-end, form-body}
+use Rattle.demands.proofs.SampleRows as samples
 
 -- ## From the rows to the causes
 
 module _ (s : List ℕ) where
   -- What is refused in tag 02 is refused, where tag 01 is right.
   from-binary : {n p : ℕ} → CardsRight s → binaryCauses s ≡ Refused n (atPlace p) → formCauses s ≡ Refused n (atPlace p)
-  unfolding formCauses
+  unfolding formCausesIn
   from-binary h e = then-second _ _ (cards-fine s h) (then-first (binaryCauses s) _ e)
 
   -- So in trace k, where all is right up to it.
   from-trace : {n p : ℕ} (k : ℕ) → TraceNext s k → formAt s (tracePlace s k) ≡ Refused n (atPlace p) → formCauses s ≡ Refused n (atPlace p)
-  unfolding bodyCauses
+  unfolding bodyCausesIn
   from-trace {n} {p} k h e =
       form-body s (h .until .head)
-      (then-first _ _ (first-of (formAt s) (heldStride (heldSamples s)) (countIn s) tracesPlace n p (record { j = k; below = next-counted s k h; before = λ i l. trace-fine s i (h .until .before i l); here = e })))
+      (then-first _ _ (first-of at 1 (countIn s) 0 n p (record { j = k; below = next-counted s k h; before = λ i l. ap at (step-is i) ∙ trace-fine s i (h .until .before i l); here = ap at (step-is k) ∙ e })))
+    where
+      at : ℕ → Check
+      at j = formAt s (tracePlace s j)
 
   -- So at the end, where all is right up to it.
   from-end : {n p : ℕ} (t : ℕ) → EndNext s t → endCauses s t (tracePlace s t) ≡ Refused n (atPlace p) → formCauses s ≡ Refused n (atPlace p)
@@ -42,7 +48,7 @@ module _ (s : List ℕ) where
 
   -- Each row is the answer where it applies: all that comes before it finds nothing, and its own test refuses.
   from-row : {n p : ℕ} → FormRow s n p → formCauses s ≡ Refused n (atPlace p)
-  unfolding formCauses cardsCauses binaryCauses samplesCauses
+  unfolding formCausesIn cardsCauses binaryCauses
   from-row (no-cards h) = then-first (cardsCauses s) _ (refused-then (cards-test s) _ h)
   from-row (bad-card j c l b z) =
       then-first (cardsCauses s) _
@@ -60,12 +66,8 @@ module _ (s : List ℕ) where
       ∙ fine-then (header-test s k) f (fine-then (scalar-test s k elevationFields elevationScalar) e (refused-then (scalar-test s k coordinateFields coordinateScalar) _ h)))
   from-row (bad-held-115 k t f h) = from-trace k t (behind-scalars s k f (refused-then (count-test s k) _ h))
   from-row (bad-held-117 k t f c h) = from-trace k t (behind-scalars s k f (fine-then (count-test s k) c (refused-then (spacing-test s k) _ h)))
-  from-row (no-samples k t f h) = from-trace k t (behind-header s k f (refused-then (samples-test s k) _ h))
-  from-row (FormRow.bad-pair k j t f d l b h) =
-      from-trace k t
-      (behind-header s k f
-      (fine-then (samples-test s k) d
-      (walk-refused (λ y. CanonicalAt s (pairPlace s k y)) 13 (pairCause s) pairLength (heldSamples s) (tracePlace s k + 183 + 3) (pairPlace s k) (pair-tests s k) j l b h)))
+  from-row (FormRow.no-field k f t h l fs ps nf) = from-trace k t (behind-header s k h (samples.is-row tag04 s (heldSamples s) (tracePlace s k + 183) _ _ (samples.no-field f l fs ps nf)))
+  from-row (FormRow.bad-pair k j t h l fs ps np) = from-trace k t (behind-header s k h (samples.is-row tag04 s (heldSamples s) (tracePlace s k + 183) _ _ (samples.bad-pair j l fs ps np)))
   from-row (no-end t e h) = from-end t e (refused-then (end-test s t) _ h)
   from-row (bad-count t e f h) = from-end t e (fine-then (end-test s t) f (refused-then (total-test s t) _ h))
   from-row (after t e f c h) =
@@ -96,9 +98,16 @@ module _ (s : List ℕ) {n p : ℕ} where
       (λ i. row-then (number-test s) (FormRow s) (bad-held-samples c f i)
       (λ m. row-then (code-test s) (FormRow s) (bad-held-code c f i m) (λ z. no-row (FormRow s)))))
 
+  -- What is refused in the samples of trace k has its row, where all is right up to them.
+  to-samples : (k : ℕ) → TraceNext s k → HeaderRight s k → samplesCausesIn tag04 s (heldSamples s) (tracePlace s k + 183) ≡ Refused n (atPlace p) → FormRow s n p
+  to-samples k t h e = row (samples.row-is tag04 s (heldSamples s) (tracePlace s k + 183) n p e)
+    where
+      row : {n p : ℕ} → samples.Row tag04 s (heldSamples s) (tracePlace s k + 183) n p → FormRow s n p
+      row (samples.no-field f l fs ps nf) = FormRow.no-field k f t h l fs ps nf
+      row (samples.bad-pair j l fs ps np) = FormRow.bad-pair k j t h l fs ps np
+
   -- What is refused in trace k has its row, where all is right up to it.
   to-trace : (k : ℕ) → TraceNext s k → formAt s (tracePlace s k) ≡ Refused n (atPlace p) → FormRow s n p
-  unfolding samplesCauses
   to-trace k t refused =
       row-then (header-test s k) (FormRow s) (no-header k t)
       (λ f. row-then (scalar-test s k elevationFields elevationScalar) (FormRow s) (bad-held-69 k t f)
@@ -106,10 +115,7 @@ module _ (s : List ℕ) {n p : ℕ} where
       (λ y. let scalars : ScalarsRight s k = record { header = f; elevations = x; coordinates = y } in
       row-then (count-test s k) (FormRow s) (bad-held-115 k t scalars)
       (λ c. row-then (spacing-test s k) (FormRow s) (bad-held-117 k t scalars c)
-      (λ i. let front : HeaderRight s k = record { front = scalars; count = c; interval = i } in
-      row-then (samples-test s k) (FormRow s) (no-samples k t front)
-      (λ d. walk-row (λ j. CanonicalAt s (pairPlace s k j)) 13 (pairCause s) pairLength (heldSamples s) (tracePlace s k + 183 + 3) (pairPlace s k) (pair-tests s k) (FormRow s)
-      (λ j l b h. FormRow.bad-pair k j t front d l b h)))))))
+      (λ i. to-samples k t (record { front = scalars; count = c; interval = i }))))))
       (sym (form-parts s k) ∙ refused)
 
   -- What is refused at the end has its row, where all is right up to it.
@@ -120,18 +126,20 @@ module _ (s : List ℕ) {n p : ℕ} where
       (λ c. row-then (last-test s t) (FormRow s) (λ m. after t h f c (not-enough (tracePlace s t + 7) (length s) m)) (λ l. no-row (FormRow s))))
 
   -- What is refused behind tags 01 and 02 has its row, where these are right.
-  to-body : HeadRight s → bodyCauses s (heldSamples s) (heldInterval s) (countIn s) ≡ Refused n (atPlace p) → FormRow s n p
-  unfolding bodyCauses
+  to-body : HeadRight s → bodyCausesIn tag04 s (heldSamples s) (heldInterval s) (countIn s) ≡ Refused n (atPlace p) → FormRow s n p
+  unfolding bodyCausesIn
   to-body h =
-      let w = heldStride (heldSamples s) in
-      then-row (FormRow s) (firstOf (walk (formAt s) w (countIn s) tracesPlace)) _
-      (λ e. let r = first-is (formAt s) w (countIn s) tracesPlace n p e in
-      to-trace (r .j) (trace-next s h (r .j) (r .below) (r .before)) (r .here))
+      then-row (FormRow s) (firstOf (each at (countIn s))) _
+      (λ e. let r = first-is at 1 (countIn s) 0 n p e in
+      to-trace (r .j) (trace-next s h (r .j) (r .below) (λ i l. ap at (sym (step-is i)) ∙ r .before i l)) (ap at (sym (step-is (r .j))) ∙ r .here))
       (λ e. to-end (countIn s) (end-next s h e))
+    where
+      at : ℕ → Check
+      at j = formAt s (tracePlace s j)
 
   -- What is refused has its row: the first that applies.
   to-row : formCauses s ≡ Refused n (atPlace p) → FormRow s n p
-  unfolding formCauses
+  unfolding formCausesIn
   to-row =
       then-row (FormRow s) (cardsCauses s) _ to-cards
       (λ e. let c = cards-right s e in

@@ -26,17 +26,19 @@ use Rattle.value.specs.Pair.{pairOf, isCanonical, pairLength, pairIn}
 use Rattle.sample_theorems.proofs.Pairs.{value-pair-back}
 use Rattle.cards.proofs.EightLaws.{blank-some}
 use Rattle.reel.specs.Layout.{Field, cardBytes, binaryWidths, binaryFields, traceWidths, traceFields, fieldNumber, firstTrace, number16, samplesOf, intervalOf, codeOf, strideOf, tracesOf}
-use Rattle.reel.specs.Causes.{mostTraces, neither, traceCauses, causesOf}
+use Rattle.reel.specs.Causes.{neither, traceCauses, causesOf}
 use Rattle.reel.specs.Meaning.{blank, cardTextBy, cardText, binaryNumbers, filled, traceNumber, unscaledFields, headerOf, traceMeaning, meaningBy, meaningOf}
 use Rattle.reel.proofs.CheckLaws.{reel-fine}
-use Rattle.record.specs.Form.{heldInterval, heldSamples, tracesPlace, heldStride, heldCount, formCauses}
-use Rattle.record.specs.Held.{heldValue, heldTrace, heldBy}
+use Rattle.fields.proofs.EachLaws.{each-all}
+use Rattle.record.specs.Kind.{tag04}
+use Rattle.record.specs.Form.{heldInterval, heldSamples, heldCount, formCauses}
+use Rattle.record.specs.Held.{heldValue, heldValuesIn, heldTraceIn, heldByIn, heldBy}
 use Rattle.headers.proofs.TraceLaws.{countField, intervalField}
 use Rattle.headers.proofs.Ranges.{Fit, fields-fit}
 use Rattle.headers.proofs.Listed.{header-listed}
 use Rattle.headers.proofs.HeaderBytes.{HeaderFits, listed-fits, held-fit}
 use Rattle.record.proofs.HeaderLaws.{binary-front, binary-back, size-cards}
-use Rattle.record.proofs.FormLaws.{tags-most}
+use Rattle.record.proofs.FormLaws.{count-most}
 use Rattle.reel_theorems.proofs.Same.{binary-front-some, binary-back-some, trace-like, eighth}
 use Rattle.demands.proofs.Proper.{ProperTrace, Proper}
 use Rattle.demands.proofs.Valid.{record-right}
@@ -76,8 +78,8 @@ held-fits s h start = rw (header-listed (fieldNumber s start)) (listed-fits (map
 
 -- A trace of a record that is right holds a proper trace.
 trace-held : (s : List ℕ) → Bytes s → heldSamples s < 2 ^ 15 → heldInterval s < 2 ^ 15 → (k : ℕ) → TraceRight s k
-    → ProperTrace (heldSamples s) (heldInterval s) (heldTrace s (heldSamples s) (tracePlace s k))
-unfolding heldTrace
+    → ProperTrace (heldSamples s) (heldInterval s) (heldTraceIn tag04 s (heldSamples s) (tracePlace s k))
+unfolding heldTraceIn heldValuesIn
 trace-held s h p q k t =
     let n = heldSamples s in
     let i = heldInterval s in
@@ -86,8 +88,8 @@ trace-held s h p q k t =
       header = held-fits s h (at + 3);
       n-is = held-count (fieldNumber s (at + 3)) ∙ ap (signedOf 16) (t .front .count) ∙ signed-low n p;
       i-is = held-interval (fieldNumber s (at + 3)) ∙ ap (signedOf 16) (t .front .interval) ∙ signed-low i q;
-      size = size-walk (heldValue s) pairLength n (at + 186);
-      canonical = all-each (λ v. isCanonical (pairOf v) ≡ true) (heldValue s) pairLength n (at + 186) (λ j l. value-held s (pairPlace s k j) (t .pairs j l));
+      size = size-walk (λ j. heldValue s (pairPlace s k j)) 1 n 0;
+      canonical = each-all (λ v. isCanonical (pairOf v) ≡ true) (λ j. heldValue s (pairPlace s k j)) n (λ j l. value-held s (pairPlace s k j) (t .pairs j l));
     }
 
 -- The card bytes that a valid record holds are not 00.
@@ -100,7 +102,7 @@ cards-some s h = all-each (λ b. 0 < b) (λ a. getD s a 0) 1 3200 3 (λ j l. rw 
 
 -- LAW. What a valid record holds is proper, with the record's N and interval.
 pub held-proper : (r : List ℕ) → Bytes r → formCauses r ≡ Fine → Proper (heldSamples r) (heldInterval r) (heldBy r)
-unfolding heldBy binaryFields binaryWidths binary-front binary-back
+unfolding heldByIn binaryFields binaryWidths binary-front binary-back
 held-proper r h e =
     let v = record-right r e .end .until in
     let n = heldSamples r in
@@ -119,8 +121,8 @@ held-proper r h e =
       fit-back = fields-fit r h 6 3227 binary-back binary-back-some;
       n-is = signed-low n p;
       i-is = signed-low i q;
-      few = rw (size-walk (heldTrace r n) (heldStride n) t tracesPlace) (tags-most mostTraces r (heldStride n) tracesPlace);
-      traces = all-each (ProperTrace n i) (heldTrace r n) (heldStride n) t tracesPlace (λ k l. trace-held r h p q k (v .before k l));
+      few = rw (size-walk (λ j. heldTraceIn tag04 r n (tracePlace r j)) 1 t 0) (count-most tag04 r n);
+      traces = each-all (ProperTrace n i) (λ j. heldTraceIn tag04 r n (tracePlace r j)) t (λ k l. trace-held r h p q k (v .before k l));
     }
 
 -- ## What a reel means

@@ -47,8 +47,10 @@ use Rattle.reel.specs.Meaning.{elevationFields, coordinateFields, headerOf, Tra
 use Rattle.headers.specs.Header.{headerSize, headerBytes}
 use Rattle.headers.proofs.HeaderBytes.{elevations-fit, coordinates-fit, bytes-again as header-bytes}
 use Rattle.headers.proofs.CopiedLaws.{elevations-bare, coordinates-bare}
-use Rattle.record.specs.Form.{heldSamples, heldCount, heldStride, tracesPlace}
-use Rattle.record.specs.Held.{heldTrace, heldBy}
+use Rattle.fields.proofs.FieldsLaws.{step-is}
+use Rattle.record.specs.Kind.{tag04}
+use Rattle.record.specs.Form.{heldSamples, heldCount}
+use Rattle.record.specs.Held.{heldTraceIn, heldByIn, heldBy}
 use Rattle.read_reel.specs.Reading.{recordLengthOf, readOutcome}
 use Rattle.write_reel.specs.Reel.{reelOf}
 use Rattle.write_reel.specs.Writing.{writeOutcome}
@@ -160,22 +162,23 @@ all-bits (n ∷ ns) h = (mag-in 32 n (h .0), all-bits ns (h .1))
 
 -- Trace k of a record that holds what a reel means is trace k of the reel.
 same-trace : (s r : List ℕ) → heldBy r ≡ meaningOf s → (k : ℕ) → k < heldCount r (heldSamples r)
-    → heldTrace r (heldSamples r) (tracePlace r k) ≡ traceMeaning s (codeOf s) (samplesOf s) (intervalOf s) (firstTrace + k * strideOf s)
-unfolding heldBy meaningBy
+    → heldTraceIn tag04 r (heldSamples r) (tracePlace r k) ≡ traceMeaning s (codeOf s) (samplesOf s) (intervalOf s) (firstTrace + k * strideOf s)
+unfolding heldByIn meaningBy
 same-trace s r e k l =
     let n = heldSamples r in
-    walk-each (heldTrace r n) (traceMeaning s (codeOf s) (samplesOf s) (intervalOf s)) (heldStride n) (strideOf s) (heldCount r n) (tracesOf s) tracesPlace firstTrace (ap (λ (m : Meaning). m .traces) e) k l
+    ap (λ (j : ℕ). heldTraceIn tag04 r n (tracePlace r j)) (sym (step-is k))
+    ∙ walk-each (λ j. heldTraceIn tag04 r n (tracePlace r j)) (traceMeaning s (codeOf s) (samplesOf s) (intervalOf s)) 1 (strideOf s) (heldCount r n) (tracesOf s) 0 firstTrace (ap (λ (m : Meaning). m .traces) e) k l
 
 module _ (s r : List ℕ) (b : Bytes r) (e : heldBy r ≡ meaningOf s) (k : ℕ) (l : k < heldCount r (heldSamples r)) (right : TraceRight r k) where
   -- The elevations in the record have the values that those on the reel have, and so do the coordinates.
   held-elevations : scaledValues (fieldNumber r (headerStart r k) elevationScalar) (map (fieldNumber r (headerStart r k)) elevationFields)
       ≡ groupValues s k elevationFields elevationScalar
-  unfolding heldTrace traceMeaning headerOf
+  unfolding heldTraceIn traceMeaning headerOf
   held-elevations = ap (λ (t : Trace). t .header .elevations) (same-trace s r e k l) ∙ sym (group-looked s k elevationScalar elevationFields)
 
   held-coordinates : scaledValues (fieldNumber r (headerStart r k) coordinateScalar) (map (fieldNumber r (headerStart r k)) coordinateFields)
       ≡ groupValues s k coordinateFields coordinateScalar
-  unfolding heldTrace traceMeaning headerOf
+  unfolding heldTraceIn traceMeaning headerOf
   held-coordinates = ap (λ (t : Trace). t .header .coordinates) (same-trace s r e k l) ∙ sym (group-looked s k coordinateScalar coordinateFields)
 
   groups-held : GroupsHeld s r k
@@ -241,8 +244,8 @@ same-values s₁ s₂ out₁ out₂ t₁ n₁ l₁ c₁ t₂ n₂ l₂ c₂ b₁
 -- ## A written reel
 
 -- Header k of a record, as bytes: what the trace holds, written again.
-held-bytes : (r : List ℕ) → Bytes r → (k : ℕ) → TraceRight r k → headerBytes (heldTrace r (heldSamples r) (tracePlace r k) .header) ≡ bytesAt r (headerStart r k) headerSize
-unfolding heldTrace
+held-bytes : (r : List ℕ) → Bytes r → (k : ℕ) → TraceRight r k → headerBytes (heldTraceIn tag04 r (heldSamples r) (tracePlace r k) .header) ≡ bytesAt r (headerStart r k) headerSize
+unfolding heldTraceIn
 held-bytes r b k right = header-bytes r b (headerStart r k) (scalars-fine r k (right .front .front))
 
 -- THEOREM. Writing writes "the record's scalar and numbers as they stand": the 180 bytes of each trace header of a written reel are those
@@ -250,13 +253,14 @@ held-bytes r b k right = header-bytes r b (headerStart r k) (scalars-fine r k (r
 -- Rules out a writer that scales a group back, or that writes another trace's header.
 pub written-headers : (r : List ℕ) (code : ℕ) (out : List ℕ) (t n l : ℕ) → Bytes r → writeOutcome r code out .said ≡ taken (t ∷ n ∷ l ∷ []) → (k : ℕ) → k < t
     → bytesAt (take l (writeOutcome r code out .bytes)) (3600 + k * (240 + n * sampleBytes code)) 180 ≡ bytesAt r (headerStart r k) 180
-unfolding heldBy
+unfolding heldByIn
 written-headers r code out t n l b e k h =
     let w = written r code out t n l e in
     let m = heldSamples r in
     let few : k < heldCount r m = subst (λ (x : ℕ). k < x) (w .traces) h in
     let s = reelOf code (heldBy r) in
     let headers = written-headers-all r b code out (written-needs r code out (t ∷ n ∷ l ∷ []) e) in
-    let each = walk-each (λ p. bytesAt s p headerSize) (λ p. headerBytes (heldTrace r m p .header)) (stride m (sampleBytes code)) (heldStride m) (heldCount r m) (heldCount r m) firstTrace tracesPlace headers k few in
+    let header : ℕ → List ℕ = λ j. headerBytes (heldTraceIn tag04 r m (tracePlace r j) .header) in
+    let each = walk-each (λ p. bytesAt s p headerSize) header (stride m (sampleBytes code)) 1 (heldCount r m) (heldCount r m) firstTrace 0 headers k few ∙ ap header (step-is k) in
     ap₂ (λ (x : List ℕ) (y : ℕ). bytesAt x (3600 + k * (240 + y * sampleBytes code)) 180) (w .content) (w .samples)
     ∙ each ∙ held-bytes r b k (record-right r (w .valid) .end .until .before k few)

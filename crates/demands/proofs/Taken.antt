@@ -25,16 +25,17 @@ use Rattle.reel.specs.Causes.{causesOf}
 use Rattle.reel.specs.NotNormal.{notNormalOf}
 use Rattle.reel.specs.Meaning.{Trace, traceMeaning, Meaning, meaningBy, meaningOf}
 use Rattle.record.specs.Record.{recordOf, reelRecord}
-use Rattle.record.specs.Form.{tracesPlace, heldInterval, heldSamples, heldStride, heldCount, formCauses}
-use Rattle.record.specs.Held.{heldTrace, heldBy}
+use Rattle.record.specs.Kind.{tag04}
+use Rattle.record.specs.Form.{heldInterval, heldSamples, tracePlace, heldCount, formCauses}
+use Rattle.record.specs.Held.{heldTraceIn, heldByIn, heldBy, renewed}
 use Rattle.fit.specs.Target.{fitCauses, targetCauses}
 use Rattle.read_reel.specs.Reading.{recordLengthOf, readEnd, readOutcome}
 use Rattle.write_reel.specs.Reel.{reelOf}
 use Rattle.write_reel.specs.Writing.{reelLengthOf, writeCauses, writeEnd, writeOutcome}
 use Rattle.reel_theorems.proofs.Same.{record-size}
 use Rattle.demands.proofs.Proper.{ProperTrace, Proper}
-use Rattle.demands.proofs.Again.{held-again}
 use Rattle.demands.proofs.ProperLaws.{held-proper}
+use Rattle.demands.proofs.Renewed.{held-count}
 use Rattle.demands.proofs.Fitting.{FittingTrace, Fitting, fit-is, fits-is}
 use Rattle.demands.proofs.ReelBack.{reel-bytes, reel-code, reel-samples, reel-traces, reel-no-cause, reel-again, reel-count, reel-headers}
 use Rattle.demands.specs.Words.{HasWord, Worded}
@@ -122,20 +123,13 @@ needs r code out b v c f h =
 
 -- ## The reel of a record
 
--- The traces of what a record holds are those that are counted in it.
-pub held-count : (r : List ℕ) → length (heldBy r .traces) ≡ heldCount r (heldSamples r)
-unfolding heldBy
-held-count r =
-    let n = heldSamples r in
-    size-walk (heldTrace r n) (heldStride n) (heldCount r n) tracesPlace
-
 -- The headers of what a record holds, one behind the other.
 held-headers : (r : List ℕ) → map (λ (t : Trace). headerBytes (t .header)) (heldBy r .traces)
-    ≡ walk (λ at. headerBytes (heldTrace r (heldSamples r) at .header)) (heldStride (heldSamples r)) (heldCount r (heldSamples r)) tracesPlace
-unfolding heldBy
+    ≡ walk (λ k. headerBytes (heldTraceIn tag04 r (heldSamples r) (tracePlace r (heldSamples r) k) .header)) 1 (heldCount r (heldSamples r)) 0
+unfolding heldByIn
 held-headers r =
     let n = heldSamples r in
-    map-walk (λ (t : Trace). headerBytes (t .header)) (heldTrace r n) (heldStride n) (heldCount r n) tracesPlace
+    map-walk (λ (t : Trace). headerBytes (t .header)) (λ j. heldTraceIn tag04 r n (tracePlace r n j)) 1 (heldCount r n) 0
 
 -- A record that is written.
 module _ (r : List ℕ) (b : Bytes r) (code : ℕ) (out : List ℕ) (w : Writable r code out) where
@@ -165,22 +159,22 @@ module _ (r : List ℕ) (b : Bytes r) (code : ℕ) (out : List ℕ) (w : Writabl
   pub written-traces : tracesOf (reelOf code (heldBy r)) ≡ heldCount r (heldSamples r)
   written-traces = reel-traces code (heldSamples r) (heldInterval r) (heldBy r) proper (w .code-is) fitting ∙ held-count r
 
-  -- Its record is the record.
-  pub written-record : reelRecord (reelOf code (heldBy r)) ≡ r
+  -- Its record is the record, renewed.
+  pub written-record : reelRecord (reelOf code (heldBy r)) ≡ renewed r
   written-record =
-      ap recordOf (reel-again code (heldSamples r) (heldInterval r) (heldBy r) proper (w .code-is) fitting) ∙ held-again r b (w .form)
+      ap recordOf (reel-again code (heldSamples r) (heldInterval r) (heldBy r) proper (w .code-is) fitting)
 
-  -- The length of its record is that of the record.
-  pub written-length : recordLengthOf (reelOf code (heldBy r)) ≡ length r
+  -- The length of its record is that of the record, renewed.
+  pub written-length : recordLengthOf (reelOf code (heldBy r)) ≡ length (renewed r)
   written-length = sym (record-size (reelOf code (heldBy r)) written-bytes written-no-cause) ∙ ap length written-record
 
   -- None of its words counts: under code 1 each is normal.
   pub written-count : notNormalOf (reelOf code (heldBy r)) ≡ 0
   written-count = reel-count code (heldSamples r) (heldInterval r) (heldBy r) proper (w .code-is) fitting
 
-  -- Reading it into an output long enough gives the record again, with the record's T and N and the count 0.
-  pub written-read : (out₂ : List ℕ) → length r ≤ length out₂
-      → readOutcome (reelOf code (heldBy r)) out₂ ≡ record { said = taken (heldCount r (heldSamples r) ∷ heldSamples r ∷ length r ∷ 0 ∷ []); bytes = r ++ drop (length r) out₂ }
+  -- Reading it into an output long enough gives the record, renewed, with the record's T and N and the count 0.
+  pub written-read : (out₂ : List ℕ) → length (renewed r) ≤ length out₂
+      → readOutcome (reelOf code (heldBy r)) out₂ ≡ record { said = taken (heldCount r (heldSamples r) ∷ heldSamples r ∷ length (renewed r) ∷ 0 ∷ []); bytes = renewed r ++ drop (length (renewed r)) out₂ }
   written-read out₂ h = read-taken s out₂ written-no-cause (rw written-length h) ∙ ap₂ made said bytes
     where
       s : List ℕ
@@ -189,15 +183,15 @@ module _ (r : List ℕ) (b : Bytes r) (code : ℕ) (out : List ℕ) (w : Writabl
       made : Said → List ℕ → Outcome
       made x y = record { said = x; bytes = y }
 
-      said : taken (tracesOf s ∷ samplesOf s ∷ recordLengthOf s ∷ notNormalOf s ∷ []) ≡ taken (heldCount r (heldSamples r) ∷ heldSamples r ∷ length r ∷ 0 ∷ [])
+      said : taken (tracesOf s ∷ samplesOf s ∷ recordLengthOf s ∷ notNormalOf s ∷ []) ≡ taken (heldCount r (heldSamples r) ∷ heldSamples r ∷ length (renewed r) ∷ 0 ∷ [])
       said = ap taken (cons-eq written-traces (cons-eq written-samples (cons-eq written-length (cons-eq written-count refl))))
 
-      bytes : reelRecord s ++ drop (recordLengthOf s) out₂ ≡ r ++ drop (length r) out₂
+      bytes : reelRecord s ++ drop (recordLengthOf s) out₂ ≡ renewed r ++ drop (length (renewed r)) out₂
       bytes = ap₂ (λ (x : List ℕ) (k : ℕ). x ++ drop k out₂) written-record written-length
 
   -- The headers of its traces are those of the record's, one behind the other.
   pub written-headers-all : walk (λ at. bytesAt (reelOf code (heldBy r)) at headerSize) (stride (heldSamples r) (sampleBytes code)) (heldCount r (heldSamples r)) firstTrace
-      ≡ walk (λ at. headerBytes (heldTrace r (heldSamples r) at .header)) (heldStride (heldSamples r)) (heldCount r (heldSamples r)) tracesPlace
+      ≡ walk (λ k. headerBytes (heldTraceIn tag04 r (heldSamples r) (tracePlace r (heldSamples r) k) .header)) 1 (heldCount r (heldSamples r)) 0
   written-headers-all =
       let n = heldSamples r in
       ap (λ (k : ℕ). walk (λ at. bytesAt (reelOf code (heldBy r)) at headerSize) (stride n (sampleBytes code)) k firstTrace) (sym (held-count r))

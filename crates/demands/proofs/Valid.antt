@@ -6,13 +6,13 @@ use mathlib.Core.Path.{_≡_, refl, sym, ap, _∙_}
 use mathlib.Core.List.{List, map}
 use mathlib.Core.Logic.{_⊎_, inl, inr, ⊎-elim}
 use mathlib.Core.Bool.{Bool, true, false, not}
-use Prim.Native.Nat.{ℕ, zero, suc, _+_, _-_, _*_, _≤_, _<_}
-use native.Mathlib.Nat.{mul-one, not-suc-le-zero}
+use Prim.Native.Nat.{ℕ, _+_, _-_, _*_, _≤_, _<_}
+use native.Mathlib.Nat.{mul-one}
 use native.Mathlib.Omega.{arith}
 use borrow.Author.Tests.{le-leb, eq-eqb, ne-eqb, leb-true, eqb-true, eqb-false}
 use lib.Dec.{leb, ltb, eqb}
 use lib.ListN.{length, getD}
-use Rattle.numbers.specs.Walk.{pick, walk, bytesAt}
+use Rattle.numbers.specs.Walk.{walk, flat, bytesAt}
 use Rattle.numbers.specs.BigEndian.{number}
 use Rattle.numbers.specs.Cause.{refuseIf, then, firstOf}
 use Rattle.numbers.specs.declared.Check.{Check}
@@ -20,17 +20,21 @@ use Rattle.numbers.specs.declared.Check.the-variants.{Fine}
 use Rattle.numbers.specs.Terms.{Between}
 use Rattle.numbers.proofs.CauseLaws.{then-assoc, then-fine}
 use Rattle.numbers.proofs.BoolLaws.{and-true, and-both}
-use Rattle.numbers.proofs.RowLaws.{Tests, test-by, fine-where, then-second, fine-then, holds-then, test-between, test-same, test-room, none-is, none-of, walk-fine, walk-holds}
-use Rattle.numbers.proofs.WalkLaws.{at-zero, at-suc}
+use Rattle.numbers.proofs.RowLaws.{Tests, test-by, fine-where, holds-where, then-second, fine-then, holds-then, test-between, test-same, test-room, walk-fine, walk-holds}
 use Rattle.value.specs.Pair.{isCanonical, pairLength, pairIn}
 use Rattle.scalars.specs.Scalar.{isSmallest}
 use Rattle.reel.specs.Layout.{Field, elevationScalar, coordinateScalar, fieldNumber, number16}
 use Rattle.reel.specs.Meaning.{elevationFields, coordinateFields}
 use Rattle.headers.specs.Header.{smallestCause, smallestCauses}
 use Rattle.reel.specs.Causes.{mostSamples, mostTraces, mostInterval, within}
-use Rattle.record.specs.Form.{isField, fieldCause, cardCause, cardsCauses, heldInterval, heldSamples, heldCode, binaryCauses, tracesPlace, heldStride, pairCause, samplesCauses, traceForm, tagsFrom, heldCount, endCauses, bodyCauses, formCauses}
-use Rattle.record.proofs.FormLaws.{trace-parts, tags-most}
-use Rattle.demands.specs.ValidRecord.{Stands, CanonicalAt, tracePlace, headerPlace, pairPlace, CardsRight, HeadRight, SmallestAt, ScalarsRight, HeaderRight, TraceRight, RightUntil, TraceNext, EndNext, RecordRight}
+use Rattle.fields.specs.Fields.{each, fieldsIn, fieldCount}
+use Rattle.fields.specs.Fields as fields
+use Rattle.fields.proofs.FieldsLaws.{pairs-in-fields}
+use Rattle.fields.proofs.EachLaws.{each-fine, each-is, flat-fine, flat-is, run-most, run-are, run-end, run-more, run-one, run-none}
+use Rattle.record.specs.Kind.{tag04}
+use Rattle.record.specs.Form.{isField, fieldCause, cardCause, cardsCauses, heldInterval, heldSamples, heldCode, binaryCauses, endCauses, pairCauseIn, fieldFormIn, samplesCausesIn, traceFormIn, isTraceIn, heldCount, bodyCausesIn, formCausesIn, formCauses}
+use Rattle.record.proofs.FormLaws.{share-some, trace-parts}
+use Rattle.demands.specs.ValidRecord.{Stands, CanonicalAt, tracePlace, headerPlace, shareOf, fieldPlace, pairPlace, CardsRight, HeadRight, SmallestAt, ScalarsRight, HeaderRight, FieldRight, TraceRight, RightUntil, TraceNext, EndNext, RecordRight}
 
 -- ## The tests, one by one
 
@@ -59,7 +63,7 @@ test-card s at = go (eqb (getD s at 0) 0) refl
     go false e = inl (eqb-false (getD s at 0) 0 e, refl)
 
 -- A pair that is canonical.
-test-pair : (s : List ℕ) (at : ℕ) → Tests (CanonicalAt s at) 13 at (pairCause s at)
+pub test-pair : (s : List ℕ) (at : ℕ) → Tests (CanonicalAt s at) 13 at (pairCauseIn tag04 s at)
 test-pair s at = test-by (CanonicalAt s at) (isCanonical (pairIn (bytesAt s at pairLength))) 13 at (λ e. e) (λ e. e)
 
 -- ## Tags 01 and 02
@@ -79,8 +83,8 @@ module _ (s : List ℕ) where
   pub interval-test : Tests (Between 1 32767 (heldInterval s)) 13 3222 (refuseIf (not (within 1 mostInterval (heldInterval s))) 13 3222)
   interval-test = test-between 1 32767 (heldInterval s) 13 3222
 
-  pub number-test : Tests (Between 1 8000 (heldSamples s)) 13 3226 (refuseIf (not (within 1 mostSamples (heldSamples s))) 13 3226)
-  number-test = test-between 1 8000 (heldSamples s) 13 3226
+  pub number-test : Tests (Between 1 32767 (heldSamples s)) 13 3226 (refuseIf (not (within 1 mostSamples (heldSamples s))) 13 3226)
+  number-test = test-between 1 32767 (heldSamples s) 13 3226
 
   pub code-test : Tests (heldCode s ≡ 0) 13 3230 (refuseIf (not (eqb (heldCode s) 0)) 13 3230)
   code-test = test-same (heldCode s) 0 13 3230
@@ -122,16 +126,10 @@ module _ (s : List ℕ) where
 
 -- The checks of the trace at a place, with the N and interval that the record holds.
 abbrev pub formAt : List ℕ → ℕ → Check
-formAt s at = traceForm s (heldSamples s) (heldInterval s) at
+formAt s at = traceFormIn tag04 s (heldSamples s) (heldInterval s) at
 
 module _ (s : List ℕ) (k : ℕ) where
-  -- The pairs along tag 04.
-  pub pair-tests : (j : ℕ) → j < heldSamples s → Tests (CanonicalAt s (pairPlace s k j)) 13 (pairPlace s k j) (pairCause s (tracePlace s k + 183 + 3 + j * pairLength))
-  pair-tests j l =
-      let e : tracePlace s k + 183 + 3 + j * pairLength ≡ pairPlace s k j = omega arith in
-      rw e (test-pair s (pairPlace s k j))
-
-  -- The tests of tag 03, of its scalars, of its fields 115 and 117, and of tag 04.
+  -- The tests of tag 03, of its scalars, and of its fields 115 and 117.
   pub header-test : Tests (Stands s 3 180 (tracePlace s k)) 12 (tracePlace s k) (fieldCause s 3 180 (tracePlace s k))
   header-test = test-field s 3 180 (tracePlace s k)
 
@@ -145,8 +143,39 @@ module _ (s : List ℕ) (k : ℕ) where
   pub spacing-test : Tests (number16 s (headerPlace s k 117) ≡ heldInterval s) 13 (headerPlace s k 117) (refuseIf (not (eqb (number16 s (headerPlace s k 117)) (heldInterval s))) 13 (headerPlace s k 117))
   spacing-test = test-same (number16 s (headerPlace s k 117)) (heldInterval s) 13 (headerPlace s k 117)
 
-  pub samples-test : Tests (Stands s 4 (6 * heldSamples s) (tracePlace s k + 183)) 12 (tracePlace s k + 183) (fieldCause s 4 (6 * heldSamples s) (tracePlace s k + 183))
-  samples-test = test-field s 4 (6 * heldSamples s) (tracePlace s k + 183)
+  -- The causes of its samples: field by field, 12 and then 13.
+  abbrev samplesAt : Check
+  samplesAt = samplesCausesIn tag04 s (heldSamples s) (tracePlace s k + 183)
+
+  abbrev tags : ℕ → Check
+  tags f = fieldCause s 4 (fieldCount (shareOf s k) (heldSamples s) f * 6) (fieldPlace s k f)
+
+  abbrev pairs-of : ℕ → List Check
+  pairs-of f = walk (pairCauseIn tag04 s) 6 (fieldCount (shareOf s k) (heldSamples s) f) (fieldPlace s k f + 3)
+
+  by-field : samplesCausesIn tag04 s (heldSamples s) (tracePlace s k + 183) ≡ firstOf (each (λ f. then (tags f) (firstOf (pairs-of f))) (fieldsIn (shareOf s k) (heldSamples s)))
+  unfolding samplesCausesIn fields.inFields fieldFormIn
+  by-field = refl
+
+  by-pair : firstOf (each (λ j. pairCauseIn tag04 s (pairPlace s k j)) (heldSamples s)) ≡ firstOf (flat (each pairs-of (fieldsIn (shareOf s k) (heldSamples s))))
+  unfolding fields.inFields
+  by-pair = ap firstOf (pairs-in-fields (shareOf s k) (share-some tag04 s (heldSamples s) (tracePlace s k + 183)) 6 (pairCauseIn tag04 s) (heldSamples s) (tracePlace s k + 183))
+
+  -- Where each field stands and each pair is canonical, 12 and 13 find nothing in them,
+  samples-fine : ((f : ℕ) → f < fieldsIn (shareOf s k) (heldSamples s) → FieldRight s k f) → ((j : ℕ) → j < heldSamples s → CanonicalAt s (pairPlace s k j)) → samplesCausesIn tag04 s (heldSamples s) (tracePlace s k + 183) ≡ Fine
+  samples-fine h p =
+      let q : firstOf (each (λ j. pairCauseIn tag04 s (pairPlace s k j)) (heldSamples s)) ≡ Fine = each-fine _ (heldSamples s) (λ j l. fine-where (test-pair s _) (p j l)) in
+      by-field
+      ∙ each-fine _ (fieldsIn (shareOf s k) (heldSamples s))
+      (λ f l. fine-then (test-field s 4 _ _) (h f l) (flat-is pairs-of (fieldsIn (shareOf s k) (heldSamples s)) (sym by-pair ∙ q) f l))
+
+  -- and where they find nothing in them, all that is so.
+  samples-right : samplesCausesIn tag04 s (heldSamples s) (tracePlace s k + 183) ≡ Fine → ((f : ℕ) → f < fieldsIn (shareOf s k) (heldSamples s) → FieldRight s k f) × ((j : ℕ) → j < heldSamples s → CanonicalAt s (pairPlace s k j))
+  samples-right e =
+      let one = each-is (λ f. then (tags f) (firstOf (pairs-of f))) (fieldsIn (shareOf s k) (heldSamples s)) (sym by-field ∙ e) in
+      let q : firstOf (each (λ j. pairCauseIn tag04 s (pairPlace s k j)) (heldSamples s)) ≡ Fine =
+      by-pair ∙ flat-fine pairs-of (fieldsIn (shareOf s k) (heldSamples s)) (λ f l. then-fine (tags f) _ (one f l) .1) in
+      (λ f l. holds-where (test-field s 4 _ _) (then-fine (tags f) _ (one f l) .0), λ j l. holds-where (test-pair s _) (each-is _ (heldSamples s) q j l))
 
   -- The causes of a trace, one by one.
   pub form-parts : formAt s (tracePlace s k)
@@ -154,17 +183,17 @@ module _ (s : List ℕ) (k : ℕ) where
       (then (smallestCause s (tracePlace s k + 3) elevationFields elevationScalar)
       (then (smallestCause s (tracePlace s k + 3) coordinateFields coordinateScalar)
       (then (refuseIf (not (eqb (number16 s (headerPlace s k 115)) (heldSamples s))) 13 (headerPlace s k 115))
-      (then (refuseIf (not (eqb (number16 s (headerPlace s k 117)) (heldInterval s))) 13 (headerPlace s k 117)) (samplesCauses s (heldSamples s) (tracePlace s k + 183))))))
+      (then (refuseIf (not (eqb (number16 s (headerPlace s k 117)) (heldInterval s))) 13 (headerPlace s k 117)) (samplesCausesIn tag04 s (heldSamples s) (tracePlace s k + 183))))))
   unfolding smallestCauses
   form-parts =
-      trace-parts s (heldSamples s) (heldInterval s) (tracePlace s k)
+      trace-parts tag04 s (heldSamples s) (heldInterval s) (tracePlace s k)
       ∙ ap (then (fieldCause s 3 180 (tracePlace s k)))
       (then-assoc (smallestCause s (tracePlace s k + 3) elevationFields elevationScalar) (smallestCause s (tracePlace s k + 3) coordinateFields coordinateScalar) _)
 
   -- Behind scalars that are right, the answer is that of fields 115 and 117 and of tag 04.
   pub behind-scalars : ScalarsRight s k → {x : Check}
       → then (refuseIf (not (eqb (number16 s (headerPlace s k 115)) (heldSamples s))) 13 (headerPlace s k 115))
-      (then (refuseIf (not (eqb (number16 s (headerPlace s k 117)) (heldInterval s))) 13 (headerPlace s k 117)) (samplesCauses s (heldSamples s) (tracePlace s k + 183))) ≡ x
+      (then (refuseIf (not (eqb (number16 s (headerPlace s k 117)) (heldInterval s))) 13 (headerPlace s k 117)) (samplesCausesIn tag04 s (heldSamples s) (tracePlace s k + 183))) ≡ x
       → formAt s (tracePlace s k) ≡ x
   behind-scalars h e =
       form-parts
@@ -172,7 +201,7 @@ module _ (s : List ℕ) (k : ℕ) where
       (fine-then (scalar-test elevationFields elevationScalar) (h .elevations) (fine-then (scalar-test coordinateFields coordinateScalar) (h .coordinates) e))
 
   -- Behind a header that is right, the answer is that of tag 04.
-  pub behind-header : HeaderRight s k → {x : Check} → samplesCauses s (heldSamples s) (tracePlace s k + 183) ≡ x → formAt s (tracePlace s k) ≡ x
+  pub behind-header : HeaderRight s k → {x : Check} → samplesCausesIn tag04 s (heldSamples s) (tracePlace s k + 183) ≡ x → formAt s (tracePlace s k) ≡ x
   behind-header h e = behind-scalars (h .front) (fine-then count-test (h .count) (fine-then spacing-test (h .interval) e))
 
   -- Where the scalars are right, 13 finds nothing in them.
@@ -182,148 +211,81 @@ module _ (s : List ℕ) (k : ℕ) where
 
   -- Where a trace is right, 12 and 13 find nothing in it.
   pub trace-fine : TraceRight s k → formAt s (tracePlace s k) ≡ Fine
-  unfolding samplesCauses
-  trace-fine h =
-      behind-header (h .front)
-      (fine-then samples-test (h .samples)
-      (walk-fine (λ j. CanonicalAt s (pairPlace s k j)) 13 (pairCause s) pairLength (heldSamples s) (tracePlace s k + 183 + 3) (pairPlace s k) pair-tests (h .pairs)))
+  trace-fine h = behind-header (h .front) (samples-fine (h .fields) (h .pairs))
 
   -- And where they find nothing in it, it is right.
-  trace-right : formAt s (tracePlace s k) ≡ Fine → TraceRight s k
-  unfolding samplesCauses
+  pub trace-right : formAt s (tracePlace s k) ≡ Fine → TraceRight s k
   trace-right e =
       let a = holds-then header-test _ (sym form-parts ∙ e) in
       let x = holds-then (scalar-test elevationFields elevationScalar) _ (a .1) in
       let y = holds-then (scalar-test coordinateFields coordinateScalar) _ (x .1) in
       let b = holds-then count-test _ (y .1) in
       let c = holds-then spacing-test _ (b .1) in
-      let d = holds-then samples-test _ (c .1) in
+      let d = samples-right (c .1) in
       record {
         front = record { front = record { header = a .0; elevations = x .0; coordinates = y .0 }; count = b .0; interval = c .0 };
-        samples = d .0;
-        pairs = walk-holds (λ j. CanonicalAt s (pairPlace s k j)) 13 (pairCause s) pairLength (heldSamples s) (tracePlace s k + 183 + 3) (pairPlace s k) pair-tests (d .1);
+        fields = d .0;
+        pairs = d .1;
       }
 
 -- ## How many traces there are
-
--- k tags 03, w bytes apart, are counted before those behind them.
-tags-more : (most : ℕ) (s : List ℕ) (w at k : ℕ) → k ≤ most → ((j : ℕ) → j < k → getD s (at + j * w) 0 ≡ 3)
-    → tagsFrom most s w at ≡ k + tagsFrom (most - k) s w (at + k * w)
-unfolding tagsFrom
-tags-more most s w at zero h t =
-    let a = at-zero at w in
-    let b : most - 0 ≡ most = omega arith in
-    rw (a, b) (omega arith)
-tags-more zero s w at (suc k) h t = absurd (not-suc-le-zero h)
-tags-more (suc most) s w at (suc k) h t =
-    let a = at-zero at w in
-    let b = at-suc at w k in
-    let c : suc most - suc k ≡ most - k = omega arith in
-    let here : getD s at 0 ≡ 3 = ap (λ (x : ℕ). getD s x 0) (sym a) ∙ t 0 (omega arith) in
-    let rest = tags-more most s w (at + w) k (omega arith) (λ j l. ap (λ (x : ℕ). getD s x 0) (sym (at-suc at w j)) ∙ t (suc j) (omega arith)) in
-    rw (eq-eqb (getD s at 0) 3 here, c, b) (omega (arith, rest))
-
--- One tag 03 more is counted, where there is room for it.
-tags-next : (most : ℕ) (s : List ℕ) (w at : ℕ) → 0 < most → getD s at 0 ≡ 3 → 0 < tagsFrom most s w at
-unfolding tagsFrom
-tags-next zero s w at h t = absurd (not-suc-le-zero h)
-tags-next (suc most) s w at h t = rw (eq-eqb (getD s at 0) 3 t) (omega arith)
-
--- None is counted where another byte stands, or there is no room.
-tags-none : (most : ℕ) (s : List ℕ) (w at : ℕ) → (most ≡ 0) ⊎ (¬ (getD s at 0 ≡ 3)) → tagsFrom most s w at ≡ 0
-unfolding tagsFrom
-tags-none zero s w at h = refl
-tags-none (suc most) s w at (inl e) = absurd (let z : suc most ≡ 0 = e in omega arith)
-tags-none (suc most) s w at (inr n) = rw (ne-eqb (getD s at 0) 3 n)
-
--- Each tag that is counted is 03.
-tags-are : (most : ℕ) (s : List ℕ) (w at j : ℕ) → j < tagsFrom most s w at → getD s (at + j * w) 0 ≡ 3
-unfolding tagsFrom
-tags-are zero s w at j h = absurd (not-suc-le-zero h)
-tags-are (suc most) s w at j h = go (λ i l. tags-are most s w (at + w) i l) (eqb (getD s at 0) 3) refl j h
-  where
-    go : ((i : ℕ) → i < tagsFrom most s w (at + w) → getD s (at + w + i * w) 0 ≡ 3)
-        → (b : Bool) → eqb (getD s at 0) 3 ≡ b → (j : ℕ) → j < pick b (suc (tagsFrom most s w (at + w))) 0 → getD s (at + j * w) 0 ≡ 3
-    go rest false e j h = absurd (not-suc-le-zero h)
-    go rest true e zero h =
-        let a = at-zero at w in
-        rw a (eqb-true (getD s at 0) 3 e)
-    go rest true e (suc j) h =
-        let b = at-suc at w j in
-        rw b (rest j (omega arith))
-
--- Behind the tags that are counted stands another byte, or there is no room for more.
-tags-end : (most : ℕ) (s : List ℕ) (w at : ℕ) → (tagsFrom most s w at ≡ most) ⊎ (¬ (getD s (at + tagsFrom most s w at * w) 0 ≡ 3))
-unfolding tagsFrom
-tags-end zero s w at = inl refl
-tags-end (suc most) s w at = go (eqb (getD s at 0) 3) refl (tags-end most s w (at + w))
-  where
-    c : ℕ
-    c = tagsFrom most s w (at + w)
-
-    go : (b : Bool) → eqb (getD s at 0) 3 ≡ b → (c ≡ most) ⊎ (¬ (getD s (at + w + c * w) 0 ≡ 3))
-        → (pick b (suc c) 0 ≡ suc most) ⊎ (¬ (getD s (at + pick b (suc c) 0 * w) 0 ≡ 3))
-    go true e (inl h) = inl (ap suc h)
-    go true e (inr h) =
-        let b = at-suc at w c in
-        inr (λ q. h (ap (λ (x : ℕ). getD s x 0) (sym b) ∙ q))
-    go false e h =
-        let a = at-zero at w in
-        inr (λ q. eqb-false (getD s at 0) 3 e (ap (λ (x : ℕ). getD s x 0) (sym a) ∙ q))
 
 -- The traces that a record holds, by the tags 03 that follow each other.
 abbrev pub countIn : List ℕ → ℕ
 countIn s = heldCount s (heldSamples s)
 
 module _ (s : List ℕ) where
+  -- Tag 03 stands where trace t should.
+  abbrev isTrace : ℕ → Bool
+  isTrace t = isTraceIn tag04 s (heldSamples s) t
+
   -- The tags of the traces up to trace k are 03.
-  tags-until : (k : ℕ) → RightUntil s k → (j : ℕ) → j < k → getD s (tracePlace s j) 0 ≡ 3
-  tags-until k h j l = h .before j l .front .front .header .tag-is
+  tags-until : (k : ℕ) → RightUntil s k → (j : ℕ) → j < k → isTrace (0 + j) ≡ true
+  tags-until k h j l = let z : 0 + j ≡ j = omega arith in ap isTrace z ∙ eq-eqb (getD s (tracePlace s j) 0) 3 (h .before j l .front .front .header .tag-is)
 
   -- Where another trace begins behind k traces, more than k are counted.
   pub next-counted : (k : ℕ) → TraceNext s k → k < countIn s
   next-counted k h =
-      let w = heldStride (heldSamples s) in
       let few : k < mostTraces = h .few in
-      let all = tags-more mostTraces s w tracesPlace k (omega arith) (tags-until k (h .until)) in
-      let one = tags-next (mostTraces - k) s w (tracePlace s k) (omega arith) (h .tag) in
+      let all = run-more isTrace mostTraces 0 k (omega arith) (tags-until k (h .until)) in
+      let z : 0 + k ≡ k = omega arith in
+      let one = run-one isTrace (mostTraces - k) (0 + k) (omega arith) (ap isTrace z ∙ eq-eqb (getD s (tracePlace s k) 0) 3 (h .tag)) in
       omega arith
 
   -- Where tag 05 should follow t traces, t are counted.
   pub end-counted : (t : ℕ) → EndNext s t → countIn s ≡ t
   end-counted t h =
-      let w = heldStride (heldSamples s) in
       let few : t ≤ mostTraces = h .few in
-      let all = tags-more mostTraces s w tracesPlace t (omega arith) (tags-until t (h .until)) in
-      let none = tags-none (mostTraces - t) s w (tracePlace s t) (⊎-elim (λ e. inl (full e)) (λ n. inr n) (h .end)) in
-      omega arith
-    where
-      full : t ≡ 100000 → mostTraces - t ≡ 0
-      full e = omega arith
+      let all = run-more isTrace mostTraces 0 t (omega arith) (tags-until t (h .until)) in
+      let most = run-most isTrace (mostTraces - t) (0 + t) in
+      ⊎-elim (λ (e : t ≡ 100000). omega arith)
+      (λ n. let z : 0 + t ≡ t = omega arith in
+      let none = run-none isTrace (mostTraces - t) (0 + t) (ap isTrace z ∙ ne-eqb (getD s (tracePlace s t) 0) 3 n) in
+      omega arith) (h .end)
 
   -- The traces up to trace t are right, as far as they are looked at.
-  until-fine : (t : ℕ) → RightUntil s t → firstOf (walk (formAt s) (heldStride (heldSamples s)) t tracesPlace) ≡ Fine
-  until-fine t h = none-of (formAt s) (heldStride (heldSamples s)) t tracesPlace (λ j l. trace-fine s j (h .before j l))
+  until-fine : (t : ℕ) → RightUntil s t → firstOf (each (λ j. formAt s (tracePlace s j)) t) ≡ Fine
+  until-fine t h = each-fine (λ j. formAt s (tracePlace s j)) t (λ j l. trace-fine s j (h .before j l))
 
   -- Where the traces that are counted are all right, tag 05 should follow them.
-  pub end-next : HeadRight s → firstOf (walk (formAt s) (heldStride (heldSamples s)) (countIn s) tracesPlace) ≡ Fine → EndNext s (countIn s)
+  pub end-next : HeadRight s → firstOf (each (λ j. formAt s (tracePlace s j)) (countIn s)) ≡ Fine → EndNext s (countIn s)
   end-next h e =
-      let w = heldStride (heldSamples s) in
+      let z : 0 + countIn s ≡ countIn s = omega arith in
       record {
-        until = record { head = h; before = λ i l. trace-right s i (none-is (formAt s) w (countIn s) tracesPlace e i l) };
-        few = tags-most mostTraces s w tracesPlace;
-        end = tags-end mostTraces s w tracesPlace;
+        until = record { head = h; before = λ i l. trace-right s i (each-is (λ j. formAt s (tracePlace s j)) (countIn s) e i l) };
+        few = run-most isTrace mostTraces 0;
+        end = ⊎-elim (λ q. inl q) (λ q. inr (eqb-false (getD s (tracePlace s (countIn s)) 0) 3 (ap isTrace (sym z) ∙ q))) (run-end isTrace mostTraces 0);
       }
 
   -- A trace that is counted, behind traces that are all right.
   pub trace-next : HeadRight s → (k : ℕ) → k < countIn s → ((i : ℕ) → i < k → formAt s (tracePlace s i) ≡ Fine) → TraceNext s k
   trace-next h k l b =
-      let w = heldStride (heldSamples s) in
-      let most = tags-most mostTraces s w tracesPlace in
+      let z : 0 + k ≡ k = omega arith in
+      let most = run-most isTrace mostTraces 0 in
       record {
         until = record { head = h; before = λ i m. trace-right s i (b i m) };
         few = omega arith;
-        tag = tags-are mostTraces s w tracesPlace k l;
+        tag = eqb-true (getD s (tracePlace s k) 0) 3 (ap isTrace (sym z) ∙ run-are isTrace mostTraces 0 k l);
       }
 
   -- ## The end
@@ -353,13 +315,13 @@ module _ (s : List ℕ) where
   -- ## The whole record
 
   -- Behind traces that are all right, the answer is that of the end.
-  pub body-end : (t : ℕ) → EndNext s t → {x : Check} → endCauses s t (tracePlace s t) ≡ x → bodyCauses s (heldSamples s) (heldInterval s) (countIn s) ≡ x
-  unfolding bodyCauses
-  body-end t h e = ap (bodyCauses s (heldSamples s) (heldInterval s)) (end-counted t h) ∙ then-second _ _ (until-fine t (h .until)) e
+  pub body-end : (t : ℕ) → EndNext s t → {x : Check} → endCauses s t (tracePlace s t) ≡ x → bodyCausesIn tag04 s (heldSamples s) (heldInterval s) (countIn s) ≡ x
+  unfolding bodyCausesIn
+  body-end t h e = ap (bodyCausesIn tag04 s (heldSamples s) (heldInterval s)) (end-counted t h) ∙ then-second _ _ (until-fine t (h .until)) e
 
   -- Behind tags 01 and 02 that are right, the answer is that of the traces and the end.
-  pub form-body : HeadRight s → {x : Check} → bodyCauses s (heldSamples s) (heldInterval s) (countIn s) ≡ x → formCauses s ≡ x
-  unfolding formCauses
+  pub form-body : HeadRight s → {x : Check} → bodyCausesIn tag04 s (heldSamples s) (heldInterval s) (countIn s) ≡ x → formCauses s ≡ x
+  unfolding formCausesIn
   form-body h e = then-second _ _ (cards-fine s (h .front)) (then-second _ _ (head-fine s h) e)
 
   -- A valid record is refused by neither 12 nor 13.
@@ -368,10 +330,10 @@ module _ (s : List ℕ) where
 
   -- A record that neither refuses is valid, with the traces that are counted.
   pub record-right : formCauses s ≡ Fine → RecordRight s (countIn s)
-  unfolding formCauses bodyCauses
+  unfolding formCausesIn bodyCausesIn
   record-right e =
       let a = then-fine (cardsCauses s) _ e in
       let b = then-fine (binaryCauses s) _ (a .1) in
       let h = head-right s (cards-right s (a .0)) (b .0) in
-      let c = then-fine (firstOf (walk (formAt s) (heldStride (heldSamples s)) (countIn s) tracesPlace)) _ (b .1) in
+      let c = then-fine (firstOf (each (λ j. formAt s (tracePlace s j)) (countIn s))) _ (b .1) in
       end-right (countIn s) (end-next h (c .0)) (c .1)

@@ -7,26 +7,24 @@ use mathlib.Core.Path.{_≡_, refl, sym, ap, _∙_}
 use mathlib.Core.List.{List}
 use mathlib.Core.Logic.{inl, inr}
 use mathlib.Core.Bool.{Bool, true, false}
-use Prim.Native.Nat.{ℕ, _+_, _<_}
+use Prim.Native.Nat.{ℕ, _+_, _*_, _<_}
 use native.Mathlib.Omega.{arith}
-use borrow.Author.Tests.{le-leb}
-use lib.Dec.{leb, ltb}
+use lib.Dec.{ltb}
 use lib.ListN.{getD}
 use Rattle.numbers.specs.BigEndian.{number}
 use Rattle.numbers.specs.Cause.{refuseIf}
 use Rattle.numbers.specs.declared.Check.{Check}
 use Rattle.numbers.specs.declared.Check.the-variants.{Fine, Refused}
 use Rattle.numbers.specs.Iff.{Iff}
-use Rattle.numbers.specs.Terms.{atPlace, Between}
+use Rattle.numbers.specs.Terms.{atPlace}
 use Rattle.numbers.proofs.CauseLaws.{then-fine}
-use Rattle.numbers.proofs.RowLaws.{Tests, apart, refused-where, row-where, then-row, then-first, then-second, fine-then, refused-then, holds-then, row-then, test-between, test-room, not-enough, too-short, first-is, first-of, none-is, none-of, walk-fine, walk-holds, walk-refused, walk-row, fine-none}
-use Rattle.numbers.proofs.BoolLaws.{and-both}
+use Rattle.numbers.proofs.RowLaws.{Tests, apart, refused-where, row-where, then-row, then-first, then-second, fine-then, refused-then, holds-then, row-then, test-room, not-enough, too-short, first-is, first-of, none-is, none-of, walk-fine, walk-holds, walk-refused, walk-row, fine-none}
 use Rattle.formats.specs.Codes.{isCode}
-use Rattle.value.specs.Pair.{pairLength}
+use Rattle.fields.proofs.FieldsLaws.{step-is}
 use Rattle.formats.specs.Words.{wordOf}
-use Rattle.record.specs.Form.{heldSamples, tracesPlace, heldStride, formCauses}
+use Rattle.record.specs.Form.{heldSamples, formCauses}
 use Rattle.record.specs.Held.{heldValue}
-use Rattle.fit.specs.Target.{isUnfit, fitCause, traceFit, fitCauses, targetCauses}
+use Rattle.fit.specs.Target.{isUnfit, fitCause, samplesFit, traceFit, fitCauses, targetCauses}
 use Rattle.write_reel.specs.Reel.{reelLength}
 use Rattle.write_reel.specs.Writing.{writeCauses}
 use Rattle.demands.proofs.Valid.{countIn, end-counted, record-fine, record-right}
@@ -56,24 +54,29 @@ test-fit s code at h c = go (isUnfit (wordOf code (heldValue s at))) refl
 module _ (s : List ℕ) (code room : ℕ) where
   -- The samples of trace k of a valid record, by whether they fit.
   fit-tests : (t k : ℕ) → isCode code ≡ true → RecordRight s t → k < t → (j : ℕ) → j < heldSamples s
-      → Tests (Fits s code k j) 14 (pairPlace s k j) (fitCause s code (pairPlace s k j))
-  fit-tests t k g h l j m =
-      test-fit s code (pairPlace s k j) g
-      (h .end .until .before k l .pairs j m)
+      → Tests (Fits s code k j) 14 (pairPlace s k j) (fitCause s code (pairPlace s k (0 + j * 1)))
+  fit-tests t k g h l j m = rw (step-is j) (test-fit s code (pairPlace s k j) g (h .end .until .before k l .pairs j m))
+
+  -- The causes of its samples, and of the traces, by number.
+  abbrev fitOf : ℕ → ℕ → Check
+  fitOf k j = fitCause s code (pairPlace s k j)
+
+  abbrev fitAt : ℕ → Check
+  fitAt k = traceFit s code (heldSamples s) (tracePlace s k)
 
   -- Where every sample of a trace fits, 14 finds nothing in it.
   trace-fits : (t k : ℕ) → isCode code ≡ true → RecordRight s t → k < t → ((j : ℕ) → j < heldSamples s → Fits s code k j)
       → traceFit s code (heldSamples s) (tracePlace s k) ≡ Fine
-  unfolding traceFit
+  unfolding samplesFit
   trace-fits t k g h l f =
-      walk-fine (Fits s code k) 14 (fitCause s code) pairLength (heldSamples s) (tracePlace s k + 186) (pairPlace s k) (fit-tests t k g h l) f
+      walk-fine (Fits s code k) 14 (fitOf k) 1 (heldSamples s) 0 (pairPlace s k) (fit-tests t k g h l) f
 
   -- And where it finds nothing in it, every sample fits.
   fits-trace : (t k : ℕ) → isCode code ≡ true → RecordRight s t → k < t → traceFit s code (heldSamples s) (tracePlace s k) ≡ Fine
       → (j : ℕ) → j < heldSamples s → Fits s code k j
-  unfolding traceFit
+  unfolding samplesFit
   fits-trace t k g h l e =
-      walk-holds (Fits s code k) 14 (fitCause s code) pairLength (heldSamples s) (tracePlace s k + 186) (pairPlace s k) (fit-tests t k g h l) e
+      walk-holds (Fits s code k) 14 (fitOf k) 1 (heldSamples s) 0 (pairPlace s k) (fit-tests t k g h l) e
 
   -- The checks of 14 over t traces.
   abbrev fitsOver : ℕ → Check
@@ -83,13 +86,13 @@ module _ (s : List ℕ) (code room : ℕ) where
   all-fit : (t : ℕ) → isCode code ≡ true → RecordRight s t → ((k j : ℕ) → k < t → j < heldSamples s → Fits s code k j) → fitsOver t ≡ Fine
   unfolding fitCauses
   all-fit t g h f =
-      none-of (traceFit s code (heldSamples s)) (heldStride (heldSamples s)) t tracesPlace (λ k l. trace-fits t k g h l (λ j m. f k j l m))
+      none-of fitAt 1 t 0 (λ k l. ap fitAt (step-is k) ∙ trace-fits t k g h l (λ j m. f k j l m))
 
   -- And where it finds nothing in a valid record, every sample fits.
   fit-all : (t : ℕ) → isCode code ≡ true → RecordRight s t → fitsOver t ≡ Fine → (k j : ℕ) → k < t → j < heldSamples s → Fits s code k j
   unfolding fitCauses
   fit-all t g h e k j l m =
-      fits-trace t k g h l (none-is (traceFit s code (heldSamples s)) (heldStride (heldSamples s)) t tracesPlace e k l) j m
+      fits-trace t k g h l (ap fitAt (sym (step-is k)) ∙ none-is fitAt 1 t 0 e k l) j m
 
   -- Of a valid record, the answer before the output's length is that of 14.
   from-fits : {x : Check} (t : ℕ) → isCode code ≡ true → RecordRight s t → fitsOver t ≡ x → targetCauses s code ≡ x
@@ -101,15 +104,15 @@ module _ (s : List ℕ) (code room : ℕ) where
   from-unfit : (t k j : ℕ) → isCode code ≡ true → RecordRight s t → k < t → j < heldSamples s
       → ((h i : ℕ) → h < k → i < heldSamples s → Fits s code h i) → ((i : ℕ) → i < j → Fits s code k i) → ¬ (Fits s code k j)
       → fitsOver t ≡ Refused 14 (atPlace (pairPlace s k j))
-  unfolding fitCauses traceFit
+  unfolding fitCauses samplesFit
   from-unfit t k j g h l m f b n =
       let size = heldSamples s in
-      first-of (traceFit s code size) (heldStride size) t tracesPlace 14 (pairPlace s k j)
+      first-of fitAt 1 t 0 14 (pairPlace s k j)
       (record {
         j = k;
         below = l;
-        before = λ i q. trace-fits t i g h (omega arith) (λ y z. f i y q z);
-        here = walk-refused (Fits s code k) 14 (fitCause s code) pairLength size (tracePlace s k + 186) (pairPlace s k) (fit-tests t k g h l) j m b n;
+        before = λ i q. ap fitAt (step-is i) ∙ trace-fits t i g h (omega arith) (λ y z. f i y q z);
+        here = ap fitAt (step-is k) ∙ walk-refused (Fits s code k) 14 (fitOf k) 1 size 0 (pairPlace s k) (fit-tests t k g h l) j m b n;
       })
 
   -- Each row is the answer where it applies: all that comes before it finds nothing, and its own test refuses.
@@ -130,14 +133,15 @@ module _ (s : List ℕ) (code room : ℕ) where
 module _ (s : List ℕ) (code room : ℕ) {n p : ℕ} (g : isCode code ≡ true) where
   -- What 14 refuses in a valid record has its row.
   to-fits : (t : ℕ) → RecordRight s t → fitsOver s code room t ≡ Refused n (atPlace p) → WriteRow s code room n p
-  unfolding fitCauses traceFit
+  unfolding fitCauses samplesFit
   to-fits t h e =
       let size = heldSamples s in
-      let r = first-is (traceFit s code size) (heldStride size) t tracesPlace n p e in
+      let at = fitAt s code room in
+      let r = first-is at 1 t 0 n p e in
       let k = r .j in
       let l : k < t = r .below in
-      walk-row (Fits s code k) 14 (fitCause s code) pairLength size (tracePlace s k + 186) (pairPlace s k) (fit-tests s code room t k g h l) (WriteRow s code room)
-      (λ j m b x. WriteRow.unfit t k j g h l m (λ y z u v. fits-trace s code room t y g h (omega arith) (r .before y u) z v) b x) (r .here)
+      walk-row (Fits s code k) 14 (fitOf s code room k) 1 size 0 (pairPlace s k) (fit-tests s code room t k g h l) (WriteRow s code room)
+      (λ j m b x. WriteRow.unfit t k j g h l m (λ y z u v. fits-trace s code room t y g h (omega arith) (ap at (sym (step-is y)) ∙ r .before y u) z v) b x) (ap at (sym (step-is k)) ∙ r .here)
 
 module _ (s : List ℕ) (code room : ℕ) where
   -- What is refused has its row: the first that applies.

@@ -5,7 +5,7 @@ use Prim.Native.Nat.{ℕ, _+_}
 use native.Mathlib.Omega.{arith}
 use lib.ListN.{length, replicate, length-append}
 use lib.IntN.{ℤ}
-use Rattle.numbers.specs.Walk.{walk, flat, bytesAt}
+use Rattle.numbers.specs.Walk.{flat, bytesAt}
 use Rattle.numbers.proofs.WalkLaws.{flat-length, size-bytes}
 use Rattle.value.specs.Pair.{pairLength}
 use Rattle.formats.specs.Words.{wordOf}
@@ -16,8 +16,10 @@ use Rattle.headers.specs.Header.{headerBytes}
 use Rattle.headers.proofs.Ranges.{numbers-size}
 use Rattle.headers.proofs.HeaderBytes.{size-header}
 use Rattle.record.specs.Record.{withCode, binaryBytes}
-use Rattle.record.specs.Form.{tracesPlace, heldSamples, heldStride, heldCount}
-use Rattle.record.specs.Held.{heldValue, heldTrace, heldBy}
+use Rattle.fields.specs.Fields.{each, pairPlace}
+use Rattle.record.specs.Kind.{tag04}
+use Rattle.record.specs.Form.{heldSamples, shareIn, tracePlace, heldCount}
+use Rattle.record.specs.Held.{heldValue, heldValuesIn, heldTraceIn, heldByIn, heldBy}
 use Rattle.record.proofs.HeaderLaws.{counts}
 use Rattle.write_samples.proofs.WordLaws.{size-word}
 use Rattle.write_reel.specs.Reel.{sampleWritten, traceWritten, reelOf}
@@ -38,26 +40,27 @@ pub sample-size : (code : ℕ) (v : ℤ) → length (sampleWritten code v) ≡ s
 sample-size code v = size-word code (wordOf code v)
 
 -- A trace takes 240 bytes and those of its n samples.
-trace-size : (s : List ℕ) (code n at : ℕ) → length (traceWritten code (heldTrace s n at)) ≡ stride n (sampleBytes code)
-unfolding traceWritten heldTrace
+trace-size : (s : List ℕ) (code n at : ℕ) → length (traceWritten code (heldTraceIn tag04 s n at)) ≡ stride n (sampleBytes code)
+unfolding traceWritten heldTraceIn heldValuesIn
 trace-size s code n at =
-    let values = flat (map (sampleWritten code) (walk (heldValue s) pairLength n (at + 186))) in
+    let held : ℕ → ℤ = λ j. heldValue s (pairPlace pairLength (shareIn tag04 s n (at + 183)) (at + 183) j) in
+    let values = flat (map (sampleWritten code) (each held n)) in
     let a = length-append (headerBytes (headerOf (fieldNumber s (at + 3)))) (replicate 60 0 ++ values) in
     let b = length-append (replicate 60 0) values in
-    let c = flat-length (sampleWritten code) (heldValue s) (sampleBytes code) (λ p. sample-size code (heldValue s p)) pairLength n (at + 186) in
+    let c = flat-length (sampleWritten code) held (sampleBytes code) (λ j. sample-size code (held j)) 1 n 0 in
     let d : length {A = ℕ} (replicate 60 0) ≡ 60 = refl in
     omega (arith, a, b, c, d, size-header (fieldNumber s (at + 3)))
 
 -- LAW. The reel that is written is as long as the length returned: 3600 + T × (240 + N × the bytes of a sample).
 pub reel-size : (s : List ℕ) (code : ℕ) → length (reelOf code (heldBy s)) ≡ reelLengthOf s code
-unfolding reelOf heldBy
+unfolding reelOf heldByIn
 reel-size s code =
     let n = heldSamples s in
     let binary = binaryBytes code (map (fieldNumber s 6) (otherThan 3225 binaryFields)) in
-    let traces = flat (map (traceWritten code) (walk (heldTrace s n) (heldStride n) (heldCount s n) tracesPlace)) in
+    let traces = flat (map (traceWritten code) (each (λ j. heldTraceIn tag04 s n (tracePlace s n j)) (heldCount s n))) in
     let a = length-append (bytesAt s 3 cardBytes) (binary ++ (replicate 340 0 ++ traces)) in
     let b = length-append binary (replicate 340 0 ++ traces) in
     let c = length-append (replicate 340 0) traces in
     let d : length {A = ℕ} (replicate 340 0) ≡ 340 = refl in
-    let e = flat-length (traceWritten code) (heldTrace s n) (stride n (sampleBytes code)) (λ p. trace-size s code n p) (heldStride n) (heldCount s n) tracesPlace in
+    let e = flat-length (traceWritten code) (λ j. heldTraceIn tag04 s n (tracePlace s n j)) (stride n (sampleBytes code)) (λ j. trace-size s code n (tracePlace s n j)) 1 (heldCount s n) 0 in
     omega (arith, a, b, c, d, e, binary-size s code, size-bytes s 3 cardBytes)

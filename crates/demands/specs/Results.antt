@@ -2,7 +2,7 @@
 use mathlib.Core.Path.{_≡_}
 use mathlib.Core.List.{List, [], _∷_, _++_}
 use mathlib.Core.Bool.{true}
-use Prim.Native.Nat.{ℕ, suc, _+_, _*_, _^_, _≤_, _<_}
+use Prim.Native.Nat.{ℕ, suc, _+_, _*_, _/_, _^_, _≤_, _<_}
 use lib.ListN.{length, getD, take, drop, replicate}
 use lib.IntN.{ℤ, pos, _*ℤ_}
 use Rattle.numbers.specs.Walk.{bytesAt}
@@ -20,7 +20,7 @@ use Rattle.reel.specs.Meaning.{blank, otherThan, elevationFields, coordinateFie
 use Rattle.reel.specs.NotNormal.{notNormalOf}
 use Rattle.record.specs.Record.{recordOf, reelRecord}
 use Rattle.record.specs.Form.{heldSamples, heldCount, formCauses}
-use Rattle.record.specs.Held.{heldBy}
+use Rattle.record.specs.Held.{heldBy, IsNewest}
 use Rattle.read_reel.specs.Reading.{readOutcome}
 use Rattle.write_reel.specs.Reel.{reelOf}
 use Rattle.write_reel.specs.Writing.{writeOutcome}
@@ -35,7 +35,7 @@ pub record RecordRead (s out : List ℕ) (t n l c : ℕ) : Type 0 where
   -- T and N are those of the reel, and the length is that of a record of T traces of N samples.
   pub traces : t ≡ tracesOf s
   pub samples : n ≡ samplesOf s
-  pub size : l ≡ 3273 + t * (186 + 6 * n)
+  pub size : l ≡ 3273 + t * (183 + (3 * ((n + 5999) / 6000) + n * 6))
   -- The count is that of the reel's words that are not normal.
   pub count : c ≡ notNormalOf s
   -- The output's first bytes are the record of what the reel means, and they are all of it.
@@ -49,6 +49,8 @@ pub record RecordHolds (s : List ℕ) (t n : ℕ) (r : List ℕ) : Type 0 where
   -- It is a list of bytes, and it is valid: neither 12 nor 13 applies to it, which `valid-is` spells out.
   pub bytes : Bytes r
   pub valid : formCauses r ≡ Fine
+  -- It is in the newest form, no trace of it in the earlier single field: "Reading always gives the new form" (document 02, CR 8).
+  pub newest : IsNewest r
   -- It holds what the reel means.
   pub holds : heldBy r ≡ meaningOf s
   -- Its T and N are t and n.

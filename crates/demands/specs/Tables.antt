@@ -20,7 +20,8 @@ use Rattle.read_reel.specs.Reading.{recordLengthOf}
 use Rattle.write_reel.specs.Reel.{reelLength}
 use Rattle.look_up.specs.LookUp.{headerFields}
 use Rattle.reel_theorems.specs.ReelTable.{ZeroFirst, FiniteAt, ReelRow}
-use Rattle.demands.specs.ValidRecord.{Stands, CanonicalAt, tracePlace, headerPlace, pairPlace, CardsRight, SmallestAt, ScalarsRight, HeaderRight, TraceNext, EndNext, RecordRight}
+use Rattle.demands.specs.ValidRecord.{Stands, CanonicalAt, tracePlace, headerPlace, shareOf, fieldPlace, pairPlace, CardsRight, SmallestAt, ScalarsRight, HeaderRight, FieldRight, TraceNext, EndNext, RecordRight}
+use Rattle.fields.specs.Fields.{fieldsIn}
 use Rattle.demands.specs.Words.{HasWord}
 
 -- ## Reading
@@ -30,7 +31,7 @@ use Rattle.demands.specs.Words.{HasWord}
 pub data ReadRow (s : List ℕ) (room : ℕ) : ℕ → ℕ → Type 0 where
   -- 1 to 9, 18 and 19: a row of their table applies to the reel
   by-reel : {number place : ℕ} → ReelRow s number place → ReadRow s room number place
-  -- 10: none of them applies, and the output is too short for the record, with the record's length, 3273 + T × (186 + 6N)
+  -- 10: none of them applies, and the output is too short for the record, with the record's length, 3273 + T × (183 + 3F + 6N), F fields a trace
   short-output : ((number place : ℕ) → ¬ (ReelRow s number place)) → room < recordLengthOf s → ReadRow s room 10 (recordLengthOf s)
 
 -- ## The form of a record
@@ -51,10 +52,10 @@ pub data FormRow (s : List ℕ) : ℕ → ℕ → Type 0 where
   -- 13: in tag 02, first an interval that is not 1 to 32,767; the content of tag 02, byte numbers 3201 to 3260, begins at 3206, so byte
   -- number 3217 stands at 3222
   bad-held-interval : CardsRight s → Stands s 2 60 3203 → ¬ (Between 1 32767 (heldInterval s)) → FormRow s 13 3222
-  -- 13: then N that is not 1 to 8,000; byte number 3221 stands at 3226
-  bad-held-samples : CardsRight s → Stands s 2 60 3203 → Between 1 32767 (heldInterval s) → ¬ (Between 1 8000 (heldSamples s)) → FormRow s 13 3226
+  -- 13: then N that is not 1 to 32,767; byte number 3221 stands at 3226
+  bad-held-samples : CardsRight s → Stands s 2 60 3203 → Between 1 32767 (heldInterval s) → ¬ (Between 1 32767 (heldSamples s)) → FormRow s 13 3226
   -- 13: then a format code other than 0; byte number 3225 stands at 3230
-  bad-held-code : CardsRight s → Stands s 2 60 3203 → Between 1 32767 (heldInterval s) → Between 1 8000 (heldSamples s) → ¬ (heldCode s ≡ 0)
+  bad-held-code : CardsRight s → Stands s 2 60 3203 → Between 1 32767 (heldInterval s) → Between 1 32767 (heldSamples s) → ¬ (heldCode s ≡ 0)
       → FormRow s 13 3230
   -- 12: tag 03 of trace k is cut short or has a wrong length
   no-header : (k : ℕ) → TraceNext s k → ¬ (Stands s 3 180 (tracePlace s k)) → FormRow s 12 (tracePlace s k)
@@ -72,11 +73,13 @@ pub data FormRow (s : List ℕ) : ℕ → ℕ → Type 0 where
   bad-held-117 : (k : ℕ) → TraceNext s k → ScalarsRight s k → number16 s (headerPlace s k 115) ≡ heldSamples s
       → ¬ (number16 s (headerPlace s k 117) ≡ heldInterval s)
       → FormRow s 13 (headerPlace s k 117)
-  -- 12: tag 04 of trace k doesn't stand behind it, whole and with its 6N bytes; 183 is the 3 + 180 bytes of tag 03
-  no-samples : (k : ℕ) → TraceNext s k → HeaderRight s k → ¬ (Stands s 4 (6 * heldSamples s) (tracePlace s k + 183)) → FormRow s 12 (tracePlace s k + 183)
-  -- 13: a pair of it isn't canonical, the first such
-  bad-pair : (k j : ℕ) → TraceNext s k → HeaderRight s k → Stands s 4 (6 * heldSamples s) (tracePlace s k + 183)
-      → j < heldSamples s → ((i : ℕ) → i < j → CanonicalAt s (pairPlace s k i)) → ¬ (CanonicalAt s (pairPlace s k j))
+  -- 12: sample field f of trace k doesn't stand, whole and with its pairs; those before it do, and their pairs are canonical
+  no-field : (k f : ℕ) → TraceNext s k → HeaderRight s k → f < fieldsIn (shareOf s k) (heldSamples s) → ((g : ℕ) → g < f → FieldRight s k g)
+      → ((j : ℕ) → j < f * shareOf s k → CanonicalAt s (pairPlace s k j)) → ¬ (FieldRight s k f)
+      → FormRow s 12 (fieldPlace s k f)
+  -- 13: pair j of it isn't canonical, the first such; its field and those before it stand
+  bad-pair : (k j : ℕ) → TraceNext s k → HeaderRight s k → j < heldSamples s → ((g : ℕ) → g * shareOf s k ≤ j → FieldRight s k g)
+      → ((i : ℕ) → i < j → CanonicalAt s (pairPlace s k i)) → ¬ (CanonicalAt s (pairPlace s k j))
       → FormRow s 13 (pairPlace s k j)
   -- 12: tag 05 does not stand behind t traces, whole and with its 4 bytes; another tag, so also that of trace 100,001, may stand there
   no-end : (t : ℕ) → EndNext s t → ¬ (Stands s 5 4 (tracePlace s t)) → FormRow s 12 (tracePlace s t)

@@ -14,7 +14,11 @@ use Rattle.value.specs.Pair.{isCanonical, pairLength, pairIn}
 use Rattle.scalars.specs.Scalar.{isSmallest}
 use Rattle.reel.specs.Layout.{Field, elevationScalar, coordinateScalar, fieldNumber, number16}
 use Rattle.reel.specs.Meaning.{elevationFields, coordinateFields}
-use Rattle.record.specs.Form.{heldInterval, heldSamples, heldCode, tracesPlace, heldStride}
+use Rattle.fields.specs.Fields as fields
+use Rattle.fields.specs.Fields.{fieldsIn, fieldCount}
+use Rattle.record.specs.Kind.{tag04}
+use Rattle.record.specs.Form as form
+use Rattle.record.specs.Form.{heldInterval, heldSamples, heldCode, shareIn}
 
 -- ## Places
 
@@ -28,9 +32,10 @@ pub record Stands (s : List ℕ) (tag size at : ℕ) : Type 0 where
 abbrev pub CanonicalAt : List ℕ → ℕ → Type 0
 CanonicalAt s at = isCanonical (pairIn (bytesAt s at pairLength)) ≡ true
 
--- The place of trace k in a record, counted from 0; behind the last trace it is the place of tag 05.
+-- The place of trace k in a record, counted from 0: behind the trace before it, whatever form that has; behind the last trace it is the
+-- place of tag 05.
 abbrev pub tracePlace : List ℕ → ℕ → ℕ
-tracePlace s k = tracesPlace + k * heldStride (heldSamples s)
+tracePlace s k = form.tracePlace s (heldSamples s) k
 
 -- The place where trace k's header begins, behind tag 03 and its length: byte number 1 stands there.
 abbrev pub headerStart : List ℕ → ℕ → ℕ
@@ -40,10 +45,17 @@ headerStart s k = tracePlace s k + 3
 abbrev pub headerPlace : List ℕ → ℕ → ℕ → ℕ
 headerPlace s k b = bytePlace (headerStart s k) b
 
--- The place of pair j of trace k, behind tag 03 with its 180 bytes and tag 04 with its length: 186 is 3 + 180 + 3, each field's tag and
--- length being 3 bytes.
+-- The samples of each sample field of trace k but the last: all N where it has the earlier single field of 6,001 to 8,000 samples, else
+-- 6,000. Its first sample field stands 183 bytes on, behind the 3 + 180 bytes of tag 03.
+abbrev pub shareOf : List ℕ → ℕ → ℕ
+shareOf s k = shareIn tag04 s (heldSamples s) (tracePlace s k + 183)
+
+-- The place of its sample field f, and of its pair j, both counted from 0.
+abbrev pub fieldPlace : List ℕ → ℕ → ℕ → ℕ
+fieldPlace s k f = fields.fieldPlace 6 (shareOf s k) (tracePlace s k + 183) f
+
 abbrev pub pairPlace : List ℕ → ℕ → ℕ → ℕ
-pairPlace s k j = tracePlace s k + 186 + j * pairLength
+pairPlace s k j = fields.pairPlace 6 (shareOf s k) (tracePlace s k + 183) j
 
 -- ## Tag by tag
 
@@ -58,7 +70,7 @@ pub record HeadRight (s : List ℕ) : Type 0 where
   pub front : CardsRight s
   pub binary : Stands s 2 60 3203
   pub interval : Between 1 32767 (heldInterval s)
-  pub samples : Between 1 8000 (heldSamples s)
+  pub samples : Between 1 32767 (heldSamples s)
   pub code : heldCode s ≡ 0
 
 -- The scalar in a field of trace k's header is that of the smallest power of the group of fields that it acts on; `scalar-means`, in
@@ -78,10 +90,14 @@ pub record HeaderRight (s : List ℕ) (k : ℕ) : Type 0 where
   pub count : number16 s (headerPlace s k 115) ≡ heldSamples s
   pub interval : number16 s (headerPlace s k 117) ≡ heldInterval s
 
--- Trace k stands: tag 03 is right, then tag 04 stands with N canonical pairs, 183 bytes on, behind the 3 + 180 bytes of tag 03.
+-- Its sample field f stands: tag 04 with as many pairs as belong there.
+abbrev pub FieldRight : List ℕ → ℕ → ℕ → Type 0
+FieldRight s k f = Stands s 4 (fieldCount (shareOf s k) (heldSamples s) f * 6) (fieldPlace s k f)
+
+-- Trace k stands: tag 03 is right, then each of its sample fields stands, and its N pairs are canonical.
 pub record TraceRight (s : List ℕ) (k : ℕ) : Type 0 where
   pub front : HeaderRight s k
-  pub samples : Stands s 4 (6 * heldSamples s) (tracePlace s k + 183)
+  pub fields : (f : ℕ) → f < fieldsIn (shareOf s k) (heldSamples s) → FieldRight s k f
   pub pairs : (j : ℕ) → j < heldSamples s → CanonicalAt s (pairPlace s k j)
 
 -- All is right up to trace k: tags 01 and 02, and the k traces before it.
@@ -108,3 +124,22 @@ pub record RecordRight (s : List ℕ) (t : ℕ) : Type 0 where
   pub field : Stands s 5 4 (tracePlace s t)
   pub count : number (bytesAt s (tracePlace s t + 3) 4) ≡ t
   pub last : length s ≤ tracePlace s t + 7
+
+-- ## Records as they were before CR 8
+
+-- The place of trace k, counted from 0, where each trace before it has the single field: tag 03 is 183 bytes, tag 04 is 3 + 6N.
+abbrev pub earlierPlace : List ℕ → ℕ → ℕ
+earlierPlace s k = 3266 + k * (186 + heldSamples s * 6)
+
+-- A record of t traces as it was before CR 8: N is at most 8,000, and all N samples of a trace stand in one field. (The headers are said by the
+-- number of their trace; `earlier-places`, in `proofs/Earlier`, says that trace k stands at this place.)
+pub record EarlierRecord (s : List ℕ) (t : ℕ) : Type 0 where
+  pub head : HeadRight s
+  pub few-samples : heldSamples s ≤ 8000
+  pub few : t ≤ 100000
+  pub headers : (k : ℕ) → k < t → HeaderRight s k
+  pub fields : (k : ℕ) → k < t → Stands s 4 (heldSamples s * 6) (earlierPlace s k + 183)
+  pub pairs : (k j : ℕ) → k < t → j < heldSamples s → CanonicalAt s (earlierPlace s k + 186 + j * 6)
+  pub field : Stands s 5 4 (earlierPlace s t)
+  pub count : number (bytesAt s (earlierPlace s t + 3) 4) ≡ t
+  pub last : length s ≤ earlierPlace s t + 7

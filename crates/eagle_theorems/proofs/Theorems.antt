@@ -19,7 +19,7 @@ use mathlib.Core.Path.{_≡_, refl, sym, ap, _∙_, subst}
 use mathlib.Core.List.{List, [], _∷_, _++_, map}
 use mathlib.Core.Logic.{_⊎_}
 use mathlib.Core.Bool.{true}
-use Prim.Native.Nat.{ℕ, _+_, _*_, _≤_, _<_}
+use Prim.Native.Nat.{ℕ, _+_, _*_, _≤_, _<_, _/_}
 use native.Mathlib.Omega.{arith}
 use lib.Dec.{ltb}
 use lib.ListN.{length, getD, take, drop, replicate}
@@ -43,6 +43,7 @@ use Rattle.reel.specs.Meaning.{blank, traceMeaning, Meaning, cardTextBy, binary
 use Rattle.reel.specs.NotNormal.{notNormalIn, notNormalAmong}
 use Rattle.reel.specs.declared.Layout.{Layout}
 use Rattle.reel.specs.declared.Layout.the-variants.{Plain, Eagle}
+use Rattle.fields.specs.Fields.{fieldsIn}
 use Rattle.record.specs.Record.{recordOf, recordBy, reelRecord, recordLength}
 use Rattle.read_reel.specs.Reading.{recordLengthBy, readNumbersBy, readCausesBy, readEndBy, readOutcomeBy, readOutcome}
 use Rattle.write_reel.specs.Writing.{writeOutcome}
@@ -68,7 +69,8 @@ use Rattle.eagle_theorems.proofs.AlikeLaws.{alike-samples, alike-traces
 count-is : (s : List ℕ) → codeOf s ≡ 1 → tracesBy Eagle s ≡ eagleCount s
 count-is s e = ap (λ (c : ℕ). wholeIn (length s) (strideIn Eagle (samplesOf s) (sampleBytes c))) e
 
-length-is : (s : List ℕ) → codeOf s ≡ 1 → recordLengthBy Eagle s ≡ 3273 + eagleCount s * (186 + 6 * samplesOf s)
+length-is : (s : List ℕ) → codeOf s ≡ 1 → recordLengthBy Eagle s ≡ 3273 + eagleCount s * (183 + (3 * ((samplesOf s + 5999) / 6000) + samplesOf s * 6))
+unfolding fieldsIn
 length-is s e = ap (λ (t : ℕ). recordLength t (samplesOf s)) (count-is s e)
 
 -- The causes of reading are the rows of the table.
@@ -76,7 +78,7 @@ read-exact : (s : List ℕ) (room number place : ℕ) → Iff (readCausesBy Eagl
 read-exact s room number place = (there, back)
   where
     size : ℕ
-    size = 3273 + eagleCount s * (186 + 6 * samplesOf s)
+    size = 3273 + eagleCount s * (183 + (3 * ((samplesOf s + 5999) / 6000) + samplesOf s * 6))
 
     room-test : (l : ℕ) → Tests (l ≤ room) 10 l (refuseIf (ltb room l) 10 l)
     room-test l = test-room room l 10 l
@@ -296,12 +298,12 @@ two-readings s out₁ out₂ t₁ n₁ l₁ c₁ t₂ n₂ l₂ c₂ b e₁ e₂
 
 -- THEOREM. The bytes of `bothLayouts` are taken as a plain reel of 4 traces, with 1 word that isn't normal,
 pub example-plain : readOutcome bothLayouts (replicate 4497 0) .said ≡ taken (4 ∷ 20 ∷ 4497 ∷ 1 ∷ [])
-unfolding causesBy behindCausesBy traceCauses bytesAt notNormalAmong notNormalIn isNormal
+unfolding causesBy behindCausesBy traceCauses bytesAt notNormalAmong notNormalIn isNormal fieldsIn
 example-plain = refl
 
 -- THEOREM. and as an Eagle reel of 1 trace, with none.
 pub example-eagle : readOutcomeBy Eagle bothLayouts (replicate 3579 0) .said ≡ taken (1 ∷ 20 ∷ 3579 ∷ 0 ∷ [])
-unfolding causesBy behindCausesBy traceCauses bytesAt notNormalAmong notNormalIn isNormal
+unfolding causesBy behindCausesBy traceCauses bytesAt notNormalAmong notNormalIn isNormal fieldsIn
 example-eagle = refl
 
 -- ## Trailers and checks carry no meaning

@@ -39,7 +39,7 @@ Ends s k = number16 s (trailerEnd s k) ≡ 0xFFFF
 pub record EagleHeaded (s : List ℕ) : Type 0 where
   pub long : 3600 ≤ length s
   pub code : codeOf s ≡ 1
-  pub samples : Between 1 8000 (samplesOf s)
+  pub samples : Between 1 32767 (samplesOf s)
   pub interval : Between 1 32767 (intervalOf s)
 
 -- Nor do 5 and 6: no byte comes after the last whole trace, and there are at most 100,000.
@@ -73,10 +73,10 @@ pub data EagleRow (s : List ℕ) : ℕ → ℕ → Type 0 where
   short-reel : length s < 3600 → EagleRow s 1 (length s)
   -- 2: the format code is not 1
   bad-code : 3600 ≤ length s → ¬ (codeOf s ≡ 1) → EagleRow s 2 3224
-  -- 3: N is not 1 to 8,000
-  bad-samples : 3600 ≤ length s → codeOf s ≡ 1 → ¬ (Between 1 8000 (samplesOf s)) → EagleRow s 3 3220
+  -- 3: N is not 1 to 32,767
+  bad-samples : 3600 ≤ length s → codeOf s ≡ 1 → ¬ (Between 1 32767 (samplesOf s)) → EagleRow s 3 3220
   -- 4: the interval is not 1 to 32,767
-  bad-interval : 3600 ≤ length s → codeOf s ≡ 1 → Between 1 8000 (samplesOf s) → ¬ (Between 1 32767 (intervalOf s)) → EagleRow s 4 3216
+  bad-interval : 3600 ≤ length s → codeOf s ≡ 1 → Between 1 32767 (samplesOf s) → ¬ (Between 1 32767 (intervalOf s)) → EagleRow s 4 3216
   -- 5: bytes come after the last whole trace, at the first of them
   left-over : EagleHeaded s → eagleAt s (eagleCount s) < length s → EagleRow s 5 (eagleAt s (eagleCount s))
   -- 6: there are more than 100,000 traces, at trace 100,001
@@ -98,6 +98,6 @@ pub data EagleRow (s : List ℕ) : ℕ → ℕ → Type 0 where
 pub data EagleReadRow (s : List ℕ) (room : ℕ) : ℕ → ℕ → Type 0 where
   -- 1 to 8, 18 and 20: a row of their table applies to the reel
   by-reel : {number place : ℕ} → EagleRow s number place → EagleReadRow s room number place
-  -- 10: none of them applies, and the output is too short for the record, with the record's length, 3273 + T × (186 + 6N)
-  short-output : ((number place : ℕ) → ¬ (EagleRow s number place)) → room < 3273 + eagleCount s * (186 + 6 * samplesOf s)
-      → EagleReadRow s room 10 (3273 + eagleCount s * (186 + 6 * samplesOf s))
+  -- 10: none of them applies, and the output is too short for the record, with the record's length, 3273 + T × (183 + 3F + 6N), F fields a trace
+  short-output : ((number place : ℕ) → ¬ (EagleRow s number place)) → room < 3273 + eagleCount s * (183 + (3 * ((samplesOf s + 5999) / 6000) + samplesOf s * 6))
+      → EagleReadRow s room 10 (3273 + eagleCount s * (183 + (3 * ((samplesOf s + 5999) / 6000) + samplesOf s * 6)))

@@ -2,7 +2,7 @@
 -- that both calls take.
 use mathlib.Core.Path.{_≡_}
 use mathlib.Core.List.{List, [], _∷_, _++_}
-use Prim.Native.Nat.{ℕ, _+_, _*_, _≤_, _<_}
+use Prim.Native.Nat.{ℕ, _+_, _*_, _≤_, _<_, _/_}
 use lib.ListN.{length, getD, take, drop, replicate}
 use Rattle.numbers.specs.Walk.{walk, flat, bytesAt}
 use Rattle.numbers.specs.BigEndian.{number}
@@ -23,7 +23,7 @@ pub record EagleRead (s out : List ℕ) (t n l c : ℕ) : Type 0 where
   -- T is the count of whole traces, each with its trailer; N is the reel's; and the length is that of a record of T traces of N samples.
   pub traces : t ≡ eagleCount s
   pub samples : n ≡ samplesOf s
-  pub size : l ≡ 3273 + t * (186 + 6 * n)
+  pub size : l ≡ 3273 + t * (183 + (3 * ((n + 5999) / 6000) + n * 6))
   -- The count is that of the reel's words that are not normal; what stands in a trailer is no word.
   pub count : c ≡ notNormalBy Eagle s
   -- The output's first bytes are the record of what the reel means by the Eagle layout, and they are all of it.

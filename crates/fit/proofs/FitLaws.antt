@@ -1,10 +1,13 @@
 -- What the checks of a record for a target code find, and what follows where they find nothing. Assumes nothing.
 use mathlib.Core.Path.{_≡_, refl, sym, ap, ap₂, _∙_}
 use mathlib.Core.List.{List}
-use mathlib.Core.Bool.{Bool, true, false, not}
-use Prim.Native.Nat.{ℕ, zero, suc, _+_, _-_}
-use borrow.Author.Tests.{not-false}
-use Rattle.numbers.specs.Walk.{pick, walk, bytesAt}
+use mathlib.Core.Bool.{Bool, true, false, not, _&&_}
+use Prim.Native.Nat.{ℕ, zero, suc, _+_, _-_, _*_, _≤_, _<_, min}
+use native.Mathlib.Omega.{arith}
+use lib.Dec.{ltb, eqb}
+use lib.ListN.{length, getD}
+use borrow.Author.Tests.{not-false, ltb-false}
+use Rattle.numbers.specs.Walk.{pick, walk, flat, bytesAt}
 use Rattle.numbers.specs.BigEndian.{number}
 use Rattle.numbers.specs.Cause.{refuseIf, then, firstOf}
 use Rattle.numbers.specs.declared.Place.{Place}
@@ -19,19 +22,23 @@ use Rattle.value.specs.declared.Pair.{Pair}
 use Rattle.formats.specs.declared.Written.{Written}
 use Rattle.formats.specs.declared.Written.the-variants as written
 use Rattle.reel.specs.Causes.{mostTraces}
-use Rattle.record.specs.Form.{cardsCauses, heldSamples, heldInterval, binaryCauses, tracesPlace, heldStride, pairCause, traceForm, heldCount, formCauses}
+use Rattle.fields.specs.Fields.{runFrom, inFields}
+use Rattle.fields.proofs.FieldsLaws.{by-fields, in-none, in-next, pairs-in-fields}
+use Rattle.fields.proofs.EachLaws.{first-append}
+use Rattle.record.specs.Kind.{tag04}
+use Rattle.record.specs.Form.{fieldCause, cardsCauses, heldSamples, heldInterval, binaryCauses, headerCauses, tracesPlace, pairCauseIn, fieldFormIn, shareIn, samplesCausesIn, traceFormIn, behindTraceIn, tracePlaceIn, isTraceIn, heldCount, formCauses}
 use Rattle.record.specs.Held.{heldValue}
-use Rattle.fit.specs.Target.{isUnfit, fitCause, traceFit, fitCauses, targetCauses}
+use Rattle.fit.specs.Target.{isUnfit, fitCause, samplesFit, traceFit, fitCauses, targetCauses}
 use Rattle.write_samples.specs.Samples.{pairRefused, pairCheck}
-use Rattle.record.specs.Parts.{headForm, formFrom}
-use Rattle.fit.specs.Parts.{traceCheck, fitFrom}
-use Rattle.record.proofs.FormLaws.{trace-form, isMore, tags-more, tags-none, form-more, form-is, form-stop}
+use Rattle.record.specs.Parts.{formFrom}
+use Rattle.fit.specs.Parts.{fieldCheck, fieldsCheck, traceCheck, fitFrom}
+use Rattle.record.proofs.FormLaws.{field-room, share-some, isMore, more-few, more-tag, place-next, form-more, form-is, form-stop}
 
 -- ## Pairs
 
 module _ (s : List ℕ) (code : ℕ) (h : isCode code ≡ true) where
   -- a pair that writing takes is canonical
-  pair-fine : (at : ℕ) → pairCheck s code at ≡ Fine → pairCause s at ≡ Fine
+  pair-fine : (at : ℕ) → pairCheck s code at ≡ Fine → pairCauseIn tag04 s at ≡ Fine
   pair-fine at e = go (isCanonical p) (rw h at e)
     where
       p : Pair
@@ -42,7 +49,7 @@ module _ (s : List ℕ) (code : ℕ) (h : isCode code ≡ true) where
       go false e = absurd (not-fine e)
 
   -- a canonical pair is refused where it doesn't fit
-  pair-fit : (at : ℕ) → pairCause s at ≡ Fine → pairCheck s code at ≡ fitCause s code at
+  pair-fit : (at : ℕ) → pairCauseIn tag04 s at ≡ Fine → pairCheck s code at ≡ fitCause s code at
   pair-fit at e =
       let c = not-false (isCanonical (pairIn (bytesAt s at pairLength))) (passed _ 13 at e) in
       rw (h, c) (go (wordOf code (heldValue s at)) (only-14 code (heldValue s at)))
@@ -51,35 +58,119 @@ module _ (s : List ℕ) (code : ℕ) (h : isCode code ≡ true) where
       go (written.Word n) o = refl
       go (written.Refused number) o = ap (λ (k : ℕ). Refused k (record { 0 = at })) o
 
-  pairs-fine : (w k at : ℕ) → firstOf (walk (pairCheck s code) w k at) ≡ Fine → firstOf (walk (pairCause s) w k at) ≡ Fine
+  pairs-fine : (w k at : ℕ) → firstOf (walk (pairCheck s code) w k at) ≡ Fine → firstOf (walk (pairCauseIn tag04 s) w k at) ≡ Fine
   pairs-fine w zero at e = refl
   pairs-fine w (suc k) at e =
       let t = then-fine (pairCheck s code at) (firstOf (walk (pairCheck s code) w k (at + w))) e in
       ap₂ then (pair-fine at (t .0)) (pairs-fine w k (at + w) (t .1))
 
-  pairs-fit : (w k at : ℕ) → firstOf (walk (pairCause s) w k at) ≡ Fine → firstOf (walk (pairCheck s code) w k at) ≡ firstOf (walk (fitCause s code) w k at)
+  pairs-fit : (w k at : ℕ) → firstOf (walk (pairCauseIn tag04 s) w k at) ≡ Fine → firstOf (walk (pairCheck s code) w k at) ≡ firstOf (walk (fitCause s code) w k at)
   pairs-fit w zero at e = refl
   pairs-fit w (suc k) at e =
-      let t = then-fine (pairCause s at) (firstOf (walk (pairCause s) w k (at + w))) e in
+      let t = then-fine (pairCauseIn tag04 s at) (firstOf (walk (pairCauseIn tag04 s) w k (at + w))) e in
       ap₂ then (pair-fit at (t .0)) (pairs-fit w k (at + w) (t .1))
+
+-- ## Fields
+
+module _ (s : List ℕ) (code : ℕ) where
+  -- a field at a time
+  pub check-none : (c : ℕ) → 0 < c → (n at : ℕ) → n ≤ 0 → fieldsCheck s code c n at ≡ Fine
+  unfolding fieldsCheck
+  check-none c some n at h = ap firstOf (in-none c some 6 (fieldCheck s code) n at h)
+
+  pub check-more : (c : ℕ) → 0 < c → (n at : ℕ) → 0 < n
+      → fieldsCheck s code c n at ≡ then (fieldCheck s code (min c n) at) (fieldsCheck s code c (n - c) (at + (3 + min c n * 6)))
+  unfolding fieldsCheck
+  check-more c some n at h = ap firstOf (in-next c some 6 (fieldCheck s code) n at h)
+
+  -- a field in which nothing is found ends within the record
+  pub check-room : (count at : ℕ) → fieldCheck s code count at ≡ Fine → at + (3 + count * 6) ≤ length s
+  unfolding fieldCheck
+  check-room count at e = field-room s 4 (count * 6) at (then-fine (fieldCause s 4 (count * 6) at) _ e .0)
+
+module _ (s : List ℕ) (code : ℕ) (h : isCode code ≡ true) where
+  -- 14 alone, of the samples of a field
+  abbrev fitOf : ℕ → ℕ → List Check
+  fitOf m p = walk (fitCause s code) 6 m (p + 3)
+
+  -- a field in which nothing is found is of the right form, and its samples fit
+  one-fine : (m at : ℕ) → fieldCheck s code m at ≡ Fine → (fieldFormIn tag04 s m at ≡ Fine) × (firstOf (fitOf m at) ≡ Fine)
+  unfolding fieldCheck fieldFormIn
+  one-fine m at e =
+      let t = then-fine (fieldCause s 4 (m * 6) at) _ e in
+      let p = pairs-fine s code h 6 m (at + 3) (t .1) in
+      (ap₂ then (t .0) p, sym (pairs-fit s code h 6 m (at + 3) p) ∙ t .1)
+
+  -- what is found in a field of the right form
+  one-fit : (m at : ℕ) → fieldFormIn tag04 s m at ≡ Fine → fieldCheck s code m at ≡ firstOf (fitOf m at)
+  unfolding fieldCheck fieldFormIn
+  one-fit m at e =
+      let t = then-fine (fieldCause s 4 (m * 6) at) _ e in
+      ap (λ (x : Check). then x (firstOf (walk (pairCheck s code) 6 m (at + 3)))) (t .0) ∙ pairs-fit s code h 6 m (at + 3) (t .1)
+
+  module _ (c : ℕ) (some : 0 < c) where
+    abbrev Both : ℕ → Type 0
+    Both n = (at : ℕ) → fieldsCheck s code c n at ≡ Fine → (firstOf (inFields (fieldFormIn tag04 s) 6 c n at) ≡ Fine) × (firstOf (flat (inFields fitOf 6 c n at)) ≡ Fine)
+
+    fields-fine : (n : ℕ) → Both n
+    fields-fine =
+        by-fields c some Both (λ n l at e. (ap firstOf (in-none c some 6 (fieldFormIn tag04 s) n at l), ap (λ (x : List (List Check)). firstOf (flat x)) (in-none c some 6 fitOf n at l)))
+        (λ n l rest at e.
+        let next = at + (3 + min c n * 6) in
+        let t = then-fine (fieldCheck s code (min c n) at) _ (sym (check-more s code c some n at l) ∙ e) in
+        let x = one-fine (min c n) at (t .0) in
+        let y = rest next (t .1) in (
+          ap firstOf (in-next c some 6 (fieldFormIn tag04 s) n at l) ∙ ap₂ then (x .0) (y .0),
+          ap (λ (z : List (List Check)). firstOf (flat z)) (in-next c some 6 fitOf n at l) ∙ first-append (fitOf (min c n) at) (flat (inFields fitOf 6 c (n - c) next)) ∙ ap₂ then (x .1) (y .1),
+        ))
+
+    abbrev Fits : ℕ → Type 0
+    Fits n = (at : ℕ) → firstOf (inFields (fieldFormIn tag04 s) 6 c n at) ≡ Fine → fieldsCheck s code c n at ≡ firstOf (flat (inFields fitOf 6 c n at))
+
+    fields-fit : (n : ℕ) → Fits n
+    fields-fit =
+        by-fields c some Fits (λ n l at e. check-none s code c some n at l ∙ sym (ap (λ (x : List (List Check)). firstOf (flat x)) (in-none c some 6 fitOf n at l)))
+        (λ n l rest at e.
+        let next = at + (3 + min c n * 6) in
+        let t = then-fine (fieldFormIn tag04 s (min c n) at) _ (sym (ap firstOf (in-next c some 6 (fieldFormIn tag04 s) n at l)) ∙ e) in
+        check-more s code c some n at l
+        ∙ ap₂ then (one-fit (min c n) at (t .0)) (rest next (t .1))
+        ∙ sym (ap (λ (z : List (List Check)). firstOf (flat z)) (in-next c some 6 fitOf n at l) ∙ first-append (fitOf (min c n) at) (flat (inFields fitOf 6 c (n - c) next))))
+
+  module _ (n at : ℕ) where
+    fit-is : samplesFit s code n at ≡ firstOf (flat (inFields fitOf 6 (shareIn tag04 s n at) n at))
+    unfolding samplesFit
+    fit-is = ap firstOf (pairs-in-fields (shareIn tag04 s n at) (share-some tag04 s n at) 6 (fitCause s code) n at)
+
+    -- a trace's samples in which the one pass finds nothing are of the right form, and fit
+    judged-fine : fieldsCheck s code (shareIn tag04 s n at) n at ≡ Fine → (samplesCausesIn tag04 s n at ≡ Fine) × (samplesFit s code n at ≡ Fine)
+    unfolding samplesCausesIn
+    judged-fine e =
+        let x = fields-fine (shareIn tag04 s n at) (share-some tag04 s n at) n at e in
+        (x .0, fit-is ∙ x .1)
+
+    -- in samples of the right form it finds the first that doesn't fit
+    judged-fit : samplesCausesIn tag04 s n at ≡ Fine → fieldsCheck s code (shareIn tag04 s n at) n at ≡ samplesFit s code n at
+    unfolding samplesCausesIn
+    judged-fit e = fields-fit (shareIn tag04 s n at) (share-some tag04 s n at) n at e ∙ sym fit-is
 
 -- ## A trace
 
 module _ (s : List ℕ) (code n i : ℕ) (h : isCode code ≡ true) where
   -- a trace for which the check finds nothing
-  pub trace-fine : (at : ℕ) → traceCheck s code n i at ≡ Fine → (traceForm s n i at ≡ Fine) × (traceFit s code n at ≡ Fine)
-  unfolding traceCheck traceFit
+  pub trace-fine : (at : ℕ) → traceCheck s code n i at ≡ Fine → (traceFormIn tag04 s n i at ≡ Fine) × (traceFit s code n at ≡ Fine)
+  unfolding traceCheck traceFormIn
   trace-fine at e =
-      let t = then-fine (headForm s n i at) _ e in
-      let p = pairs-fine s code h pairLength n (at + 186) (t .1) in
-      (trace-form s n i at ∙ ap₂ then (t .0) p, sym (pairs-fit s code h pairLength n (at + 186) p) ∙ t .1)
+      let t = then-fine (headerCauses s n i at) _ e in
+      let x = judged-fine s code h n (at + 183) (t .1) in
+      (ap₂ then (t .0) (x .0), x .1)
 
   -- what the check finds in a trace of the right form
-  pub trace-fit : (at : ℕ) → traceForm s n i at ≡ Fine → traceCheck s code n i at ≡ traceFit s code n at
-  unfolding traceCheck traceFit
+  pub trace-fit : (at : ℕ) → traceFormIn tag04 s n i at ≡ Fine → traceCheck s code n i at ≡ traceFit s code n at
+  unfolding traceCheck traceFormIn
   trace-fit at e =
-      let t = then-fine (headForm s n i at) _ (sym (trace-form s n i at) ∙ e) in
-      ap (λ x. then x (firstOf (walk (pairCheck s code) pairLength n (at + 186)))) (t .0) ∙ pairs-fit s code h pairLength n (at + 186) (t .1)
+      let t = then-fine (headerCauses s n i at) _ e in
+      ap₂ then (t .0) (judged-fit s code h n (at + 183) (t .1))
 
 -- ## Traces, one after the other
 
@@ -87,24 +178,55 @@ module _ (s : List ℕ) (n : ℕ) where
   module _ (code : ℕ) where
     -- the fit of the samples that follow, a trace at a time
     pub fit-more : (t at : ℕ) → isMore s t at ≡ true
-        → fitFrom s code n (mostTraces - t) at ≡ then (traceFit s code n at) (fitFrom s code n (mostTraces - (t + 1)) (at + heldStride n))
+        → fitFrom s code n (mostTraces - t) at ≡ then (traceFit s code n at) (fitFrom s code n (mostTraces - (t + 1)) (behindTraceIn tag04 s n at))
     unfolding fitFrom
-    fit-more t at e = ap (λ (k : ℕ). firstOf (walk (traceFit s code n) (heldStride n) k at)) (tags-more s (heldStride n) t at e)
+    fit-more t at e =
+        let few = more-few s t at e in
+        let one : mostTraces - t ≡ suc (mostTraces - (t + 1)) = omega arith in
+        ap (λ (k : ℕ). fitFrom s code n k at) one ∙ rw (more-tag s t at e)
 
     pub fit-end : (t at : ℕ) → isMore s t at ≡ false → fitFrom s code n (mostTraces - t) at ≡ Fine
     unfolding fitFrom
-    fit-end t at e = ap (λ (k : ℕ). firstOf (walk (traceFit s code n) (heldStride n) k at)) (tags-none s (heldStride n) t at e)
+    fit-end t at e = go (ltb t mostTraces) refl e
+      where
+        none : (k : ℕ) → eqb (getD s at 0) 3 ≡ false → fitFrom s code n k at ≡ Fine
+        none zero q = refl
+        none (suc k) q = rw q
+
+        go : (b : Bool) → ltb t mostTraces ≡ b → (b && eqb (getD s at 0) 3) ≡ false → fitFrom s code n (mostTraces - t) at ≡ Fine
+        go true q e = none (mostTraces - t) e
+        go false q e =
+            let l = ltb-false t mostTraces q in
+            let z : mostTraces - t ≡ 0 = omega arith in
+            ap (λ (k : ℕ). fitFrom s code n k at) z
+
+    -- it is the fit of the traces that are counted
+    fit-from : (left t : ℕ) → fitFrom s code n left (tracePlaceIn tag04 s n t) ≡ firstOf (walk (λ j. traceFit s code n (tracePlaceIn tag04 s n j)) 1 (runFrom (isTraceIn tag04 s n) left t) t)
+    unfolding fitFrom runFrom
+    fit-from zero t = refl
+    fit-from (suc left) t = go (isTraceIn tag04 s n t) (fit-from left (t + 1))
+      where
+        go : (b : Bool) → fitFrom s code n left (tracePlaceIn tag04 s n (t + 1)) ≡ firstOf (walk (λ j. traceFit s code n (tracePlaceIn tag04 s n j)) 1 (runFrom (isTraceIn tag04 s n) left (t + 1)) (t + 1))
+            → pick b (then (traceFit s code n (tracePlaceIn tag04 s n t)) (fitFrom s code n left (behindTraceIn tag04 s n (tracePlaceIn tag04 s n t)))) Fine
+            ≡ firstOf (walk (λ j. traceFit s code n (tracePlaceIn tag04 s n j)) 1 (pick b (suc (runFrom (isTraceIn tag04 s n) left (t + 1))) 0) t)
+        go true e = ap (λ (x : ℕ). then (traceFit s code n (tracePlaceIn tag04 s n t)) (fitFrom s code n left x)) (sym (place-next tag04 s n t)) ∙ ap (then (traceFit s code n (tracePlaceIn tag04 s n t))) e
+        go false e = refl
+
+    -- from the first trace on, it is that of the record's traces
+    pub fit-all : fitCauses s code n (heldCount s n) ≡ fitFrom s code n mostTraces tracesPlace
+    unfolding fitCauses tracePlaceIn
+    fit-all = sym (fit-from mostTraces 0)
 
     module _ (i : ℕ) (h : isCode code ≡ true) (t at : ℕ) (e : isMore s t at ≡ true) where
       -- behind a trace for which the check finds nothing
       pub body-more : traceCheck s code n i at ≡ Fine
           → then (formFrom s n i (mostTraces - t) t at) (fitFrom s code n (mostTraces - t) at)
-          ≡ then (formFrom s n i (mostTraces - (t + 1)) (t + 1) (at + heldStride n)) (fitFrom s code n (mostTraces - (t + 1)) (at + heldStride n))
+          ≡ then (formFrom s n i (mostTraces - (t + 1)) (t + 1) (behindTraceIn tag04 s n at)) (fitFrom s code n (mostTraces - (t + 1)) (behindTraceIn tag04 s n at))
       body-more f =
           let x = trace-fine s code n i h at f in
           ap₂ then
-          (form-more s n i t at e ∙ ap (λ c. then c (formFrom s n i (mostTraces - (t + 1)) (t + 1) (at + heldStride n))) (x .0))
-          (fit-more t at e ∙ ap (λ c. then c (fitFrom s code n (mostTraces - (t + 1)) (at + heldStride n))) (x .1))
+          (form-more s n i t at e ∙ ap (λ c. then c (formFrom s n i (mostTraces - (t + 1)) (t + 1) (behindTraceIn tag04 s n at))) (x .0))
+          (fit-more t at e ∙ ap (λ c. then c (fitFrom s code n (mostTraces - (t + 1)) (behindTraceIn tag04 s n at))) (x .1))
 
       -- at a trace for which it finds something
       pub body-stop : {number : ℕ} {place : Place} → traceCheck s code n i at ≡ Refused number place
@@ -113,9 +235,9 @@ module _ (s : List ℕ) (n : ℕ) where
         where
           go : (c : Check) → formFrom s n i (mostTraces - t) t at ≡ c → then c (traceCheck s code n i at) ≡ then c (fitFrom s code n (mostTraces - t) at)
           go Fine q =
-              let x = then-fine (traceForm s n i at) _ (sym (form-more s n i t at e) ∙ q) in
+              let x = then-fine (traceFormIn tag04 s n i at) _ (sym (form-more s n i t at e) ∙ q) in
               let y = trace-fit s code n i h at (x .0) in
-              sym (fit-more t at e ∙ ap (λ c. then c (fitFrom s code n (mostTraces - (t + 1)) (at + heldStride n))) (sym y ∙ f) ∙ sym f)
+              sym (fit-more t at e ∙ ap (λ c. then c (fitFrom s code n (mostTraces - (t + 1)) (behindTraceIn tag04 s n at))) (sym y ∙ f) ∙ sym f)
           go (Refused m p) q = refl
 
 -- ## The whole record
@@ -123,8 +245,8 @@ module _ (s : List ℕ) (n : ℕ) where
 -- the causes 11 to 14, where the target code is one of the codes and the first two fields are right
 pub target-is : (s : List ℕ) (code : ℕ) → isCode code ≡ true → then (cardsCauses s) (binaryCauses s) ≡ Fine
     → targetCauses s code ≡ then (formFrom s (heldSamples s) (heldInterval s) mostTraces 0 tracesPlace) (fitFrom s code (heldSamples s) mostTraces tracesPlace)
-unfolding targetCauses fitCauses fitFrom
-target-is s code h e = rw h (ap (λ x. then x (fitCauses s code (heldSamples s) (heldCount s (heldSamples s)))) (form-is s e))
+unfolding targetCauses
+target-is s code h e = rw h (ap₂ then (form-is s e) (fit-all s (heldSamples s) code))
 
 -- and where they are not
 pub target-stop : (s : List ℕ) (code : ℕ) → isCode code ≡ true → {number : ℕ} {place : Place} → then (cardsCauses s) (binaryCauses s) ≡ Refused number place

@@ -14,11 +14,12 @@ use Rattle.numbers.specs.declared.Place.{Place}
 use Rattle.numbers.specs.declared.Check.the-variants as check
 use Rattle.numbers.proofs.CauseLaws.{passed, then-fine}
 use Rattle.reel.specs.Layout.{cardBytes}
-use Rattle.record.specs.Form.{fieldHead, binaryPlace, formCauses}
-use Rattle.record.specs.Held.{heldBy}
+use Rattle.record.specs.Form.{fieldHead, binaryPlace, heldSamples, heldCount, formCauses}
+use Rattle.record.specs.Held.{heldByIn}
 use Rattle.record.specs.Answer.{outcome}
 use Rattle.record.specs.declared.Answer.the-variants as answer
-use Rattle.record.proofs.FormLaws.{held-length}
+use Rattle.record.specs.Kind.{tag04}
+use Rattle.record.proofs.FormLaws.{held-length, place-front}
 use Rattle.record.proofs.JudgedLaws.{Own}
 use Rattle.listing.specs.Listing.{listingLength, listingOf, withText, listingCauses}
 use Rattle.listing.specs.Calls.{listed, listOutcome, takeEnd, takeCauses}
@@ -27,7 +28,7 @@ use Rattle.listing.specs.declared.Listed.the-variants.{Taken, Refused}
 
 -- A valid record has all its card bytes.
 pub long : (r : List ℕ) → formCauses r ≡ check.Fine → binaryPlace ≤ length r
-long r f = omega (arith, held-length r f)
+long r f = omega (arith, held-length tag04 r f, place-front tag04 r (heldSamples r) (heldCount r (heldSamples r)))
 
 -- A listing to which 17 does not apply has its length.
 pub listing-size : (listing : List ℕ) → listingCauses listing ≡ check.Fine → length listing ≡ listingLength
@@ -47,7 +48,7 @@ module _ (t r out : List ℕ) where
 
   pub list-taken : formCauses r ≡ check.Fine → listingLength ≤ length out → (ys : List ℕ) → ys ≡ listingOf t (bytesAt r fieldHead cardBytes)
       → listed (Taken listingLength) (ys ++ drop listingLength out) ≡ listOutcome t r out
-  unfolding heldBy
+  unfolding heldByIn
   list-taken f l ys e = rw (f, le-ltb (length out) listingLength l, e)
 
 -- ## Taking back

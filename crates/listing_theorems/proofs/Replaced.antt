@@ -1,28 +1,38 @@
 -- A valid record with another text: it is valid, and it differs in its cards alone. Assumes nothing.
 use mathlib.Core.Path.{_≡_, refl, sym, ap, ap₂, subst, _∙_}
-use mathlib.Core.List.{List, _∷_, _++_, map, append-assoc}
-use Prim.Native.Nat.{ℕ, _+_, _-_, _≤_, _<_}
+use mathlib.Core.List.{List, [], _∷_, _++_, map}
+use mathlib.Core.Bool.{not, _&&_}
+use Prim.Native.Nat.{ℕ, _+_, _-_, _*_, _≤_, _<_}
 use native.Mathlib.Omega.{arith}
-use lib.ListN.{length, getD, take, drop, length-take}
-use lib.Seq.{getD-drop}
-use Rattle.numbers.specs.Walk.{flat, bytesAt, overwritten}
-use Rattle.numbers.specs.BigEndian.{bytesOf}
+use lib.Dec.{leb, eqb}
+use lib.ListN.{length, getD, take, drop, length-take, take-append-drop}
+use lib.IntN.{ℤ}
+use lib.Seq.{getD-drop, drop-drop}
+use Rattle.numbers.specs.Walk.{bytesAt, overwritten}
+use Rattle.numbers.specs.BigEndian.{number}
+use Rattle.numbers.specs.TwosComplement.{signedOf}
+use Rattle.numbers.specs.Cause.{refuseIf}
 use Rattle.numbers.specs.Terms.{All, Bytes}
+use Rattle.numbers.specs.declared.Check.{Check}
 use Rattle.numbers.specs.declared.Check.the-variants.{Fine}
-use Rattle.numbers.proofs.WalkLaws.{bytes-part}
-use Rattle.numbers.proofs.Filling.{over-part}
-use Rattle.reel.specs.Layout.{cardBytes}
+use Rattle.numbers.proofs.WalkLaws.{cons-eq, all-take, all-drop, bytes-part, size-bytes}
+use Rattle.numbers.proofs.AllLaws.{all-append}
+use Rattle.numbers.proofs.CauseLaws.{then-fine}
+use Rattle.numbers.proofs.RowLaws.{then-second}
+use Rattle.numbers.proofs.Filling.{size-over}
+use Rattle.fields.specs.Fields.{each}
+use Rattle.reel.specs.Layout.{fieldsFrom, cardBytes, binaryWidths, binaryFields, fieldNumber}
 use Rattle.reel.specs.Meaning.{Meaning}
-use Rattle.record.specs.Record.{field, binaryBytes, traceBytes, recordOf}
-use Rattle.record.specs.Form.{heldInterval, heldSamples, heldCount, formCauses}
-use Rattle.record.specs.Held.{heldBy}
+use Rattle.record.specs.Kind.{tag04}
+use Rattle.record.specs.Form.{fieldCause, cardsCauses, binaryCauses, heldInterval, heldSamples, tracePlace, heldCount, bodyCausesIn, formCausesIn, formCauses}
+use Rattle.record.specs.Held.{heldTraceIn, heldByIn, heldBy}
+use Rattle.record.proofs.HeaderLaws.{binary-front, binary-back}
+use Rattle.record.proofs.AlikeLaws.{bytes-alike, number-alike, binary-alike, count-alike, body-alike, traces-alike}
 use Rattle.listing.specs.Listing.{withText}
-use Rattle.demands.proofs.Determined.{held-record}
+use Rattle.listing.proofs.EndLaws.{long}
 use Rattle.demands.proofs.From.{From, from-start, from-next, from-bytes}
-use Rattle.demands.proofs.Proper.{Proper}
-use Rattle.demands.proofs.ProperLaws.{held-proper}
-use Rattle.demands.proofs.RecordBack.{record-bytes, record-samples, record-traces, record-no-cause, record-again}
-use Rattle.demands.proofs.Taken.{held-count}
+use Rattle.demands.proofs.FieldBack.{cards-fine}
+use Rattle.demands.proofs.Headers.{bytes-cards, meaning-eq}
 
 -- ## Bytes
 
@@ -62,69 +72,102 @@ module _ (r text : List ℕ) (n : length text ≡ cardBytes) (h : 3203 ≤ lengt
 abbrev pub withCards : Meaning → List ℕ → Meaning
 withCards m text = record { cards = text; binary = m .binary; traces = m .traces }
 
--- A field with tag 01 in front of a list: tag and length, the content, the list.
-field-parts : (l rest : List ℕ) → field 1 l ++ rest ≡ (1 ∷ bytesOf 2 (length l)) ++ (l ++ rest)
-unfolding field
-field-parts l rest = ap (λ (x : List ℕ). 1 ∷ x) (append-assoc (bytesOf 2 (length l)) l rest)
+-- Header numbers behind tag 02, by the byte number where the first field begins.
+fields-alike : (s r : List ℕ) → length s ≡ length r → ((p : ℕ) → 3203 ≤ p → getD s p 0 ≡ getD r p 0) → (start b : ℕ) (ws : List ℕ) → 3203 ≤ start + (b - 1)
+    → map (fieldNumber s start) (fieldsFrom b ws) ≡ map (fieldNumber r start) (fieldsFrom b ws)
+fields-alike s r long same start b [] h = refl
+fields-alike s r long same start b (w ∷ ws) h =
+    cons-eq (ap (λ (x : List ℕ). signedOf (8 * w) (number x)) (bytes-alike s r long same (start + (b - 1)) w h))
+    (fields-alike s r long same start (b + w) ws (omega arith))
 
--- The record of a meaning, with another text of the same length, is that of the meaning with that text.
-pub record-text : (m : Meaning) (text : List ℕ) → length (m .cards) ≡ cardBytes → length text ≡ cardBytes → withText (recordOf m) text ≡ recordOf (withCards m text)
-unfolding recordOf
-record-text m text a b =
-    let rest = field 2 (binaryBytes 0 (m .binary)) ++ (flat (map traceBytes (m .traces)) ++ field 5 (bytesOf 4 (length (m .traces)))) in
-    let head : List ℕ = 1 ∷ bytesOf 2 cardBytes in
-    ap (λ (x : List ℕ). withText x text) (field-parts (m .cards) rest ∙ ap (λ (k : ℕ). (1 ∷ bytesOf 2 k) ++ (m .cards ++ rest)) a)
-    ∙ over-part head (m .cards) rest text 3 refl (a ∙ sym b)
-    ∙ ap (λ (k : ℕ). (1 ∷ bytesOf 2 k) ++ (text ++ rest)) (sym b)
-    ∙ sym (field-parts text rest)
-
--- A valid record r, and a text without 00.
+-- A valid record r.
 module _ (r : List ℕ) (bytes : Bytes r) (valid : formCauses r ≡ Fine) where
-  own : Proper (heldSamples r) (heldInterval r) (heldBy r)
-  own = held-proper r bytes valid
-
-  -- The record with that text is the record of what it holds with that text.
-  pub replaced : (text : List ℕ) → length text ≡ cardBytes → withText r text ≡ recordOf (withCards (heldBy r) text)
-  replaced text n = ap (λ (x : List ℕ). withText x text) (sym (held-record r bytes valid)) ∙ record-text (heldBy r) text (own .size) n
+  whole : 3203 ≤ length r
+  whole = long r valid
 
   -- With its own text it is itself.
   pub same-text : withText r (heldBy r .cards) ≡ r
-  same-text = replaced (heldBy r .cards) (own .size) ∙ held-record r bytes valid
+  unfolding heldByIn overwritten
+  same-text =
+      let text = bytesAt r 3 3200 in
+      let e : 3 + length text ≡ 3200 + 3 = omega (arith, size-bytes r 3 3200) in
+      ap (λ (x : ℕ). take 3 r ++ (text ++ drop x r)) e
+      ∙ ap (λ (x : List ℕ). take 3 r ++ (text ++ x)) (sym (drop-drop 3200 3 r))
+      ∙ ap (λ (x : List ℕ). take 3 r ++ (x ++ drop 3200 (drop 3 r))) (sym (bytes-part r 3 3200 (omega (arith, whole))))
+      ∙ ap (λ (x : List ℕ). take 3 r ++ x) (take-append-drop 3200 (drop 3 r))
+      ∙ take-append-drop 3 r
 
+  -- And with another text, without 00.
   module _ (text : List ℕ) (n : length text ≡ cardBytes) (some : All (λ b. (0 < b) × (b < 256)) text) where
-    proper : Proper (heldSamples r) (heldInterval r) (withCards (heldBy r) text)
-    proper =
-        record {
-          n-low = own .n-low;
-          n-high = own .n-high;
-          i-low = own .i-low;
-          i-high = own .i-high;
-          size = n;
-          cards = some;
-          fit-front = own .fit-front;
-          fit-back = own .fit-back;
-          n-is = own .n-is;
-          i-is = own .i-is;
-          few = own .few;
-          traces = own .traces;
-        }
-
     new : List ℕ
-    new = recordOf (withCards (heldBy r) text)
+    new = withText r text
+
+    same-length : length new ≡ length r
+    unfolding new
+    same-length = size-over r text 3 (omega (arith, n, whole))
+
+    same-byte : (p : ℕ) → 3203 ≤ p → getD new p 0 ≡ getD r p 0
+    unfolding new
+    same-byte = behind-byte r text n whole
+
+    samples-same : heldSamples new ≡ heldSamples r
+    samples-same = number-alike new r same-length same-byte 3226 (omega arith)
+
+    interval-same : heldInterval new ≡ heldInterval r
+    interval-same = number-alike new r same-length same-byte 3222 (omega arith)
+
+    count-same : heldCount new (heldSamples new) ≡ heldCount r (heldSamples r)
+    count-same = ap (heldCount new) samples-same ∙ count-alike new r same-length same-byte tag04 (heldSamples r)
+
+    -- Tag 01 stands as it stood, and no card byte is 00.
+    front-same : fieldCause new 1 3200 0 ≡ fieldCause r 1 3200 0
+    unfolding new bytesAt
+    front-same =
+        let made : ℕ → ℕ → List ℕ → Check = λ l b x. refuseIf (not (leb 3203 l && (eqb b 1 && eqb (number x) 3200))) 12 0 in
+        let f = front-bytes r text n whole in
+        ap (λ (l : ℕ). made l (getD new 0 0) (bytesAt new 1 2)) same-length
+        ∙ ap₂ (made (length r)) (ap (λ (x : List ℕ). getD x 0 0) f) (ap (drop 1) f)
+
+    cards-right : cardsCauses new ≡ Fine
+    unfolding new cardsCauses formCausesIn
+    cards-right =
+        let a = then-fine (cardsCauses r) _ valid .0 in
+        then-second _ _ (front-same ∙ then-fine (fieldCause r 1 3200 0) _ a .0) (cards-fine new text 3200 3 _ n some (at-text r text n whole))
 
     pub text-valid : formCauses (withText r text) ≡ Fine
-    text-valid = ap formCauses (replaced text n) ∙ record-no-cause (heldSamples r) (heldInterval r) (withCards (heldBy r) text) proper
+    unfolding new formCausesIn
+    text-valid =
+        let a = then-fine (cardsCauses r) _ valid in
+        let b = then-fine (binaryCauses r) _ (a .1) in
+        let i = heldInterval r in
+        let m = heldSamples r in
+        let t = heldCount r m in
+        let body : bodyCausesIn tag04 new (heldSamples new) (heldInterval new) (heldCount new (heldSamples new)) ≡ Fine =
+        ap (λ (x : ℕ). bodyCausesIn tag04 new x (heldInterval new) (heldCount new (heldSamples new))) samples-same
+        ∙ ap₂ (bodyCausesIn tag04 new m) interval-same count-same
+        ∙ body-alike new r same-length same-byte tag04 m i t ∙ b .1 in
+        then-second _ _ cards-right (then-second _ _ (binary-alike new r same-length same-byte ∙ b .0) body)
 
     pub text-is-bytes : Bytes (withText r text)
-    text-is-bytes = subst Bytes (sym (replaced text n)) (record-bytes (heldSamples r) (heldInterval r) (withCards (heldBy r) text) proper)
+    unfolding overwritten
+    text-is-bytes =
+        let byte : ℕ → Type 0 = λ b. b < 256 in
+        all-append byte (take 3 r) (text ++ drop (3 + length text) r) (all-take byte 3 r bytes)
+        (all-append byte text (drop (3 + length text) r) (bytes-cards text some) (all-drop byte (3 + length text) r bytes))
 
     pub text-held : heldBy (withText r text) ≡ withCards (heldBy r) text
-    text-held = ap heldBy (replaced text n) ∙ record-again (heldSamples r) (heldInterval r) (withCards (heldBy r) text) proper
+    unfolding new heldByIn binaryFields binaryWidths binary-front binary-back
+    text-held =
+        meaning-eq (text-bytes r text n whole)
+        (ap₂ (λ (x y : List ℤ). x ++ y) (fields-alike new r same-length same-byte 6 3201 binary-front (omega arith)) (fields-alike new r same-length same-byte 6 3227 binary-back (omega arith)))
+        (ap (λ (x : ℕ). each (λ j. heldTraceIn tag04 new x (tracePlace new x j)) (heldCount new x)) samples-same
+        ∙ ap (each (λ j. heldTraceIn tag04 new (heldSamples r) (tracePlace new (heldSamples r) j))) (count-alike new r same-length same-byte tag04 (heldSamples r))
+        ∙ traces-alike new r same-length same-byte tag04 (heldSamples r) (heldCount r (heldSamples r)))
 
     pub text-samples : heldSamples (withText r text) ≡ heldSamples r
-    text-samples = ap heldSamples (replaced text n) ∙ record-samples (heldSamples r) (heldInterval r) (withCards (heldBy r) text) proper
+    unfolding new
+    text-samples = samples-same
 
     pub text-traces : heldCount (withText r text) (heldSamples (withText r text)) ≡ heldCount r (heldSamples r)
-    text-traces =
-        ap₂ heldCount (replaced text n) text-samples
-        ∙ record-traces (heldSamples r) (heldInterval r) (withCards (heldBy r) text) proper ∙ held-count r
+    unfolding new
+    text-traces = count-same

@@ -19,7 +19,7 @@ use Rattle.code_page.specs.Page.{charOf, codeIn, OneToOne}
 use Rattle.listing.specs.Listing.{cardCount, cardLength, lineLength, lineFeed, lineStarts, cardLine, listingOf, cardByte, cardOf, textOf, listingCauses}
 use Rattle.listing.proofs.ListingLaws.{size-line, size-listing, size-card, kept}
 use Rattle.demands.proofs.From.{From, from-start, from-parts, from-next, from-bytes}
-use Rattle.demands.proofs.Again.{walk-again}
+use Rattle.demands.proofs.Pieces.{walk-again}
 use Rattle.listing_theorems.proofs.Refusals.{right-fine}
 
 -- ## Parts of one length, one behind the other

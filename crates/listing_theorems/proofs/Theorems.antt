@@ -40,7 +40,7 @@ use Rattle.numbers.proofs.SaidLaws.{says-refused, says-fine, says-either, refus
 use Rattle.reel.specs.Layout.{cardBytes}
 use Rattle.reel.specs.Meaning.{blank, Meaning}
 use Rattle.record.specs.Form.{formCauses}
-use Rattle.record.specs.Held.{heldBy}
+use Rattle.record.specs.Held.{heldByIn, heldBy}
 use Rattle.code_page.specs.Page.{charOf, codeIn, latin, OneToOne}
 use Rattle.code_page.proofs.PageLaws.{latin-one-to-one}
 use Rattle.listing.specs.Listing.{listingLength, listingOf, cardByte, textOf, withText, listingCauses}
@@ -183,7 +183,7 @@ module _ (t r listing out : List ℕ) where
 -- are the lines of the record's cards, character by character.
 -- Rules out the line feed before the 80 characters, the first card listed for all, and a call that writes nothing and says taken.
 pub lines-listed : (t r out : List ℕ) → listOutcome t r out .said ≡ taken (3240 ∷ []) → CardsListed t r out (listOutcome t r out .bytes)
-unfolding heldBy
+unfolding heldByIn
 lines-listed t r out e =
     let q = list-needs t r out e in
     let rest = list-rest t r out e in

@@ -17,8 +17,10 @@ use Rattle.formats.specs.Codes.{isCode}
 use Rattle.formats.specs.Nearest.{nearestValue, changes}
 use Rattle.value.specs.Pair.{pairLength}
 use Rattle.reel.specs.Meaning.{Trace, Meaning}
-use Rattle.record.specs.Form.{heldSamples, heldCount, heldStride, tracesPlace}
-use Rattle.record.specs.Held.{heldValue, heldTrace, heldBy}
+use Rattle.fields.specs.Fields.{pairPlace}
+use Rattle.record.specs.Kind.{tag04}
+use Rattle.record.specs.Form.{heldSamples, shareIn, tracePlace, heldCount}
+use Rattle.record.specs.Held.{heldValue, heldValuesIn, heldTraceIn, heldByIn, heldBy}
 use Rattle.write_reel.specs.Reel.{sampleWritten, traceWritten, reelOf}
 use Rattle.write_reel.specs.Writing.{reelLengthOf}
 use Rattle.write_reel.specs.Nearest.{nearestTrace, nearestMeaning, traceChanges, meaningChanges}
@@ -27,7 +29,7 @@ use Rattle.demands.proofs.Proper.{ProperTrace, Proper}
 use Rattle.demands.proofs.Fitting.{FittingTrace, Fitting}
 use Rattle.demands.proofs.Headers.{meaning-eq}
 use Rattle.demands.proofs.WrittenSize.{sample-size, reel-size}
-use Rattle.demands.proofs.Taken.{held-count}
+use Rattle.demands.proofs.Renewed.{held-count}
 use Rattle.formats.proofs.DifferLaws.{differs-most}
 use Rattle.nearest_theorems.proofs.Values.{nearest-fits, fits-self, unchanged-fits, fits-canonical}
 
@@ -89,10 +91,10 @@ nearest-size s code = meaning-length code (heldBy s) ∙ reel-size s code
 
 -- Each trace that a record holds has its N samples.
 held-sizes : (s : List ℕ) → All (λ (t : Trace). length (t .values) ≡ heldSamples s) (heldBy s .traces)
-unfolding heldBy heldTrace
+unfolding heldByIn heldTraceIn heldValuesIn
 held-sizes s =
     let n = heldSamples s in
-    all-at (λ (t : Trace). length (t .values) ≡ n) (heldTrace s n) (λ at. size-walk (heldValue s) pairLength n (at + 186)) (heldStride n) (heldCount s n) tracesPlace
+    all-at (λ (t : Trace). length (t .values) ≡ n) (λ k. heldTraceIn tag04 s n (tracePlace s n k)) (λ k. let at = tracePlace s n k + 183 in size-walk (λ j. heldValue s (pairPlace pairLength (shareIn tag04 s n at) at j)) 1 n 0) 1 (heldCount s n) 0
 
 -- No more change than there are.
 changes-most : (code : ℕ) (t : Trace) → traceChanges code t ≤ length (t .values)

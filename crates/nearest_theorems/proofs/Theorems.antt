@@ -21,15 +21,18 @@
 -- - `nearest-read`: the reel is read without refusal, and its record is valid and holds what the record held, each sample the nearest.
 -- - `nearest-back`: where the count is 0, reading the reel gives the record again; `back-only`: it does so in no other case.
 -- - `nearest-twice`: writing to the nearest once more, under the same code, what was so written and read gives the count 0 and the same reel.
+-- - `nearest-same`: a record in the earlier form gives the same reel as in the newest (document 02, CR 8). What is said to come back comes back
+--   in the newest form, `renewed`.
 --
 -- Where a theorem reads a reel or looks at its samples, each byte of the record is below 256 and the outputs are long enough; nothing else is
 -- assumed. Every record, code and output is meant.
 use mathlib.Core.Path.{_≡_, refl, sym, ap, ap₂, _∙_, subst}
 use mathlib.Core.List.{List, [], _∷_, _++_}
 use mathlib.Core.Logic.{_⊎_, ⊎-elim}
-use mathlib.Core.Bool.{true}
+use mathlib.Core.Bool.{true, not}
 use Prim.Native.Nat.{ℕ, _+_, _*_, _≤_}
 use native.Mathlib.Omega.{arith}
+use lib.Dec.{ltb}
 use lib.ListN.{length, take, drop}
 use lib.Seq.{take-at}
 use lib.IntN.{ℤ}
@@ -37,14 +40,16 @@ use Rattle.numbers.specs.Outcome.{Said, taken, refused, Outcome}
 use Rattle.numbers.specs.Iff.{Iff}
 use Rattle.numbers.specs.Terms.{Among, Bytes}
 use Rattle.numbers.specs.declared.Check.{Check}
-use Rattle.numbers.specs.declared.Check.the-variants.{Fine}
+use Rattle.numbers.specs.Cause.{refuseIf, then}
+use Rattle.numbers.specs.declared.Check.the-variants.{Fine, Refused}
 use Rattle.numbers.proofs.WalkLaws.{cons-eq}
 use Rattle.numbers.proofs.SaidLaws.{says-refused, says-fine, says-either, refused-by, taken-by, keeps-rest}
 use Rattle.formats.specs.Codes.{isCode, sampleBytes}
 use Rattle.reel.specs.Meaning.{Meaning}
 use Rattle.record.specs.Record.{recordOf}
 use Rattle.record.specs.Form.{heldSamples, heldCount, formCauses}
-use Rattle.record.specs.Held.{heldBy}
+use Rattle.record.specs.Held.{heldBy, renewed}
+use Rattle.demands.proofs.Renewed.{renewed-valid, renewed-holds, renewed-samples, renewed-traces}
 use Rattle.read_reel.specs.Reading.{readOutcome}
 use Rattle.write_reel.specs.Reel.{reelOf, reelLength}
 use Rattle.write_reel.specs.Writing.{reelLengthOf, writtenNumbers, writeOutcome}
@@ -250,7 +255,7 @@ module _ (s : List ℕ) (code : ℕ) (out : List ℕ) where
   -- THEOREM. "each sample becomes the nearest value of the target code": the reel that was written is read without refusal into every output
   -- that is long enough; it means what the record holds, each sample the nearest value, and its record is valid and holds that.
   -- Rules out a call that writes an infinity for a value beyond the range, and one that changes cards or a header.
-  pub nearest-read : (out₂ : List ℕ) (t n l c : ℕ) → Bytes s → nearestOutcome s code out .said ≡ taken (t ∷ n ∷ l ∷ c ∷ []) → length s ≤ length out₂
+  pub nearest-read : (out₂ : List ℕ) (t n l c : ℕ) → Bytes s → nearestOutcome s code out .said ≡ taken (t ∷ n ∷ l ∷ c ∷ []) → length (renewed s) ≤ length out₂
       → NearestRead s code t n (take l (nearestOutcome s code out .bytes)) out₂
   nearest-read out₂ t n l c b e h =
       let w = needs (t ∷ n ∷ l ∷ c ∷ []) e in
@@ -258,38 +263,38 @@ module _ (s : List ℕ) (code : ℕ) (out : List ℕ) where
       rw (k .content, k .traces, k .samples) (nearest-reads s b code (w .code-is) (w .form) out₂ h)
 
   -- THEOREM. "The record comes back unchanged when the count is 0": reading the reel into an output long enough gives it again, byte for byte
-  -- and with the same T and N.
+  -- and with the same T and N, an earlier one in the newest form.
   -- Rules out a count of 0 beside a sample that changed.
-  pub nearest-back : (out₂ : List ℕ) (t n l : ℕ) → Bytes s → nearestOutcome s code out .said ≡ taken (t ∷ n ∷ l ∷ 0 ∷ []) → length s ≤ length out₂
-      → readOutcome (take l (nearestOutcome s code out .bytes)) out₂ ≡ record { said = taken (t ∷ n ∷ length s ∷ 0 ∷ []); bytes = s ++ drop (length s) out₂ }
+  pub nearest-back : (out₂ : List ℕ) (t n l : ℕ) → Bytes s → nearestOutcome s code out .said ≡ taken (t ∷ n ∷ l ∷ 0 ∷ []) → length (renewed s) ≤ length out₂
+      → readOutcome (take l (nearestOutcome s code out .bytes)) out₂ ≡ record { said = taken (t ∷ n ∷ length (renewed s) ∷ 0 ∷ []); bytes = renewed s ++ drop (length (renewed s)) out₂ }
   nearest-back out₂ t n l b e h =
       ap (λ (x : List ℕ). readOutcome (take l x) out₂) (zero-same t n l e) ∙ read-back s code out out₂ t n l b (count-zero t n l 0 e .0 refl) h
 
   -- THEOREM. It comes back unchanged in no other case.
   -- Rules out a count above 0 where no sample changed.
-  pub back-only : (out₂ : List ℕ) (t n l c : ℕ) → Bytes s → nearestOutcome s code out .said ≡ taken (t ∷ n ∷ l ∷ c ∷ []) → length s ≤ length out₂
-      → take (length s) (readOutcome (take l (nearestOutcome s code out .bytes)) out₂ .bytes) ≡ s → c ≡ 0
+  pub back-only : (out₂ : List ℕ) (t n l c : ℕ) → Bytes s → nearestOutcome s code out .said ≡ taken (t ∷ n ∷ l ∷ c ∷ []) → length (renewed s) ≤ length out₂
+      → take (length (renewed s)) (readOutcome (take l (nearestOutcome s code out .bytes)) out₂ .bytes) ≡ renewed s → c ≡ 0
   back-only out₂ t n l c b e h q =
       let w = needs (t ∷ n ∷ l ∷ c ∷ []) e in
       let k = nearest-written t n l c e in
       let x = nearest-record s b code (w .code-is) (w .form) out₂ h in
-      let own : recordOf (nearestMeaning code (heldBy s)) ≡ s = sym x ∙ ap (λ (r : List ℕ). take (length s) (readOutcome r out₂ .bytes)) (sym (k .content)) ∙ q in
-      let same : nearestMeaning code (heldBy s) ≡ heldBy s = sym (nearest-held s b code (w .code-is) (w .form)) ∙ ap heldBy own in
+      let own : recordOf (nearestMeaning code (heldBy s)) ≡ renewed s = sym x ∙ ap (λ (r : List ℕ). take (length (renewed s)) (readOutcome r out₂ .bytes)) (sym (k .content)) ∙ q in
+      let same : nearestMeaning code (heldBy s) ≡ heldBy s = sym (nearest-held s b code (w .code-is) (w .form)) ∙ ap heldBy own ∙ renewed-holds s b (w .form) in
       k .count ∙ unchanged-fitting code (w .code-is) (heldBy s) .1 (subst (Fitting code) same (nearest-fitting code (w .code-is) (heldBy s)))
 
   -- THEOREM. Writing again what nearest writing wrote changes nothing: the reel is read, and its record is written to the nearest under the
   -- same code with the same T, N and length, the count 0, and the same reel.
   -- Rules out a call that moves a sample further each time.
-  pub nearest-twice : (out₂ out₃ : List ℕ) (t n l c : ℕ) → Bytes s → nearestOutcome s code out .said ≡ taken (t ∷ n ∷ l ∷ c ∷ []) → length s ≤ length out₂ → l ≤ length out₃
+  pub nearest-twice : (out₂ out₃ : List ℕ) (t n l c : ℕ) → Bytes s → nearestOutcome s code out .said ≡ taken (t ∷ n ∷ l ∷ c ∷ []) → length (renewed s) ≤ length out₂ → l ≤ length out₃
       → let reel = take l (nearestOutcome s code out .bytes) in
-      let again = take (length s) (readOutcome reel out₂ .bytes) in
+      let again = take (length (renewed s)) (readOutcome reel out₂ .bytes) in
       nearestOutcome again code out₃ ≡ record { said = taken (t ∷ n ∷ l ∷ 0 ∷ []); bytes = reel ++ drop l out₃ }
   nearest-twice out₂ out₃ t n l c b e h room =
       let w = needs (t ∷ n ∷ l ∷ c ∷ []) e in
       let g = w .code-is in
       let k = nearest-written t n l c e in
       let r = recordOf (nearestMeaning code (heldBy s)) in
-      let is = ap (λ (x : List ℕ). take (length s) (readOutcome x out₂ .bytes)) (k .content) ∙ nearest-record s b code g (w .form) out₂ h in
+      let is = ap (λ (x : List ℕ). take (length (renewed s)) (readOutcome x out₂ .bytes)) (k .content) ∙ nearest-record s b code g (w .form) out₂ h in
       let traces = nearest-count-held s b code g (w .form) ∙ sym (k .traces) in
       let samples = nearest-samples-held s b code g (w .form) ∙ sym (k .samples) in
       let size : reelLengthOf r code ≡ l = ap₂ (reelLength code) traces samples ∙ sym (k .size) in
@@ -300,6 +305,31 @@ module _ (s : List ℕ) (code : ℕ) (out : List ℕ) where
       ∙ needs-taken r code out₃ (record { code-is = g; form = nearest-valid s b code g (w .form); room = rw size room })
       ∙ ap₂ (λ (x y : List ℕ). record { said = taken x; bytes = y }) (cons-eq traces (cons-eq samples (cons-eq size (cons-eq changed refl))))
       (ap₂ (λ (x : List ℕ) (y : ℕ). x ++ drop y out₃) reel size)
+
+  -- ## The earlier form
+
+  -- THEOREM. "A trace with the earlier single field of 6,001 to 8,000 samples stays valid in every call that takes a record, each trace
+  -- judged by itself, and gives the same reel" (document 02, CR 8): to the nearest a valid record is written as the same reel as that record in
+  -- the newest form, with the same count, or refused alike.
+  -- Rules out a call that counts, or loses, a sample where a field ends.
+  pub nearest-same : Bytes s → formCauses s ≡ Fine → nearestOutcome (renewed s) code out ≡ nearestOutcome s code out
+  nearest-same b v = ends (nearestCauses (renewed s) code (length out)) ∙ ap (nearestEnd s code out) checks
+    where
+      size : reelLengthOf (renewed s) code ≡ reelLengthOf s code
+      size = ap₂ (reelLength code) (renewed-traces s b v) (renewed-samples s b v)
+
+      numbers : nearestNumbers (renewed s) code ≡ nearestNumbers s code
+      numbers = cons-eq (renewed-traces s b v) (cons-eq (renewed-samples s b v) (cons-eq size (cons-eq (ap (meaningChanges code) (renewed-holds s b v)) refl)))
+
+      ends : (c : Check) → nearestEnd (renewed s) code out c ≡ nearestEnd s code out c
+      ends Fine =
+          ap₂ (λ (x : List ℕ) (y : List ℕ). record { said = taken x; bytes = y }) numbers
+          (ap₂ (λ (m : Meaning) (y : ℕ). reelOf code (nearestMeaning code m) ++ drop y out) (renewed-holds s b v) size)
+      ends (Refused number place) = refl
+
+      checks : nearestCauses (renewed s) code (length out) ≡ nearestCauses s code (length out)
+      checks =
+          ap₂ (λ (c : Check) (y : ℕ). then (refuseIf (not (isCode code)) 11 0) (then c (refuseIf (ltb (length out) y) 10 y))) (renewed-valid s b v ∙ sym v) size
 
 -- ## When two values count
 

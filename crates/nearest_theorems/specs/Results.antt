@@ -20,7 +20,7 @@ use Rattle.reel.specs.Causes.{causesOf}
 use Rattle.reel.specs.Meaning.{meaningOf}
 use Rattle.record.specs.Record.{recordOf}
 use Rattle.record.specs.Form.{heldSamples, heldCount, formCauses}
-use Rattle.record.specs.Held.{heldValue, heldBy}
+use Rattle.record.specs.Held.{heldValue, heldBy, renewed}
 use Rattle.read_reel.specs.Reading.{readOutcome}
 use Rattle.write_reel.specs.Reel.{reelOf}
 use Rattle.write_reel.specs.Nearest.{nearestMeaning, meaningChanges, nearestOutcome}
@@ -81,8 +81,8 @@ pub record NearestRead (r : List ℕ) (code t n : ℕ) (reel out : List ℕ) : T
   pub no-cause : causesOf reel ≡ Fine
   -- It means what the record holds, each sample the nearest value of the code: its cards, header numbers and T are the record's.
   pub means : meaningOf reel ≡ nearestMeaning code (heldBy r)
-  -- Reading it is taken with T, N, the length of the record r and the count 0, and gives the record of that meaning.
+  -- Reading it is taken with T, N, the length of the record r, renewed, and the count 0, and gives the record of that meaning.
   pub read : readOutcome reel out
-      ≡ record { said = taken (t ∷ n ∷ length r ∷ 0 ∷ []); bytes = recordOf (nearestMeaning code (heldBy r)) ++ drop (length r) out }
+      ≡ record { said = taken (t ∷ n ∷ length (renewed r) ∷ 0 ∷ []); bytes = recordOf (nearestMeaning code (heldBy r)) ++ drop (length (renewed r)) out }
   -- The output's first bytes are a valid record of T traces of N samples that holds what the reel means.
-  pub holds : RecordHolds reel t n (take (length r) (readOutcome reel out .bytes))
+  pub holds : RecordHolds reel t n (take (length (renewed r)) (readOutcome reel out .bytes))

@@ -1,36 +1,25 @@
 -- The record that the code writes is the record of what the reel means. Assumes nothing.
 use mathlib.Core.Path.{_≡_, refl, sym, ap, ap₂, _∙_}
-use mathlib.Core.List.{List, [], _∷_, _++_, map, append-assoc, append-nil}
-use Prim.Native.Nat.{ℕ, zero, suc, _+_, _-_, _*_}
-use native.Mathlib.Nat.{mul-comm}
+use mathlib.Core.List.{List, [], _++_, map, append-assoc, append-nil}
+use Prim.Native.Nat.{ℕ, zero, suc, _+_, _-_}
 use lib.ListN.{length, length-append}
 use Rattle.numbers.specs.Terms.{Bytes}
 use Rattle.numbers.specs.Walk.{walk, flat, bytesAt, overwritten}
 use Rattle.numbers.specs.Places.{bytePlace}
 use Rattle.numbers.specs.BigEndian.{bytesOf}
-use Rattle.numbers.proofs.WalkLaws.{size-walk, map-walk}
-use Rattle.formats.specs.Codes.{sampleBytes, wordLength}
-use Rattle.formats.specs.Value.{exactValue}
+use Rattle.numbers.proofs.WalkLaws.{size-walk}
 use Rattle.reel.specs.Layout.{cardBytes, firstTrace, traceHeader, samplesOf, intervalOf, codeOf, strideBy, tracesBy}
 use Rattle.reel.specs.Meaning.{cardTextBy, binaryNumbers, traceNumber, headerOf, traceMeaning, meaningBy}
 use Rattle.reel.specs.declared.Layout.{Layout}
-use Rattle.record.specs.Record.{field, binaryBytes, samplesField, traceBytes, recordOf, recordBy}
-use Rattle.value.specs.Pair.{valueBytes}
+use Rattle.record.specs.Record.{field, binaryBytes, traceBytesIn, traceBytes, recordOfIn, recordBy}
 use Rattle.record.specs.Form.{binarySize, codePlace}
 use Rattle.record.proofs.HeaderLaws.{size-text}
 use Rattle.record.proofs.StoredLaws.{size-binary, code-stored}
-use Rattle.read_samples.specs.Samples.{sampleCopied, places, samplePairs}
-use Rattle.read_reel.specs.Copied.{tagBytes, fieldsCopied, headCopied, recordTraceCopied, recordCopied}
-use Rattle.read_samples.proofs.SampleLaws.{size-samples}
+use Rattle.read_samples.specs.Samples.{places}
+use Rattle.read_reel.specs.Copied.{tagBytes, fieldsCopied, headCopied, samplesCopied, recordTraceCopied, recordCopied}
+use Rattle.read_reel.proofs.CopiedLaws.{field-is}
 use Rattle.headers.specs.Header.{headerBytes}
 use Rattle.headers.proofs.HeaderBytes.{size-header}
-
--- ## Fields
-
--- a field whose content has k bytes
-field-is : (tag k : ℕ) (l : List ℕ) → length l ≡ k → field tag l ≡ tagBytes tag k ++ l
-unfolding field
-field-is tag k l e = ap (λ (x : ℕ). tag ∷ (bytesOf 2 x ++ l)) e
 
 -- ## The first two fields
 
@@ -51,23 +40,13 @@ head-is k s h =
 
 -- ## Traces
 
--- the samples of a trace are the pairs of their values
-samples-are : (s : List ℕ) (code n at : ℕ) → flat (map valueBytes (walk (λ p. exactValue code (bytesAt s p wordLength)) (sampleBytes code) n at)) ≡ samplePairs s code n at
-unfolding samplePairs
-samples-are s code n at =
-    ap flat (map-walk valueBytes (λ p. exactValue code (bytesAt s p wordLength)) (sampleBytes code) n at ∙ sym (map-walk (sampleCopied s code) (λ p. p) (sampleBytes code) n at))
-
 module _ (s : List ℕ) (code n i : ℕ) where
   trace-is : (at : ℕ) → traceBytes (traceMeaning s code n i at) ≡ recordTraceCopied s code n i at
-  unfolding traceBytes traceMeaning samplesField recordTraceCopied
+  unfolding traceBytesIn traceMeaning recordTraceCopied samplesCopied
   trace-is at =
       let header = headerBytes (headerOf (traceNumber s n i at)) in
-      let samples = flat (map valueBytes (walk (λ p. exactValue code (bytesAt s p wordLength)) (sampleBytes code) n (at + traceHeader))) in
-      let si : samples ≡ samplePairs s code n (at + traceHeader) = samples-are s code n (at + traceHeader) in
-      let hf : field 3 header ≡ tagBytes 3 180 ++ header = field-is 3 180 header (size-header (traceNumber s n i at)) in
-      let sf : field 4 samples ≡ tagBytes 4 (6 * n) ++ samplePairs s code n (at + traceHeader) =
-      field-is 4 (6 * n) samples (ap length si ∙ size-samples s code n (at + traceHeader) ∙ mul-comm n 6) ∙ ap (λ (l : List ℕ). tagBytes 4 (6 * n) ++ l) si in
-      ap₂ (λ (x y : List ℕ). x ++ y) hf sf ∙ append-assoc (tagBytes 3 180) header (tagBytes 4 (6 * n) ++ samplePairs s code n (at + traceHeader))
+      let samples = samplesCopied s code n (at + traceHeader) in
+      ap (λ (x : List ℕ). x ++ samples) (field-is 3 180 header (size-header (traceNumber s n i at))) ∙ append-assoc (tagBytes 3 180) header samples
 
   traces-walk : (w k at : ℕ) → flat (map traceBytes (walk (traceMeaning s code n i) w k at)) ≡ flat (map (recordTraceCopied s code n i) (places w k at))
   traces-walk w zero at = refl
@@ -76,7 +55,7 @@ module _ (s : List ℕ) (code n i : ℕ) where
 -- ## The record
 
 pub record-is : (k : Layout) (s : List ℕ) → Bytes s → recordBy k s ≡ recordCopied k s (codeOf s) (samplesOf s) (intervalOf s) (strideBy k s) (tracesBy k s)
-unfolding recordOf meaningBy recordCopied
+unfolding recordOfIn meaningBy recordCopied
 record-is k s b =
     let code = codeOf s in
     let n = samplesOf s in

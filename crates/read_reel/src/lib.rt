@@ -3,7 +3,7 @@
 ghost use mathlib.Core.Path.{_≡_};
 ghost use mathlib.Core.Bool.{true};
 ghost use mathlib.Core.List.{_++_, map};
-ghost use Prim.Native.Nat.{_+_, _*_, _≤_};
+ghost use Prim.Native.Nat.{_+_, _*_, _^_, _≤_, _<_};
 ghost use lib.ListN.{length};
 ghost use Rattle.numbers.specs.Walk.{flat, overwritten};
 ghost use Rattle.numbers.specs.Places.{placeNo};
@@ -15,11 +15,12 @@ ghost use Rattle.reel.specs.Meaning.{cardTextBy};
 ghost use Rattle.reel.specs.declared.Layout.the-variants.{Eagle};
 ghost use Rattle.reel.specs.NotNormal.{notNormalIn, notNormalAmong};
 ghost use Rattle.read_samples.specs.Samples.{places};
-ghost use Rattle.record.specs.Form.{tracesPlace, heldStride};
-ghost use Rattle.record.specs.Record.{recordLength};
+ghost use Rattle.fields.specs.Fields.{fieldsLength};
+ghost use Rattle.record.specs.Form.{tracesPlace};
+ghost use Rattle.record.specs.Record.{fieldSamples, traceLength};
 ghost use Rattle.record.specs.Answer.{countedOutcome};
 ghost use Rattle.read_reel.specs.Reading.{readOutcome, readOutcomeBy};
-ghost use Rattle.read_reel.specs.Copied.{tagBytes, fieldsCopied, headCopied, recordTraceCopied, recordCopied};
+ghost use Rattle.read_reel.specs.Copied.{tagBytes, fieldsCopied, headCopied, fieldCopied, samplesCopied, recordTraceCopied, recordCopied};
 use numbers::ByteNo;
 use numbers::Place;
 use record::Counted;
@@ -44,18 +45,53 @@ fn put_over(n: u16, at: Place, out: &mut [u8])
     slices::put16(n, &mut out[p..p + 2]);
 }
 
+// The bytes of a trace of n samples in a record: 183 of tag 03, then its fields of 6,000 samples.
+fn trace_length(n: usize) -> usize
+    requires { ⌜ n < 2 ^ 16 ⌝ }
+    ensures { λ r. ⌜ r ≡ traceLength n ⌝ }
+{
+    183 + (3 * ((n + 5999) / 6000) + n * 6)
+}
+
+// A field of samples, behind its tag.
+fn put_field(reel: &[u8], code: usize, count: usize, at: usize, out: &mut [u8])
+    requires { ⌜ (isCode code ≡ true) × (count ≤ fieldSamples) × (at + count * sampleBytes code ≤ length (now reel)) × (length (now out) ≡ 3 + count * 6) ⌝ }
+    ensures { λ _. ⌜ now (out .exit) ≡ fieldCopied (now (reel .entry)) code count at ⌝ }
+{
+    let size = count * 6;
+    put_tag(4, size as u16, &mut out[0..3]);
+    read_samples::read_samples(reel, code, count, Place(at), &mut out[3..3 + size]);
+}
+
+// The n samples of a trace, in fields of 6,000, the last with the rest.
+fn put_samples(reel: &[u8], code: usize, n: usize, start: usize, out: &mut [u8])
+    requires { ⌜ (isCode code ≡ true) × (start + n * sampleBytes code ≤ length (now reel)) × (length (now out) ≡ fieldsLength 6 fieldSamples n) ⌝ }
+    ensures { λ _. ⌜ now (out .exit) ≡ samplesCopied (now (reel .entry)) code n start ⌝ }
+{
+    let v = formats::width_of(code);
+    let mut at = start;
+    let mut o = 0;
+    let mut left = n;
+    while 0 < left {
+        let count = record::least(6000, left);
+        let e = o + (3 + count * 6);
+        put_field(reel, code, count, at, &mut out[o..e]);
+        at += count * v;
+        o = e;
+        left -= count;
+    }
+}
+
 // A trace: its header and its samples, each behind its tag. Says how many of its words are not normal, which are counted behind their
 // reading, when the cache has them.
 fn put_trace(reel: &[u8], code: usize, n: u16, i: u16, at: usize, out: &mut [u8]) -> usize
-    requires { ⌜ (isCode code ≡ true) × (n ≤ mostSamples) × (at + stride n (sampleBytes code) ≤ length (now reel)) × (length (now out) ≡ heldStride n) ⌝ }
+    requires { ⌜ (isCode code ≡ true) × (n ≤ mostSamples) × (at + stride n (sampleBytes code) ≤ length (now reel)) × (length (now out) ≡ traceLength n) ⌝ }
     ensures { λ r. ⌜ (r ≡ notNormalIn (now (reel .entry)) code n (at + traceHeader)) × (now (out .exit) ≡ recordTraceCopied (now (reel .entry)) code n i at) ⌝ }
 {
-    let size = 6 * n;
-    let e = 186 + size as usize;
+    let e = out.len();
     put_tag(3, 180, &mut out[0..3]);
     headers::read_header(reel, n, i, Place(at), &mut out[3..183]);
-    put_tag(4, size, &mut out[183..186]);
-    read_samples::read_samples(reel, code, n as usize, Place(at + 240), &mut out[186..e]);
+    put_samples(reel, code, n as usize, at + 240, &mut out[183..e]);
     count_words::count_words(reel, code, n as usize, Place(at + 240))
 }
 
@@ -102,7 +138,7 @@ fn put_traces(
     t: usize,
     out: &mut [u8],
 ) -> usize
-    requires { ⌜ (isCode code ≡ true) × (n ≤ mostSamples) × (stride n (sampleBytes code) ≤ w) × (behind ≤ w) × (m ≡ heldStride n) × (firstTrace + t * w ≤ length (now reel)) × (length (now out) ≡ t * m) ⌝ }
+    requires { ⌜ (isCode code ≡ true) × (n ≤ mostSamples) × (stride n (sampleBytes code) ≤ w) × (behind ≤ w) × (m ≡ traceLength n) × (firstTrace + t * w ≤ length (now reel)) × (length (now out) ≡ t * m) ⌝ }
     ensures { λ r. ⌜ (r ≡ notNormalAmong (now (reel .entry)) code n w t firstTrace) × (now (out .exit) ≡ flat (map (recordTraceCopied (now (reel .entry)) code n i) (places w t firstTrace))) ⌝ }
 {
     let mut at = 3600;
@@ -165,8 +201,8 @@ fn put_head(layout: Layout, reel: &[u8], out: &mut [u8])
     put_over(0, places::field_at(Place(6), ByteNo(3225)), out);
 }
 
-// The record of t traces of n samples, w bytes apart with `behind` bytes between them, which fills out; and how many of their words are not
-// normal.
+// The record of t traces of n samples, w bytes apart on the reel with `behind` bytes between them, and m bytes each in the record, which fills
+// out; and how many of their words are not normal.
 fn put_record(
     layout: Layout,
     reel: &[u8],
@@ -175,13 +211,13 @@ fn put_record(
     i: u16,
     w: usize,
     behind: usize,
+    m: usize,
     t: usize,
     out: &mut [u8],
 ) -> usize
-    requires { ⌜ (isCode code ≡ true) × (n ≤ mostSamples) × (stride n (sampleBytes code) ≤ w) × (behind ≤ w) × (t ≤ mostTraces) × (firstTrace + t * w ≤ length (now reel)) × (length (now out) ≡ recordLength t n) ⌝ }
+    requires { ⌜ (isCode code ≡ true) × (n ≤ mostSamples) × (stride n (sampleBytes code) ≤ w) × (behind ≤ w) × (t ≤ mostTraces) × (firstTrace + t * w ≤ length (now reel)) × (length (now out) ≡ 3273 + t * m) × (m ≡ traceLength n) ⌝ }
     ensures { λ r. ⌜ (r ≡ notNormalAmong (now (reel .entry)) code n w t firstTrace) × (now (out .exit) ≡ recordCopied layout (now (reel .entry)) code n i w t) ⌝ }
 {
-    let m = 186 + 6 * n as usize;
     let e = 3266 + t * m;
     put_head(layout, reel, &mut out[0..3266]);
     let count = put_traces(reel, code, n, i, w, behind, m, t, &mut out[3266..e]);
@@ -204,7 +240,8 @@ fn read_checked(
     requires { ⌜ judgedBy layout (now reel) ≡ Judged.Fine code n i v w t ⌝ }
     ensures { λ r. ⌜ countedOutcome r (now (out .exit)) ≡ readOutcomeBy layout (now (reel .entry)) (now (out .entry)) ⌝ }
 {
-    let length = 3273 + t * (186 + 6 * n);
+    let m = trace_length(n);
+    let length = 3273 + t * m;
     if out.len() < length {
         return Counted::Refused {
             number: 10,
@@ -220,6 +257,7 @@ fn read_checked(
         i as u16,
         w,
         behind,
+        m,
         t,
         &mut out[..length],
     );

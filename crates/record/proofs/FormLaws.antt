@@ -1,13 +1,14 @@
 -- What the checks of a record find, and what follows where they find nothing. Assumes nothing.
-use mathlib.Core.Path.{_≡_, refl, sym, ap, ap₂, _∙_, subst}
+use mathlib.Core.Path.{_≡_, refl, sym, ap, _∙_, subst}
 use mathlib.Core.List.{List}
 use mathlib.Core.Bool.{Bool, true, false, not, _&&_}
-use Prim.Native.Nat.{ℕ, zero, suc, _+_, _-_, _*_, _≤_, _<_}
+use Prim.Native.Nat.{ℕ, zero, suc, _+_, _-_, _*_, _≤_, _<_, min}
 use native.Mathlib.Nat.{add-zero, zero-add, zero-mul, suc-mul}
+use native.Mathlib.Numerals.{add-one}
 use native.Mathlib.Omega.{arith}
 use borrow.Author.Tests.{leb-true, eqb-true, ltb-false, ltb-true, not-true, not-false, lt-ltb}
 use lib.Dec.{T, leb, ltb, eqb}
-use lib.ListN.{length, getD}
+use lib.ListN.{length, getD, List·getD-eq-default}
 use Rattle.numbers.specs.Walk.{pick, walk, bytesAt}
 use Rattle.numbers.specs.Places.{bytePlace}
 use Rattle.numbers.specs.BigEndian.{number}
@@ -18,15 +19,19 @@ use Rattle.numbers.specs.declared.Check.the-variants.{Fine, Refused}
 use Rattle.numbers.proofs.CauseLaws.{then-assoc, passed, then-fine}
 use Rattle.numbers.proofs.BoolLaws.{and-true}
 use Rattle.cards.specs.Cards.{noZero}
-use Rattle.value.specs.Pair.{pairLength}
+use Rattle.fields.specs.Fields.{each, runFrom, fieldsIn, fieldCount, fieldPlace, pairPlace, fieldsLength, inFields}
+use Rattle.fields.proofs.FieldsLaws.{by-fields, length-none, length-more, fields-one, fields-more as needs-more, in-none, in-next, pairs-in-fields, rises}
+use Rattle.fields.proofs.EachLaws.{each-is, flat-fine, run-most}
 use Rattle.formats.specs.declared.Written.the-variants as written
 use Rattle.reel.specs.Layout.{number16}
 use Rattle.reel.specs.Causes.{mostSamples, mostTraces, mostInterval, within}
 use Rattle.reel.proofs.CheckLaws.{both-true, in-limits}
 use Rattle.headers.specs.Header.{smallestCauses}
-use Rattle.record.specs.Form.{isField, fieldCause, cardCause, cardsCauses, heldSamples, heldInterval, binaryCauses, tracesPlace, heldStride, pairCause, samplesCauses, headerCauses, traceForm, tagsFrom, heldCount, endCauses, bodyCauses, formCauses, recordFound, numbersIn}
+use Rattle.record.specs.Kind.{Kind, tag04}
+use Rattle.record.specs.Record.{fieldSamples, traceLengthIn}
+use Rattle.record.specs.Form.{isField, fieldCause, cardCause, cardsCauses, heldSamples, heldInterval, binaryCauses, tracesPlace, headerCauses, endCauses, pairCauseIn, fieldFormIn, isEarlierIn, shareIn, samplesCausesIn, traceFormIn, heldStrideIn, behindTraceIn, tracePlaceIn, isTraceIn, heldCountIn, bodyCausesIn, heldCount, formCausesIn, formCauses, recordFound, numbersIn}
 use Rattle.record.specs.declared.Judged.the-variants as judged
-use Rattle.record.specs.Parts.{headForm, formFrom}
+use Rattle.record.specs.Parts.{fieldsForm, formFrom}
 
 -- ## Fields
 
@@ -34,6 +39,11 @@ use Rattle.record.specs.Parts.{headForm, formFrom}
 pub field-room : (s : List ℕ) (tag size at : ℕ) → fieldCause s tag size at ≡ Fine → at + (3 + size) ≤ length s
 field-room s tag size at e =
     leb-true (at + (3 + size)) (length s) (both-true (leb (at + (3 + size)) (length s)) (eqb (getD s at 0) tag && eqb (number16 s (at + 1)) size) (passed (not (isField s tag size at)) 12 at e) .0)
+
+-- past the end of a record two bytes are read as 0
+pub nothing-there : (s : List ℕ) (p : ℕ) → length s ≤ p → number16 s p ≡ 0
+unfolding bytesAt
+nothing-there s p h = rw (List·getD-eq-default s 0 {n = p} h, List·getD-eq-default s 0 {n = p + 1} (omega arith))
 
 -- ## Cards
 
@@ -45,15 +55,75 @@ cards-fine s (suc k) at e =
     let b = and-true (not (eqb (getD s at 0) 0)) (noZero (walk (λ a. getD s a 0) 1 k (at + 1))) e in
     rw (not-true (eqb (getD s at 0) 0) (b .0)) (cards-fine s k (at + 1) (b .1))
 
+-- ## Samples
+
+-- a field has some samples: the earlier form is that of more than 6,000
+pub share-some : (k : Kind) (s : List ℕ) (n at : ℕ) → 0 < shareIn k s n at
+share-some k s n at = go (ltb fieldSamples n) refl (leb n (k .earlier)) (eqb (number16 s (at + 1)) (n * k .width))
+  where
+    go : (a : Bool) → ltb fieldSamples n ≡ a → (b c : Bool) → 0 < pick ((a && b) && c) n fieldSamples
+    go true e true true = let l = ltb-true fieldSamples n e in omega arith
+    go true e true false = omega arith
+    go true e false c = omega arith
+    go false e b c = omega arith
+
+-- and at most 8,000
+pub share-high : (s : List ℕ) (n at : ℕ) → shareIn tag04 s n at ≤ 8000
+share-high s n at = go (leb n 8000) refl (ltb fieldSamples n) (eqb (number16 s (at + 1)) (n * 6))
+  where
+    go : (b : Bool) → leb n 8000 ≡ b → (a c : Bool) → pick ((a && b) && c) n fieldSamples ≤ 8000
+    go true e true true = leb-true n 8000 e
+    go true e true false = omega arith
+    go true e false c = omega arith
+    go false e true c = omega arith
+    go false e false c = omega arith
+
+-- samples in which nothing is found end within the record
+pub samples-room : (k : Kind) (s : List ℕ) (c : ℕ) → 0 < c → (n at : ℕ) → firstOf (inFields (fieldFormIn k s) (k .width) c n at) ≡ Fine → at ≤ length s
+    → at + fieldsLength (k .width) c n ≤ length s
+unfolding fieldFormIn
+samples-room k s c some =
+    by-fields c some (λ n. (at : ℕ) → firstOf (inFields (fieldFormIn k s) (k .width) c n at) ≡ Fine → at ≤ length s → at + fieldsLength (k .width) c n ≤ length s)
+    (λ n h at e l. omega (arith, length-none c some (k .width) n h))
+    (λ n h rest at e l.
+    let next = at + (3 + min c n * k .width) in
+    let t = then-fine (fieldFormIn k s (min c n) at) _ (sym (ap firstOf (in-next c some (k .width) (fieldFormIn k s) n at h)) ∙ e) in
+    let room = field-room s (k .tag) (min c n * k .width) at (then-fine (fieldCause s (k .tag) (min c n * k .width) at) _ (t .0) .0) in
+    let r = rest next (t .1) room in
+    omega (arith, length-more c some (k .width) n h))
+
+-- each of their pairs is canonical
+pub pairs-fine : (k : Kind) (s : List ℕ) (n at : ℕ) → samplesCausesIn k s n at ≡ Fine → (j : ℕ) → j < n → pairCauseIn k s (pairPlace (k .width) (shareIn k s n at) at j) ≡ Fine
+unfolding samplesCausesIn inFields fieldFormIn
+pairs-fine k s n at e =
+    let c = shareIn k s n at in
+    let one = each-is (λ f. fieldFormIn k s (fieldCount c n f) (fieldPlace (k .width) c at f)) (fieldsIn c n) e in
+    each-is (λ j. pairCauseIn k s (pairPlace (k .width) c at j)) n
+    (ap firstOf (pairs-in-fields c (share-some k s n at) (k .width) (pairCauseIn k s) n at)
+    ∙ flat-fine (λ f. walk (pairCauseIn k s) (k .width) (fieldCount c n f) (fieldPlace (k .width) c at f + 3)) (fieldsIn c n)
+    (λ f l. then-fine (fieldCause s (k .tag) (fieldCount c n f * k .width) (fieldPlace (k .width) c at f)) _ (one f l) .1))
+
+-- the samples of a trace, a field at a time
+module _ (s : List ℕ) where
+  pub fields-none : (c : ℕ) → 0 < c → (n at : ℕ) → n ≤ 0 → fieldsForm s c n at ≡ Fine
+  unfolding fieldsForm
+  fields-none c some n at h = ap firstOf (in-none c some 6 (fieldFormIn tag04 s) n at h)
+
+  pub fields-more : (c : ℕ) → 0 < c → (n at : ℕ) → 0 < n
+      → fieldsForm s c n at ≡ then (fieldFormIn tag04 s (min c n) at) (fieldsForm s c (n - c) (at + (3 + min c n * 6)))
+  unfolding fieldsForm
+  fields-more c some n at h = ap firstOf (in-next c some 6 (fieldFormIn tag04 s) n at h)
+
+  pub one-room : (count at : ℕ) → fieldFormIn tag04 s count at ≡ Fine → at + (3 + count * 6) ≤ length s
+  unfolding fieldFormIn
+  one-room count at e = field-room s 4 (count * 6) at (then-fine (fieldCause s 4 (count * 6) at) _ e .0)
+
 -- ## A trace
 
--- its form is that of its fields, and then that of its pairs
-pub trace-form : (s : List ℕ) (n i at : ℕ) → traceForm s n i at ≡ then (headForm s n i at) (firstOf (walk (pairCause s) pairLength n (at + 186)))
-unfolding traceForm samplesCauses headForm
-trace-form s n i at =
-    let e : at + 183 + 3 ≡ at + 186 = omega arith in
-    ap (λ (x : ℕ). then (headerCauses s n i at) (then (fieldCause s 4 (pairLength * n) (at + 183)) (firstOf (walk (pairCause s) pairLength n x)))) e
-    ∙ sym (then-assoc (headerCauses s n i at) (fieldCause s 4 (pairLength * n) (at + 183)) (firstOf (walk (pairCause s) pairLength n (at + 186))))
+-- its form is that of its header, and then that of its samples by its own share
+pub trace-form : (s : List ℕ) (n i at : ℕ) → traceFormIn tag04 s n i at ≡ then (headerCauses s n i at) (fieldsForm s (shareIn tag04 s n (at + 183)) n (at + 183))
+unfolding traceFormIn samplesCausesIn fieldsForm
+trace-form s n i at = refl
 
 -- a header's causes one after the other, before any other check
 header-then : (s : List ℕ) (n i at : ℕ) (d : Check)
@@ -71,40 +141,44 @@ header-then s n i at d =
     then-assoc a (then z (then b c)) d ∙ ap (then a) (then-assoc z (then b c) d ∙ ap (then z) (then-assoc b c d))
 
 -- so a trace's causes,
-pub trace-parts : (s : List ℕ) (n i at : ℕ)
-    → traceForm s n i at
+pub trace-parts : (k : Kind) (s : List ℕ) (n i at : ℕ)
+    → traceFormIn k s n i at
     ≡ then (fieldCause s 3 180 at)
     (then (smallestCauses s (at + 3))
     (then (refuseIf (not (eqb (number16 s (bytePlace (at + 3) 115)) n)) 13 (bytePlace (at + 3) 115))
-    (then (refuseIf (not (eqb (number16 s (bytePlace (at + 3) 117)) i)) 13 (bytePlace (at + 3) 117)) (samplesCauses s n (at + 183)))))
-unfolding traceForm
-trace-parts s n i at = header-then s n i at (samplesCauses s n (at + 183))
+    (then (refuseIf (not (eqb (number16 s (bytePlace (at + 3) 117)) i)) 13 (bytePlace (at + 3) 117)) (samplesCausesIn k s n (at + 183)))))
+unfolding traceFormIn
+trace-parts k s n i at = header-then s n i at (samplesCausesIn k s n (at + 183))
 
 -- where it has none, its scalars are those of the smallest powers
-pub scalars-fine : (s : List ℕ) (n i at : ℕ) → traceForm s n i at ≡ Fine → smallestCauses s (at + 3) ≡ Fine
-scalars-fine s n i at e =
-    let a = then-fine (fieldCause s 3 180 at) _ (sym (trace-parts s n i at) ∙ e) in
+pub scalars-fine : (k : Kind) (s : List ℕ) (n i at : ℕ) → traceFormIn k s n i at ≡ Fine → smallestCauses s (at + 3) ≡ Fine
+scalars-fine k s n i at e =
+    let a = then-fine (fieldCause s 3 180 at) _ (sym (trace-parts k s n i at) ∙ e) in
     then-fine (smallestCauses s (at + 3)) _ (a .1) .0
 
--- and those of its fields alone
-pub head-form : (s : List ℕ) (n i at : ℕ)
-    → headForm s n i at
+-- and a header's alone
+pub header-parts : (s : List ℕ) (n i at : ℕ)
+    → headerCauses s n i at
     ≡ then (fieldCause s 3 180 at)
     (then (smallestCauses s (at + 3))
     (then (refuseIf (not (eqb (number16 s (bytePlace (at + 3) 115)) n)) 13 (bytePlace (at + 3) 115))
-    (then (refuseIf (not (eqb (number16 s (bytePlace (at + 3) 117)) i)) 13 (bytePlace (at + 3) 117)) (fieldCause s 4 (pairLength * n) (at + 183)))))
-unfolding headForm
-head-form s n i at = header-then s n i at (fieldCause s 4 (pairLength * n) (at + 183))
+    (refuseIf (not (eqb (number16 s (bytePlace (at + 3) 117)) i)) 13 (bytePlace (at + 3) 117))))
+unfolding headerCauses
+header-parts s n i at = refl
 
--- a trace whose fields stand whole ends within the record
-pub head-room : (s : List ℕ) (n i at : ℕ) → headForm s n i at ≡ Fine → at + (186 + n * 6) ≤ length s
-unfolding headForm
-head-room s n i at e =
-    let a = then-fine (headerCauses s n i at) _ e in
-    omega (arith, field-room s 4 (pairLength * n) (at + 183) (a .1))
+-- a header in which nothing is found ends within the record
+pub header-room : (s : List ℕ) (n i at : ℕ) → headerCauses s n i at ≡ Fine → at + 183 ≤ length s
+unfolding headerCauses
+header-room s n i at e = field-room s 3 180 at (then-fine (fieldCause s 3 180 at) _ e .0)
 
-pub form-room : (s : List ℕ) (n i at : ℕ) → traceForm s n i at ≡ Fine → at + (186 + n * 6) ≤ length s
-form-room s n i at e = head-room s n i at (then-fine (headForm s n i at) _ (sym (trace-form s n i at) ∙ e) .0)
+-- so does a trace
+pub form-room : (k : Kind) (s : List ℕ) (n i at : ℕ) → traceFormIn k s n i at ≡ Fine → behindTraceIn k s n at ≤ length s
+unfolding traceFormIn samplesCausesIn behindTraceIn
+form-room k s n i at e =
+    let t = then-fine (headerCauses s n i at) _ e in
+    let c = shareIn k s n (at + 183) in
+    let r = samples-room k s c (share-some k s n (at + 183)) n (at + 183) (t .1) (header-room s n i at (t .0)) in
+    omega (arith, r)
 
 -- ## Traces, one after the other
 
@@ -119,104 +193,151 @@ more-few s t at e = go (ltb t mostTraces) refl e
     go true q e = ltb-true t mostTraces q
     go false q e = absurd (subst T (sym e) tt)
 
--- where one is, the tags that are counted are one more than those behind it
-pub tags-more : (s : List ℕ) (w t at : ℕ) → isMore s t at ≡ true → tagsFrom (mostTraces - t) s w at ≡ suc (tagsFrom (mostTraces - (t + 1)) s w (at + w))
-unfolding tagsFrom
-tags-more s w t at e =
-    let few = more-few s t at e in
-    let one : mostTraces - t ≡ suc (mostTraces - (t + 1)) = omega arith in
-    let tag : eqb (getD s at 0) 3 ≡ true = rw (lt-ltb t mostTraces few) at e in
-    ap (λ (k : ℕ). tagsFrom k s w at) one ∙ rw tag
+-- the place of a trace is behind the one before it
+pub place-next : (k : Kind) (s : List ℕ) (n t : ℕ) → tracePlaceIn k s n (t + 1) ≡ behindTraceIn k s n (tracePlaceIn k s n t)
+unfolding tracePlaceIn
+place-next k s n t = ap (tracePlaceIn k s n) (add-one t)
 
--- where none is, no tag is counted
-pub tags-none : (s : List ℕ) (w t at : ℕ) → isMore s t at ≡ false → tagsFrom (mostTraces - t) s w at ≡ 0
-unfolding tagsFrom
-tags-none s w t at e = go (ltb t mostTraces) refl e
+-- so places rise
+pub place-rises : (k : Kind) (s : List ℕ) (n t j : ℕ) → tracePlaceIn k s n t ≤ tracePlaceIn k s n (t + j)
+unfolding behindTraceIn
+place-rises k s n t j = rises (tracePlaceIn k s n) (λ t. heldStrideIn k s n (tracePlaceIn k s n t)) step t j
   where
-    one : (k : ℕ) → eqb (getD s at 0) 3 ≡ false → tagsFrom k s w at ≡ 0
-    one zero q = refl
-    one (suc k) q = rw q
+    step : (t : ℕ) → tracePlaceIn k s n (t + 1) ≡ tracePlaceIn k s n t + heldStrideIn k s n (tracePlaceIn k s n t)
+    step t = place-next k s n t
 
-    go : (b : Bool) → ltb t mostTraces ≡ b → (b && eqb (getD s at 0) 3) ≡ false → tagsFrom (mostTraces - t) s w at ≡ 0
-    go true q e = one (mostTraces - t) e
-    go false q e =
-        let l = ltb-false t mostTraces q in
-        let z : mostTraces - t ≡ 0 = omega arith in
-        ap (λ (k : ℕ). tagsFrom k s w at) z
+-- behind the first two fields
+pub place-front : (k : Kind) (s : List ℕ) (n t : ℕ) → tracesPlace ≤ tracePlaceIn k s n t
+unfolding tracePlaceIn behindTraceIn
+place-front k s n zero = omega arith
+place-front k s n (suc t) = omega (arith, place-front k s n t)
 
--- no more tags are counted than may be
-pub tags-most : (k : ℕ) (s : List ℕ) (w at : ℕ) → tagsFrom k s w at ≤ k
-unfolding tagsFrom
-tags-most zero s w at = omega arith
-tags-most (suc k) s w at = go (eqb (getD s at 0) 3) (tags-most k s w (at + w))
+-- t traces have room for as many bytes as they have samples
+pub place-holds : (s : List ℕ) (n t : ℕ) → t * n ≤ tracePlaceIn tag04 s n t
+unfolding tracePlaceIn behindTraceIn
+place-holds s n zero = omega (arith, zero-mul n)
+place-holds s n (suc t) = omega (arith, suc-mul t n, place-holds s n t)
+
+-- and no trace has more bytes than one in fields of 6,000
+stride-most : (k : Kind) (s : List ℕ) (n at : ℕ) → 0 < n → heldStrideIn k s n at ≤ traceLengthIn k n
+stride-most k s n at some = go (isEarlierIn k s n (at + 183))
   where
-    go : (b : Bool) → tagsFrom k s w (at + w) ≤ k → pick b (suc (tagsFrom k s w (at + w))) 0 ≤ suc k
-    go true l = omega arith
-    go false l = omega arith
+    go : (b : Bool) → 183 + fieldsLength (k .width) (pick b n fieldSamples) n ≤ 183 + fieldsLength (k .width) fieldSamples n
+    go true = omega (arith, fields-one n some n some (omega arith), needs-more fieldSamples (omega arith) n some)
+    go false = omega arith
+
+pub place-most : (k : Kind) (s : List ℕ) (n t : ℕ) → 0 < n → tracePlaceIn k s n t ≤ tracesPlace + t * traceLengthIn k n
+unfolding tracePlaceIn behindTraceIn
+place-most k s n zero some = omega (arith, zero-mul (traceLengthIn k n))
+place-most k s n (suc t) some =
+    omega (arith, suc-mul t (traceLengthIn k n), place-most k s n t some, stride-most k s n (tracePlaceIn k s n t) some)
+
+-- no more traces are counted than may be
+pub count-most : (k : Kind) (s : List ℕ) (n : ℕ) → heldCountIn k s n ≤ mostTraces
+count-most k s n = run-most (isTraceIn k s n) mostTraces 0
+
+-- each of the traces of a valid record is of the right form
+pub traces-fine : (k : Kind) (s : List ℕ) → formCausesIn k s ≡ Fine → let n = heldSamples s in (j : ℕ) → j < heldCountIn k s n → traceFormIn k s n (heldInterval s) (tracePlaceIn k s n j) ≡ Fine
+unfolding formCausesIn bodyCausesIn
+traces-fine k s e =
+    let n = heldSamples s in
+    let a = then-fine (cardsCauses s) _ e in
+    let b = then-fine (binaryCauses s) _ (a .1) in
+    each-is (λ j. traceFormIn k s n (heldInterval s) (tracePlaceIn k s n j)) (heldCountIn k s n) (then-fine (firstOf (each (λ j. traceFormIn k s n (heldInterval s) (tracePlaceIn k s n j)) (heldCountIn k s n))) _ (b .1) .0)
+
+-- a tag 03 stands behind t traces
+pub more-tag : (s : List ℕ) (t at : ℕ) → isMore s t at ≡ true → eqb (getD s at 0) 3 ≡ true
+more-tag s t at e = rw (lt-ltb t mostTraces (more-few s t at e)) at e
 
 module _ (s : List ℕ) (n : ℕ) where
   module _ (i : ℕ) where
-    form-of : ℕ → ℕ → ℕ → Check
-    form-of k t at = then (firstOf (walk (traceForm s n i) (heldStride n) k at)) (endCauses s (t + k) (at + k * heldStride n))
-
-    form-next : (k t at : ℕ) → form-of (suc k) t at ≡ then (traceForm s n i at) (form-of k (t + 1) (at + heldStride n))
-    unfolding form-of
-    form-next k t at =
-        let v = heldStride n in
-        let a : t + suc k ≡ t + 1 + k = omega arith in
-        let b : at + suc k * v ≡ at + v + k * v = rw suc-mul (omega arith) in
-        then-assoc (traceForm s n i at) (firstOf (walk (traceForm s n i) v k (at + v))) (endCauses s (t + suc k) (at + suc k * v))
-        ∙ ap₂ (λ (x y : ℕ). then (traceForm s n i at) (then (firstOf (walk (traceForm s n i) v k (at + v))) (endCauses s x y))) a b
-
     -- the form of what follows, a trace at a time
     pub form-more : (t at : ℕ) → isMore s t at ≡ true
-        → formFrom s n i (mostTraces - t) t at ≡ then (traceForm s n i at) (formFrom s n i (mostTraces - (t + 1)) (t + 1) (at + heldStride n))
-    unfolding formFrom form-of
+        → formFrom s n i (mostTraces - t) t at ≡ then (traceFormIn tag04 s n i at) (formFrom s n i (mostTraces - (t + 1)) (t + 1) (behindTraceIn tag04 s n at))
+    unfolding formFrom
     form-more t at e =
-        ap (λ (k : ℕ). form-of k t at) (tags-more s (heldStride n) t at e) ∙ form-next (tagsFrom (mostTraces - (t + 1)) s (heldStride n) (at + heldStride n)) t at
+        let few = more-few s t at e in
+        let one : mostTraces - t ≡ suc (mostTraces - (t + 1)) = omega arith in
+        ap (λ (k : ℕ). formFrom s n i k t at) one ∙ rw (more-tag s t at e)
 
     pub form-end : (t at : ℕ) → isMore s t at ≡ false → formFrom s n i (mostTraces - t) t at ≡ endCauses s t at
-    unfolding formFrom form-of
-    form-end t at e =
-        ap (λ (k : ℕ). form-of k t at) (tags-none s (heldStride n) t at e) ∙ ap₂ (λ (x y : ℕ). endCauses s x y) (add-zero t) (rw zero-mul (add-zero at))
+    unfolding formFrom
+    form-end t at e = go (ltb t mostTraces) refl e
+      where
+        none : (k : ℕ) → eqb (getD s at 0) 3 ≡ false → formFrom s n i k t at ≡ endCauses s t at
+        none zero q = refl
+        none (suc k) q = rw q
+
+        go : (b : Bool) → ltb t mostTraces ≡ b → (b && eqb (getD s at 0) 3) ≡ false → formFrom s n i (mostTraces - t) t at ≡ endCauses s t at
+        go true q e = none (mostTraces - t) e
+        go false q e =
+            let l = ltb-false t mostTraces q in
+            let z : mostTraces - t ≡ 0 = omega arith in
+            ap (λ (k : ℕ). formFrom s n i k t at) z
+
+    -- it is the form of the traces that are counted, and of the end behind them
+    abbrev formAt : ℕ → Check
+    formAt j = traceFormIn tag04 s n i (tracePlaceIn tag04 s n j)
+
+    abbrev form-of : ℕ → ℕ → Check
+    form-of k t = then (firstOf (walk formAt 1 k t)) (endCauses s (t + k) (tracePlaceIn tag04 s n (t + k)))
+
+    form-next : (k t : ℕ) → form-of (suc k) t ≡ then (formAt t) (form-of k (t + 1))
+    form-next k t =
+        let a : t + suc k ≡ t + 1 + k = omega arith in
+        then-assoc (formAt t) (firstOf (walk formAt 1 k (t + 1))) (endCauses s (t + suc k) (tracePlaceIn tag04 s n (t + suc k)))
+        ∙ ap (λ (x : ℕ). then (formAt t) (then (firstOf (walk formAt 1 k (t + 1))) (endCauses s x (tracePlaceIn tag04 s n x)))) a
+
+    form-from : (left t : ℕ) → formFrom s n i left t (tracePlaceIn tag04 s n t) ≡ form-of (runFrom (isTraceIn tag04 s n) left t) t
+    unfolding formFrom runFrom
+    form-from zero t = ap (λ (x : ℕ). endCauses s x (tracePlaceIn tag04 s n x)) (sym (add-zero t))
+    form-from (suc left) t = go (isTraceIn tag04 s n t) (form-from left (t + 1))
+      where
+        go : (b : Bool) → formFrom s n i left (t + 1) (tracePlaceIn tag04 s n (t + 1)) ≡ form-of (runFrom (isTraceIn tag04 s n) left (t + 1)) (t + 1)
+            → pick b (then (formAt t) (formFrom s n i left (t + 1) (behindTraceIn tag04 s n (tracePlaceIn tag04 s n t)))) (endCauses s t (tracePlaceIn tag04 s n t))
+            ≡ form-of (pick b (suc (runFrom (isTraceIn tag04 s n) left (t + 1))) 0) t
+        go true e =
+            ap (λ (x : ℕ). then (formAt t) (formFrom s n i left (t + 1) x)) (sym (place-next tag04 s n t))
+            ∙ ap (then (formAt t)) e ∙ sym (form-next (runFrom (isTraceIn tag04 s n) left (t + 1)) t)
+        go false e = ap (λ (x : ℕ). endCauses s x (tracePlaceIn tag04 s n x)) (sym (add-zero t))
 
     -- from the first trace on, it is that of the record's traces and its end
-    pub body-is : bodyCauses s n i (heldCount s n) ≡ formFrom s n i mostTraces 0 tracesPlace
-    unfolding bodyCauses formFrom
+    pub body-is : bodyCausesIn tag04 s n i (heldCount s n) ≡ formFrom s n i mostTraces 0 tracesPlace
+    unfolding bodyCausesIn tracePlaceIn
     body-is =
         let k = heldCount s n in
-        ap (λ (x : ℕ). then (firstOf (walk (traceForm s n i) (heldStride n) k tracesPlace)) (endCauses s x (tracesPlace + k * heldStride n))) (sym (zero-add k))
+        ap (λ (x : ℕ). then (firstOf (each formAt k)) (endCauses s x (tracePlaceIn tag04 s n x))) (sym (zero-add k)) ∙ sym (form-from mostTraces 0)
 
 -- ## The whole record
 
--- a valid record ends behind tag 05
-pub held-length : (s : List ℕ) → formCauses s ≡ Fine → length s ≡ 3273 + heldCount s (heldSamples s) * heldStride (heldSamples s)
-unfolding formCauses bodyCauses
-held-length s e =
+-- behind the traces of a valid record stands its end
+pub end-fine : (k : Kind) (s : List ℕ) → formCausesIn k s ≡ Fine
+    → let t = heldCountIn k s (heldSamples s) in endCauses s t (tracePlaceIn k s (heldSamples s) t) ≡ Fine
+unfolding formCausesIn bodyCausesIn
+end-fine k s e =
     let n = heldSamples s in
-    let t = heldCount s n in
-    let at = tracesPlace + t * heldStride n in
     let a = then-fine (cardsCauses s) _ e in
     let b = then-fine (binaryCauses s) _ (a .1) in
-    let c = then-fine (firstOf (walk (traceForm s n (heldInterval s)) (heldStride n) t tracesPlace)) _ (b .1) in
-    let d = then-fine (fieldCause s 5 4 at) _ (c .1) in
+    then-fine (firstOf (each (λ j. traceFormIn k s n (heldInterval s) (tracePlaceIn k s n j)) (heldCountIn k s n))) _ (b .1) .1
+
+-- it ends there
+pub held-length : (k : Kind) (s : List ℕ) → formCausesIn k s ≡ Fine → length s ≡ tracePlaceIn k s (heldSamples s) (heldCountIn k s (heldSamples s)) + 7
+held-length k s e =
+    let t = heldCountIn k s (heldSamples s) in
+    let at = tracePlaceIn k s (heldSamples s) t in
+    let d = then-fine (fieldCause s 5 4 at) _ (end-fine k s e) in
     let f = then-fine (refuseIf (not (eqb (number (bytesAt s (at + 3) 4)) t)) 12 at) _ (d .1) in
     let g = then-fine (refuseIf (ltb (at + 7) (length s)) 12 (at + 7)) _ (f .1) in
     omega (arith, field-room s 5 4 at (d .0), ltb-false (at + 7) (length s) (passed _ _ _ (g .0)))
 
 -- so its last four bytes say how many traces it has
-pub held-count : (s : List ℕ) → formCauses s ≡ Fine → number (bytesAt s (length s - 4) 4) ≡ heldCount s (heldSamples s)
-unfolding formCauses bodyCauses
-held-count s e =
-    let n = heldSamples s in
-    let t = heldCount s n in
-    let at = tracesPlace + t * heldStride n in
-    let a = then-fine (cardsCauses s) _ e in
-    let b = then-fine (binaryCauses s) _ (a .1) in
-    let c = then-fine (firstOf (walk (traceForm s n (heldInterval s)) (heldStride n) t tracesPlace)) _ (b .1) in
-    let d = then-fine (fieldCause s 5 4 at) _ (c .1) in
+pub held-count : (k : Kind) (s : List ℕ) → formCausesIn k s ≡ Fine → number (bytesAt s (length s - 4) 4) ≡ heldCountIn k s (heldSamples s)
+held-count k s e =
+    let t = heldCountIn k s (heldSamples s) in
+    let at = tracePlaceIn k s (heldSamples s) t in
+    let d = then-fine (fieldCause s 5 4 at) _ (end-fine k s e) in
     let f = then-fine (refuseIf (not (eqb (number (bytesAt s (at + 3) 4)) t)) 12 at) _ (d .1) in
-    let p : length s - 4 ≡ at + 3 = omega (arith, held-length s e) in
+    let p : length s - 4 ≡ at + 3 = omega (arith, held-length k s e) in
     ap (λ (x : ℕ). number (bytesAt s x 4)) p ∙ eqb-true (number (bytesAt s (at + 3) 4)) t (not-false _ (passed _ 12 at (f .0)))
 
 -- its first two fields stand whole, and its numbers are within their limits
@@ -238,22 +359,22 @@ headed s e =
 -- the causes 12 and 13, where the first two fields are right
 pub form-is : (s : List ℕ) → then (cardsCauses s) (binaryCauses s) ≡ Fine
     → formCauses s ≡ formFrom s (heldSamples s) (heldInterval s) mostTraces 0 tracesPlace
-unfolding formCauses
+unfolding formCausesIn
 form-is s e =
     let n = heldSamples s in
     let a = then-fine (cardsCauses s) _ e in
-    ap (λ x. then x (then (binaryCauses s) (bodyCauses s n (heldInterval s) (heldCount s n)))) (a .0)
-    ∙ ap (λ x. then x (bodyCauses s n (heldInterval s) (heldCount s n))) (a .1)
+    ap (λ x. then x (then (binaryCauses s) (bodyCausesIn tag04 s n (heldInterval s) (heldCount s n)))) (a .0)
+    ∙ ap (λ x. then x (bodyCausesIn tag04 s n (heldInterval s) (heldCount s n))) (a .1)
     ∙ body-is s n (heldInterval s)
 
 -- and where they are not
 pub form-stop : (s : List ℕ) {number : ℕ} {place : Place} → then (cardsCauses s) (binaryCauses s) ≡ Refused number place
     → formCauses s ≡ Refused number place
-unfolding formCauses
+unfolding formCausesIn
 form-stop s e =
-    let body = bodyCauses s (heldSamples s) (heldInterval s) (heldCount s (heldSamples s)) in
+    let body = bodyCausesIn tag04 s (heldSamples s) (heldInterval s) (heldCount s (heldSamples s)) in
     sym (then-assoc (cardsCauses s) (binaryCauses s) body) ∙ ap (λ x. then x body) e
 
 -- N and T of a valid record
 pub numbers-held : (s : List ℕ) → formCauses s ≡ Fine → judged.Fine (numbersIn s .samples) (numbersIn s .traces) ≡ recordFound s Fine
-numbers-held s e = ap (judged.Fine (heldSamples s)) (held-count s e)
+numbers-held s e = ap (judged.Fine (heldSamples s)) (held-count tag04 s e)

@@ -3,3 +3,4 @@ pub mod HeaderLaws
 pub mod FormLaws
 pub mod JudgedLaws
 pub mod StoredLaws
+pub mod AlikeLaws

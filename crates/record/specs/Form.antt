@@ -14,10 +14,12 @@ use Rattle.numbers.specs.declared.Check.the-variants.{Fine, Refused}
 use Rattle.record.specs.declared.Numbers.{Numbers}
 use Rattle.record.specs.declared.Judged.{Judged}
 use Rattle.record.specs.declared.Judged.the-variants as judged
-use Rattle.value.specs.Pair.{isCanonical, pairLength, pairIn}
+use Rattle.fields.specs.Fields.{each, runFrom, fieldsLength, inFields}
 use Rattle.reel.specs.Layout.{cardBytes, number16}
 use Rattle.reel.specs.Causes.{mostSamples, mostTraces, mostInterval, within}
 use Rattle.headers.specs.Header.{headerSize, smallestCauses}
+use Rattle.record.specs.Kind.{Kind, tag04}
+use Rattle.record.specs.Record.{fieldSamples}
 
 -- ## A field
 
@@ -96,24 +98,9 @@ binaryCauses s = then (fieldCause s 2 binarySize binaryPlace) (numberCauses (hel
 abbrev pub tracesPlace : ℕ
 tracesPlace = binaryPlace + (fieldHead + binarySize)
 
--- From a trace's tag 03 to its tag 04, 183 bytes, and to the first pair behind that tag and its length, 186.
+-- From a trace's tag 03 to its first sample field, 183 bytes.
 abbrev pub toSamples : ℕ
 toSamples = fieldHead + headerSize
-
-abbrev pub toPairs : ℕ
-toPairs = toSamples + fieldHead
-
--- The bytes of a record's trace of n samples.
-abbrev pub heldStride : ℕ → ℕ
-heldStride n = toPairs + pairLength * n
-
--- 13: a pair that isn't canonical, at the place of its first byte.
-abbrev pub pairCause : List ℕ → ℕ → Check
-pairCause s at = refuseIf (not (isCanonical (pairIn (bytesAt s at pairLength)))) 13 at
-
--- The samples of a trace: tag 04 with n pairs.
-unfoldable pub samplesCauses : List ℕ → ℕ → ℕ → Check
-samplesCauses s n at = then (fieldCause s 4 (pairLength * n) at) (firstOf (walk (pairCause s) pairLength n (at + fieldHead)))
 
 -- A trace's header: tag 03 with its 180 bytes, of which fields 69 and 71 must be the scalars of the smallest powers, and 115 and 117 like
 -- the reel's n and i: "in tag 03 the order is 69, 71, 115, 117" (document 02, CR 2). Byte number 1 stands behind the tag and its length.
@@ -123,19 +110,6 @@ headerCauses s n i at =
     (then (smallestCauses s (at + fieldHead))
     (then (refuseIf (not (eqb (number16 s (bytePlace (at + fieldHead) 115)) n)) 13 (bytePlace (at + fieldHead) 115))
     (refuseIf (not (eqb (number16 s (bytePlace (at + fieldHead) 117)) i)) 13 (bytePlace (at + fieldHead) 117))))
-
--- A trace: its header, then its samples.
-unfoldable pub traceForm : List ℕ → ℕ → ℕ → ℕ → Check
-traceForm s n i at = then (headerCauses s n i at) (samplesCauses s n (at + toSamples))
-
--- How many tags 03 follow each other from the place `at` on, w bytes apart; the first argument is the most that are counted.
-unfoldable pub tagsFrom : ℕ → List ℕ → ℕ → ℕ → ℕ
-tagsFrom zero s w at = 0
-tagsFrom (suc most) s w at = pick (eqb (getD s at 0) 3) (suc (tagsFrom most s w (at + w))) 0
-
--- T, the traces of a record of n samples a trace: 100,000 at most, so that behind them trace 100,001 stands where tag 05 should.
-abbrev pub heldCount : List ℕ → ℕ → ℕ
-heldCount s n = tagsFrom mostTraces s (heldStride n) tracesPlace
 
 -- ## The end
 
@@ -152,17 +126,80 @@ endCauses s t at =
     ∷ refuseIf (ltb (at + endSize) (length s)) 12 (at + endSize)
     ∷ [])
 
--- t traces of n samples with interval i, and what stands behind them.
-unfoldable pub bodyCauses : List ℕ → ℕ → ℕ → ℕ → Check
-bodyCauses s n i t =
-    then (firstOf (walk (traceForm s n i) (heldStride n) t tracesPlace)) (endCauses s t (tracesPlace + t * heldStride n))
+-- ## Samples, traces and the whole record, by the kind of its sample fields
+
+module _ (k : Kind) where
+  -- 13: a pair that isn't canonical, at the place of its first byte.
+  abbrev pub pairCauseIn : List ℕ → ℕ → Check
+  pairCauseIn s at = refuseIf (not (k .canonical (bytesAt s at (k .width)))) 13 at
+
+  -- A field of `count` samples: 12 for its tag and length, then 13 for its pairs.
+  unfoldable pub fieldFormIn : List ℕ → ℕ → ℕ → Check
+  fieldFormIn s count at =
+      then (fieldCause s (k .tag) (count * k .width) at) (firstOf (walk (pairCauseIn s) (k .width) count (at + fieldHead)))
+
+  -- A trace of n samples, whose first sample field stands at the place `at`, has the earlier single field: n is from 6,001 to the most that
+  -- such a field had, and the length behind that tag is that of all n samples. "each trace judged by itself" (document 02, CR 8).
+  abbrev pub isEarlierIn : List ℕ → ℕ → ℕ → Bool
+  isEarlierIn s n at = (ltb fieldSamples n && leb n (k .earlier)) && eqb (number16 s (at + 1)) (n * k .width)
+
+  -- The samples of each of its fields but the last, which has the rest: all n in the earlier form, else 6,000.
+  abbrev pub shareIn : List ℕ → ℕ → ℕ → ℕ
+  shareIn s n at = pick (isEarlierIn s n at) n fieldSamples
+
+  -- Its samples, field by field.
+  unfoldable pub samplesCausesIn : List ℕ → ℕ → ℕ → Check
+  samplesCausesIn s n at = firstOf (inFields (fieldFormIn s) (k .width) (shareIn s n at) n at)
+
+  -- A trace: its header, then its samples.
+  unfoldable pub traceFormIn : List ℕ → ℕ → ℕ → ℕ → Check
+  traceFormIn s n i at = then (headerCauses s n i at) (samplesCausesIn s n (at + toSamples))
+
+  -- The bytes of the trace of n samples at a place, by its own form.
+  abbrev pub heldStrideIn : List ℕ → ℕ → ℕ → ℕ
+  heldStrideIn s n at = toSamples + fieldsLength (k .width) (shareIn s n (at + toSamples)) n
+
+  -- The place behind the trace of n samples at a place.
+  unfoldable pub behindTraceIn : List ℕ → ℕ → ℕ → ℕ
+  behindTraceIn s n at = at + heldStrideIn s n at
+
+  -- The place of trace t, counted from 0: behind the trace before it, whatever form that has. Behind the last trace it is the place of
+  -- tag 05.
+  unfoldable pub tracePlaceIn : List ℕ → ℕ → ℕ → ℕ
+  tracePlaceIn s n zero = tracesPlace
+  tracePlaceIn s n (suc t) = behindTraceIn s n (tracePlaceIn s n t)
+
+  -- Tag 03 stands where trace t should.
+  abbrev pub isTraceIn : List ℕ → ℕ → ℕ → Bool
+  isTraceIn s n t = eqb (getD s (tracePlaceIn s n t) 0) 3
+
+  -- T, the traces that follow each other: 100,000 at most, so that behind them trace 100,001 stands where tag 05 should.
+  abbrev pub heldCountIn : List ℕ → ℕ → ℕ
+  heldCountIn s n = runFrom (isTraceIn s n) mostTraces 0
+
+  -- t traces of n samples with interval i, and what stands behind them.
+  unfoldable pub bodyCausesIn : List ℕ → ℕ → ℕ → ℕ → Check
+  bodyCausesIn s n i t = then (firstOf (each (λ j. traceFormIn s n i (tracePlaceIn s n j)) t)) (endCauses s t (tracePlaceIn s n t))
+
+  -- 12 and 13.
+  unfoldable pub formCausesIn : List ℕ → Check
+  formCausesIn s =
+      then (cardsCauses s)
+      (then (binaryCauses s)
+      (bodyCausesIn s (heldSamples s) (heldInterval s) (heldCountIn s (heldSamples s))))
+
+-- ## Records
+
+-- The place of trace t, and T, of a record of n samples a trace.
+abbrev pub tracePlace : List ℕ → ℕ → ℕ → ℕ
+tracePlace s n t = tracePlaceIn tag04 s n t
+
+abbrev pub heldCount : List ℕ → ℕ → ℕ
+heldCount s n = heldCountIn tag04 s n
 
 -- 12 and 13. A record is valid when neither applies to it.
-unfoldable pub formCauses : List ℕ → Check
-formCauses s =
-    then (cardsCauses s)
-    (then (binaryCauses s)
-    (bodyCauses s (heldSamples s) (heldInterval s) (heldCount s (heldSamples s))))
+abbrev pub formCauses : List ℕ → Check
+formCauses s = formCausesIn tag04 s
 
 -- ## What judging finds
 

@@ -1,31 +1,55 @@
--- What a record holds: its meaning, from the record's bytes.
-use Prim.Native.Nat.{ℕ, _+_}
+-- What a record holds: its meaning, from the record's bytes, whatever the form of each trace.
+use Prim.Native.Nat.{ℕ, _+_, _<_}
+use mathlib.Core.Path.{_≡_}
+use mathlib.Core.Bool.{false}
 use mathlib.Core.List.{List, map}
 use lib.IntN.{ℤ}
-use Rattle.numbers.specs.Walk.{walk, bytesAt}
-use Rattle.value.specs.Pair.{valueOf, pairLength, pairIn}
+use Rattle.numbers.specs.Walk.{bytesAt}
+use Rattle.fields.specs.Fields.{each, pairPlace}
 use Rattle.reel.specs.Layout.{cardBytes, binaryFields, fieldNumber}
 use Rattle.reel.specs.Meaning.{otherThan, headerOf, Trace, Meaning}
-use Rattle.record.specs.Form.{fieldHead, binaryStart, toPairs, heldSamples, heldStride, heldCount, tracesPlace}
+use Rattle.record.specs.Kind.{Kind, tag04}
+use Rattle.record.specs.Record.{recordOf}
+use Rattle.record.specs.Form.{fieldHead, binaryStart, toSamples, heldSamples, isEarlierIn, shareIn, tracePlaceIn, heldCountIn}
 
--- The value of the pair at a place.
+module _ (k : Kind) where
+  -- The value of the pair at a place.
+  abbrev pub heldValueIn : List ℕ → ℕ → ℤ
+  heldValueIn s at = k .value (bytesAt s at (k .width))
+
+  -- The values of n samples whose first field stands at the place `at`.
+  unfoldable pub heldValuesIn : List ℕ → ℕ → ℕ → List ℤ
+  heldValuesIn s n at = each (λ j. heldValueIn s (pairPlace (k .width) (shareIn k s n at) at j)) n
+
+  -- The trace of n samples whose tag 03 stands at the place `at`: its header stands behind that tag.
+  unfoldable pub heldTraceIn : List ℕ → ℕ → ℕ → Trace
+  heldTraceIn s n at = record { header = headerOf (fieldNumber s (at + fieldHead)); values = heldValuesIn s n (at + toSamples) }
+
+  -- What a record holds: the card bytes behind tag 01, the 26 binary numbers behind tag 02, where byte number 1 would stand at the place 6,
+  -- and its traces.
+  unfoldable pub heldByIn : List ℕ → Meaning
+  heldByIn s =
+      record {
+        cards = bytesAt s fieldHead cardBytes;
+        binary = map (fieldNumber s binaryStart) (otherThan 3225 binaryFields);
+        traces = each (λ t. heldTraceIn s (heldSamples s) (tracePlaceIn k s (heldSamples s) t)) (heldCountIn k s (heldSamples s));
+      }
+
+  -- No trace has the earlier single field.
+  abbrev pub IsNewestIn : List ℕ → Type 0
+  IsNewestIn s = (t : ℕ) → t < heldCountIn k s (heldSamples s) → isEarlierIn k s (heldSamples s) (tracePlaceIn k s (heldSamples s) t + toSamples) ≡ false
+
+-- Of a record.
 abbrev pub heldValue : List ℕ → ℕ → ℤ
-heldValue s at = valueOf (pairIn (bytesAt s at pairLength))
+heldValue s at = heldValueIn tag04 s at
 
--- The trace of n samples whose tag 03 stands at the place `at`: its header stands behind that tag, its pairs behind tag 04.
-unfoldable pub heldTrace : List ℕ → ℕ → ℕ → Trace
-heldTrace s n at =
-    record {
-      header = headerOf (fieldNumber s (at + fieldHead));
-      values = walk (heldValue s) pairLength n (at + toPairs);
-    }
+abbrev pub heldBy : List ℕ → Meaning
+heldBy s = heldByIn tag04 s
 
--- What a record holds: the card bytes behind tag 01, the 26 binary numbers behind tag 02, where byte number 1 would stand at the place 6,
--- and its traces.
-unfoldable pub heldBy : List ℕ → Meaning
-heldBy s =
-    record {
-      cards = bytesAt s fieldHead cardBytes;
-      binary = map (fieldNumber s binaryStart) (otherThan 3225 binaryFields);
-      traces = walk (heldTrace s (heldSamples s)) (heldStride (heldSamples s)) (heldCount s (heldSamples s)) tracesPlace;
-    }
+abbrev pub IsNewest : List ℕ → Type 0
+IsNewest s = IsNewestIn tag04 s
+
+-- The record of what a record holds, in the newest form: "wherever a written record is said to come back, an earlier one comes back in that
+-- form" (document 02, CR 8).
+abbrev pub renewed : List ℕ → List ℕ
+renewed s = recordOf (heldBy s)

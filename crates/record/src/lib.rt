@@ -1,7 +1,7 @@
 // The form of a record: the causes 12 and 13 against any bytes that are lent as one.
 ghost use mathlib.Core.Path.{_≡_};
 ghost use mathlib.Core.Bool.{not, _&&_};
-ghost use Prim.Native.Nat.{_+_, _-_, _*_, _≤_, _<_};
+ghost use Prim.Native.Nat.{_+_, _-_, _*_, _^_, _≤_, _<_, min};
 ghost use lib.ListN.{length, getD};
 ghost use lib.Dec.{leb, ltb, eqb};
 ghost use Rattle.numbers.specs.Walk.{walk, bytesAt};
@@ -10,8 +10,9 @@ ghost use Rattle.numbers.specs.Places.{placeNo, byteNo, bytePlace};
 ghost use Rattle.value.specs.Pair.{pairIn};
 ghost use Rattle.reel.specs.Layout.{number16};
 ghost use Rattle.reel.specs.Causes.{mostTraces};
-ghost use Rattle.record.specs.Form.{fieldHead, fieldCause, cardCause, cardsCauses, numberCauses, binaryStart, binaryCauses, pairCause, traceForm, endCauses, formCauses, numbersIn, recordJudged};
-ghost use Rattle.record.specs.Parts.{headForm, formFrom};
+ghost use Rattle.record.specs.Kind.{tag04};
+ghost use Rattle.record.specs.Form.{fieldHead, toSamples, fieldCause, cardCause, cardsCauses, numberCauses, binaryStart, binaryCauses, pairCauseIn, fieldFormIn, shareIn, heldStrideIn, headerCauses, traceFormIn, endCauses, formCauses, numbersIn, recordJudged};
+ghost use Rattle.record.specs.Parts.{fieldsForm, formFrom};
 use numbers::ByteNo;
 use numbers::Check;
 use numbers::Place;
@@ -70,26 +71,18 @@ fn ends_within(bytes: usize, size: usize, at: usize) -> bool
 }
 
 // 12: whether a field of this tag and length stands whole at a place.
-fn check_field(record: &[u8], tag: u8, size: usize, at: usize) -> Check
-    ensures { λ r. ⌜ r ≡ fieldCause (now («record» .entry)) tag size at ⌝ }
+pub fn check_field(record: &[u8], tag: u8, size: usize, place: Place) -> Check
+    ensures { λ r. ⌜ r ≡ fieldCause (now («record» .entry)) tag size (placeNo place) ⌝ }
 {
+    let at = place.0;
     if !ends_within(record.len(), size, at) {
-        return Check::Refused {
-            number: 12,
-            place: Place(at),
-        };
+        return Check::Refused { number: 12, place };
     }
     if record[at] != tag {
-        return Check::Refused {
-            number: 12,
-            place: Place(at),
-        };
+        return Check::Refused { number: 12, place };
     }
     if slices::number16_at(record, Place(at + 1)) as usize != size {
-        return Check::Refused {
-            number: 12,
-            place: Place(at),
-        };
+        return Check::Refused { number: 12, place };
     }
     Check::Fine
 }
@@ -118,7 +111,7 @@ fn check_card_bytes(record: &[u8]) -> Check
 fn check_cards(record: &[u8]) -> Check
     ensures { λ r. ⌜ r ≡ cardsCauses (now («record» .entry)) ⌝ }
 {
-    let a = check_field(record, 1, 3200, 0);
+    let a = check_field(record, 1, 3200, Place(0));
     let Check::Fine = a else {
         return a;
     };
@@ -152,7 +145,7 @@ fn check_numbers(i: u16, n: u16, code: u16) -> Check
     let b = reel::check_limits(
         n as usize,
         1,
-        8000,
+        32767,
         13,
         places::field_at(Place(6), ByteNo(3221)),
     );
@@ -174,7 +167,7 @@ fn binary_number(record: &[u8], b: ByteNo) -> u16
 fn check_binary(record: &[u8]) -> Check
     ensures { λ r. ⌜ r ≡ binaryCauses (now («record» .entry)) ⌝ }
 {
-    let a = check_field(record, 2, 60, 3203);
+    let a = check_field(record, 2, 60, Place(3203));
     let Check::Fine = a else {
         return a;
     };
@@ -203,7 +196,7 @@ fn pair_at(record: &[u8], at: usize) -> Pair
 // 13: the first of n pairs from start on that isn't canonical.
 fn check_canonical(record: &[u8], n: usize, start: usize) -> Check
     requires { ⌜ start + n * 6 ≤ length (now «record») ⌝ }
-    ensures { λ r. ⌜ r ≡ firstOf (walk (pairCause (now («record» .entry))) 6 n start) ⌝ }
+    ensures { λ r. ⌜ r ≡ firstOf (walk (pairCauseIn tag04 (now («record» .entry))) 6 n start) ⌝ }
 {
     let mut at = start;
     let mut left = n;
@@ -229,12 +222,12 @@ fn check_like(record: &[u8], start: usize, b: ByteNo, own: u16) -> Check
     check_same(slices::number16_at(record, p), own, p)
 }
 
-// 12 and 13 of a trace whose tag 03 stands at a place, but for its pairs.
-pub fn check_head(record: &[u8], n: u16, i: u16, at: Place) -> Check
-    ensures { λ r. ⌜ r ≡ headForm (now («record» .entry)) n i (placeNo at) ⌝ }
+// 12 and 13 of a trace's header, whose tag 03 should stand at a place.
+pub fn check_header(record: &[u8], n: u16, i: u16, at: Place) -> Check
+    ensures { λ r. ⌜ r ≡ headerCauses (now («record» .entry)) n i (placeNo at) ⌝ }
 {
     let p = at.0;
-    let a = check_field(record, 3, 180, p);
+    let a = check_field(record, 3, 180, at);
     let Check::Fine = a else {
         return a;
     };
@@ -246,22 +239,89 @@ pub fn check_head(record: &[u8], n: u16, i: u16, at: Place) -> Check
     let Check::Fine = c else {
         return c;
     };
-    let d = check_like(record, p + 3, ByteNo(117), i);
-    let Check::Fine = d else {
-        return d;
+    check_like(record, p + 3, ByteNo(117), i)
+}
+
+// The samples of each field but the last, in the trace of n samples whose tag 03 stands at a place: all n in the earlier form, else 6,000.
+pub fn share_at(record: &[u8], n: u16, at: Place) -> usize
+    ensures { λ r. ⌜ r ≡ shareIn tag04 (now («record» .entry)) n (placeNo at + toSamples) ⌝ }
+{
+    let p = at.0;
+    if n <= 6000 {
+        return 6000;
+    }
+    if 8000 < n {
+        return 6000;
+    }
+    if !ends_within(record.len(), 180, p) {
+        return 6000;
+    }
+    if slices::number16_at(record, Place(p + 184)) != n * 6 {
+        return 6000;
+    }
+    n as usize
+}
+
+// The bytes of that trace.
+pub fn stride_at(record: &[u8], n: u16, at: Place) -> usize
+    ensures { λ r. ⌜ r ≡ heldStrideIn tag04 (now («record» .entry)) n (placeNo at) ⌝ }
+{
+    let c = share_at(record, n, at);
+    let m = n as usize;
+    183 + (3 * ((m + (c - 1)) / c) + m * 6)
+}
+
+// The smaller of two numbers.
+pub fn least(a: usize, b: usize) -> usize
+    ensures { λ r. ⌜ r ≡ min a b ⌝ }
+{
+    if a < b {
+        return a;
+    }
+    b
+}
+
+// 12, then 13, of a field of samples.
+fn check_one_form(record: &[u8], count: usize, at: usize) -> Check
+    requires { ⌜ count < 2 ^ 16 ⌝ }
+    ensures { λ r. ⌜ r ≡ fieldFormIn tag04 (now («record» .entry)) count at ⌝ }
+{
+    let a = check_field(record, 4, count * 6, Place(at));
+    let Check::Fine = a else {
+        return a;
     };
-    check_field(record, 4, 6 * n as usize, p + 183)
+    check_canonical(record, count, at + 3)
+}
+
+// The same of n samples in fields of c.
+fn check_fields_form(record: &[u8], c: usize, n: usize, start: usize) -> Check
+    requires { ⌜ (0 < c) × (n < 2 ^ 16) ⌝ }
+    ensures { λ r. ⌜ r ≡ fieldsForm (now («record» .entry)) c n start ⌝ }
+{
+    let mut at = start;
+    let mut left = n;
+    while 0 < left {
+        let count = least(c, left);
+        let a = check_one_form(record, count, at);
+        let Check::Fine = a else {
+            return a;
+        };
+        at += 3 + count * 6;
+        left -= count;
+    }
+    Check::Fine
 }
 
 // 12 and 13 of a trace.
 fn check_trace_form(record: &[u8], n: u16, i: u16, at: usize) -> Check
-    ensures { λ r. ⌜ r ≡ traceForm (now («record» .entry)) n i at ⌝ }
+    ensures { λ r. ⌜ r ≡ traceFormIn tag04 (now («record» .entry)) n i at ⌝ }
 {
-    let a = check_head(record, n, i, Place(at));
+    let a = check_header(record, n, i, Place(at));
     let Check::Fine = a else {
         return a;
     };
-    check_canonical(record, n as usize, at + 186)
+    let c = share_at(record, n, Place(at));
+    check_fields_form(record, c, n as usize, at + 183)
 }
 
 // Whether a trace is to be looked for at a place, behind t traces: tag 03 stands there, and it is not trace 100,001.
@@ -283,7 +343,7 @@ pub fn check_end(record: &[u8], t: usize, at: Place) -> Check
     ensures { λ r. ⌜ r ≡ endCauses (now («record» .entry)) t (placeNo at) ⌝ }
 {
     let p = at.0;
-    let a = check_field(record, 5, 4, p);
+    let a = check_field(record, 5, 4, at);
     let Check::Fine = a else {
         return a;
     };
@@ -306,7 +366,6 @@ pub fn check_end(record: &[u8], t: usize, at: Place) -> Check
 pub fn check_rest(record: &[u8], n: u16, i: u16, done: usize, start: Place) -> Check
     ensures { λ r. ⌜ r ≡ formFrom (now («record» .entry)) n i (mostTraces - done) done (placeNo start) ⌝ }
 {
-    let w = 186 + 6 * n as usize;
     let mut at = start.0;
     let mut t = done;
     while is_trace(record, t, Place(at)) {
@@ -314,7 +373,7 @@ pub fn check_rest(record: &[u8], n: u16, i: u16, done: usize, start: Place) -> C
         let Check::Fine = c else {
             return c;
         };
-        at += w;
+        at += stride_at(record, n, Place(at));
         t += 1;
     }
     check_end(record, t, Place(at))
@@ -336,7 +395,7 @@ pub fn check_front(record: &[u8]) -> Check
 fn judge_front(record: &[u8]) -> Check
     ensures { λ r. ⌜ r ≡ then (cardsCauses (now («record» .entry))) (binaryCauses (now («record» .entry))) ⌝ }
 {
-    let a = check_field(record, 1, 3200, 0);
+    let a = check_field(record, 1, 3200, Place(0));
     let Check::Fine = a else {
         return a;
     };

@@ -99,8 +99,8 @@ header-fine k code n i e =
     let z = in-limits 1 32767 i 4 3216 (c .0) in
     record { is-code = allowed-code k code (not-false (allows k code) (passed (not (allows k code)) 2 3224 (a .0))); n-low = y .0; n-high = y .1; i-low = z .0; i-high = z .1 }
 
--- a trace is from 240 to 32,240 bytes, and with a trailer 960 more
-pub stride-high : (code n : ℕ) → n ≤ mostSamples → stride n (sampleBytes code) ≤ 32240
+-- a trace is from 240 to 131,308 bytes, and with a trailer 960 more
+pub stride-high : (code n : ℕ) → n ≤ mostSamples → stride n (sampleBytes code) ≤ 131308
 stride-high code n h = let l = mul-le-mul h (width-high code) in omega arith
 
 -- in either layout it has its header and its samples

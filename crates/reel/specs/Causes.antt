@@ -23,7 +23,7 @@ use Rattle.reel.specs.Layout.{Field, firstTrace, traceHeader, elevationS
 
 -- The most samples of a trace, and the most traces of a reel.
 abbrev pub mostSamples : ℕ
-mostSamples = 8000
+mostSamples = 32767
 
 abbrev pub mostTraces : ℕ
 mostTraces = 100000
@@ -45,7 +45,7 @@ abbrev pub allows : Layout → ℕ → Bool
 allows Plain code = isCode code
 allows Eagle code = eqb code 1
 
--- 2, 3, 4: format code not allowed, place 3224; N not 1 to 8,000, place 3220; interval not 1 to 32,767, place 3216.
+-- 2, 3, 4: format code not allowed, place 3224; N not 1 to 32,767, place 3220; interval not 1 to 32,767, place 3216.
 abbrev pub limitCausesBy : Layout → ℕ → ℕ → ℕ → Check
 limitCausesBy k code n i =
     firstOf

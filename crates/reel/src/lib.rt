@@ -131,7 +131,7 @@ fn check_header(layout: Layout, code: usize, n: usize, i: usize) -> Check
     let Check::Fine = a else {
         return a;
     };
-    let b = check_limits(n, 1, 8000, 3, places::field_at(Place(0), ByteNo(3221)));
+    let b = check_limits(n, 1, 32767, 3, places::field_at(Place(0), ByteNo(3221)));
     let Check::Fine = b else {
         return b;
     };
@@ -140,7 +140,7 @@ fn check_header(layout: Layout, code: usize, n: usize, i: usize) -> Check
 
 // 5 and 6: the bytes behind the last whole trace, and the count of traces.
 fn check_size(size: usize, w: usize, t: usize, over: usize) -> Check
-    requires { ⌜ (over ≤ size) × (w ≤ 40000) ⌝ }
+    requires { ⌜ (over ≤ size) × (w ≤ 140000) ⌝ }
     ensures { λ r. ⌜ r ≡ sizeCauses size w t over ⌝ }
 {
     if 0 < over {
@@ -299,7 +299,7 @@ fn check_behind(
     v: usize,
     w: usize,
 ) -> Check
-    requires { ⌜ (v ≡ sampleBytes code) × (w ≡ strideIn layout n v) × (w ≤ 40000) × (3600 ≤ length (now reel)) ⌝ }
+    requires { ⌜ (v ≡ sampleBytes code) × (w ≡ strideIn layout n v) × (w ≤ 140000) × (3600 ≤ length (now reel)) ⌝ }
     ensures { λ r. ⌜ r ≡ behindCausesBy layout (now (reel .entry)) code n i w ⌝ }
 {
     let size = reel.len();

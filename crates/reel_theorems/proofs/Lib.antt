@@ -1,3 +1,5 @@
+pub mod KindLaws
+pub mod SampleFields
 pub mod Same
 pub mod Refusals
 pub mod Output

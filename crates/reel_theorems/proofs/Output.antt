@@ -6,7 +6,7 @@
 -- reels mean the same. Each byte of a reel is below 256; nothing else is assumed.
 use mathlib.Core.Path.{_≡_, refl, sym, ap, _∙_}
 use mathlib.Core.List.{List, [], _∷_}
-use Prim.Native.Nat.{ℕ, _+_, _*_}
+use Prim.Native.Nat.{ℕ}
 use lib.ListN.{length, take, drop}
 use lib.Seq.{take-at}
 use Rattle.numbers.specs.Outcome.{taken, Outcome}
@@ -37,10 +37,10 @@ taken-reel s out numbers e = then-fine (causesOf s) _ (taken-fine s out numbers 
 pub taken-outcome : (s out numbers : List ℕ) → readOutcome s out .said ≡ taken numbers → readOutcome s out ≡ readEnd s out Fine
 taken-outcome s out numbers e = ap (readEnd s out) (taken-fine s out numbers e)
 
--- THEOREM. Where the reading of a reel is taken, the numbers returned are T, N, 3273 + T × (186 + 6N) and how many words of the reel are not
--- normal.
+-- THEOREM. Where the reading of a reel is taken, the numbers returned are T, N, the length of its record and how many words of the reel are
+-- not normal.
 pub taken-numbers : (s out numbers : List ℕ) → readOutcome s out .said ≡ taken numbers
-    → readOutcome s out .said ≡ taken (tracesOf s ∷ samplesOf s ∷ (3273 + tracesOf s * (186 + 6 * samplesOf s)) ∷ notNormalOf s ∷ [])
+    → readOutcome s out .said ≡ taken (tracesOf s ∷ samplesOf s ∷ recordLengthOf s ∷ notNormalOf s ∷ [])
 taken-numbers s out numbers e = ap (λ (o : Outcome). o .said) (taken-outcome s out numbers e)
 
 -- the length returned is that of the reel's record

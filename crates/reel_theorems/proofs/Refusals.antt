@@ -65,8 +65,8 @@ module _ (s : List ℕ) where
   code-test : Tests (isCode (codeOf s) ≡ true) 2 3224 (refuseIf (not (isCode (codeOf s))) 2 3224)
   code-test = test-code (codeOf s) 2 3224
 
-  pub samples-test : Tests (Between 1 8000 (samplesOf s)) 3 3220 (refuseIf (not (within 1 mostSamples (samplesOf s))) 3 3220)
-  samples-test = test-between 1 8000 (samplesOf s) 3 3220
+  pub samples-test : Tests (Between 1 32767 (samplesOf s)) 3 3220 (refuseIf (not (within 1 mostSamples (samplesOf s))) 3 3220)
+  samples-test = test-between 1 32767 (samplesOf s) 3 3220
 
   pub interval-test : Tests (Between 1 32767 (intervalOf s)) 4 3216 (refuseIf (not (within 1 mostInterval (intervalOf s))) 4 3216)
   interval-test = test-between 1 32767 (intervalOf s) 4 3216

@@ -3,10 +3,10 @@
 -- The first half of the user's third demand: for any two reels, each in any code, to which no cause of 1 to 9, 18 and 19 applies, the records are
 -- equal byte for byte exactly when the reels mean the same. Each byte of a reel is below 256; nothing else is assumed.
 use mathlib.Core.Path.{_≡_, refl, sym, ap, ap₂, _∙_, subst}
-use mathlib.Core.List.{List, [], _∷_, _++_, map, append-nil}
+use mathlib.Core.List.{List, [], _∷_, _++_, map}
 use mathlib.Core.Bool.{Bool, true, false}
 use Prim.Native.Nat.{ℕ, suc, _+_, _*_, _^_, _<_}
-use native.Mathlib.Nat.{eq-of-mul-eq-mul-right, mul-comm}
+use native.Mathlib.Nat.{eq-of-mul-eq-mul-right}
 use native.Mathlib.Omega.{arith}
 use lib.Dec.{eqb}
 use lib.ListN.{length, getD, drop, length-append, length-map}
@@ -22,8 +22,8 @@ use Rattle.numbers.proofs.WalkLaws.{all-at, split, cons-eq, flat-size, flat-inj
 use Rattle.numbers.proofs.ByteLaws.{bytes-at, number-at}
 use Rattle.numbers.proofs.SignLaws.{bits-signed}
 use Rattle.formats.specs.Value.{exactValue}
-use Rattle.value.specs.Pair.{pairOf, valueOf, isCanonical, pairIn, valueBytes}
-use Rattle.sample_theorems.proofs.Pairs.{pair-value, bytes-pair, value-canonical}
+use Rattle.value.specs.Pair.{pairOf, isCanonical}
+use Rattle.sample_theorems.proofs.Pairs.{value-canonical}
 use Rattle.reel.specs.Layout.{fieldsFrom, binaryWidths, binaryFields, traceWidths, traceFields, fieldNumber, firstTrace, traceHeader, samplesOf, intervalOf, codeOf, strideOf, tracesOf}
 use Rattle.formats.specs.Codes.{isCode, sampleBytes, wordLength}
 use Rattle.reel.specs.Causes.{causesOf}
@@ -34,20 +34,13 @@ use Rattle.headers.proofs.TraceLaws.{trace-front, trace-back, trace-widths, tra
 use Rattle.headers.proofs.Ranges.{Fit, Some, allSome, some-of, fit-append, size-numbers, numbers-inj, number-fits, fields-fit}
 use Rattle.headers.proofs.Listed.{header-listed}
 use Rattle.headers.proofs.HeaderBytes.{HeaderFits, listed-fits, header-size, bytes-only}
-use Rattle.record.specs.Record.{field, withCode, binaryBytes, samplesField, traceBytes, recordOf, reelRecord, recordLength}
+use Rattle.record.specs.Kind.{tag04}
+use Rattle.record.specs.Record.{field, withCode, binaryBytes, samplesFieldsIn, traceBytesIn, traceBytes, traceLength, recordOfIn, reelRecord, recordLength}
+use Rattle.reel_theorems.proofs.KindLaws.{tag04-writes}
+use Rattle.reel_theorems.proofs.SampleFields.{field-split, samples-size, samples-inj}
+pub use Rattle.reel_theorems.proofs.SampleFields.{size-field}
+use Rattle.fields.specs.Fields.{fieldsLength}
 use Rattle.record.proofs.HeaderLaws.{binary-front, binary-back, binary-widths, binary-numbers, with-code, counts, size-cards}
-
--- ## Fields
-
-pub size-field : (tag : ℕ) (l : List ℕ) → length (field tag l) ≡ 3 + length l
-unfolding field
-size-field tag l = omega arith
-
-field-split : (tag : ℕ) (l₁ l₂ r₁ r₂ : List ℕ) → length l₁ ≡ length l₂ → field tag l₁ ++ r₁ ≡ field tag l₂ ++ r₂ → (l₁ ≡ l₂) × (r₁ ≡ r₂)
-unfolding field
-field-split tag l₁ l₂ r₁ r₂ n e =
-    let h = split (field tag l₁) (field tag l₂) r₁ r₂ (size-field tag l₁ ∙ ap (λ (k : ℕ). 3 + k) n ∙ sym (size-field tag l₂)) e in
-    (ap (drop 3) (h .0), h .1)
 
 -- ## Header numbers
 
@@ -100,19 +93,12 @@ pub record Like (n : ℕ) (t : Trace) : Type 0 where
   pub count : length (t .values) ≡ n
   pub canonical : All (λ v. isCanonical (pairOf v) ≡ true) (t .values)
 
-value-inj : (v w : ℤ) → isCanonical (pairOf v) ≡ true → isCanonical (pairOf w) ≡ true → valueBytes v ≡ valueBytes w → v ≡ w
-value-inj v w p q e =
-    let same : pairOf v ≡ pairOf w = sym (bytes-pair (pairOf v) p) ∙ ap pairIn e ∙ bytes-pair (pairOf w) q in
-    sym (pair-value v) ∙ ap valueOf same ∙ pair-value w
-
-samples-size : (n : ℕ) (t : Trace) → Like n t → length (flat (map valueBytes (t .values))) ≡ n * 6
-samples-size n t h = flat-size valueBytes (λ v. isCanonical (pairOf v) ≡ true) 6 (λ v p. refl) (t .values) (h .canonical) ∙ ap (λ (k : ℕ). k * 6) (h .count)
-
-trace-size : (n : ℕ) (t : Trace) → Like n t → length (traceBytes t) ≡ 186 + n * 6
-unfolding traceBytes samplesField
+trace-size : (n : ℕ) (t : Trace) → Like n t → length (traceBytes t) ≡ traceLength n
+unfolding traceBytesIn
 trace-size n t h =
     let a = header-size (t .header) (h .header) in
-    simp (length-append, size-field) (omega (arith, a, samples-size n t h))
+    let b = samples-size tag04 tag04-writes (t .values) (h .canonical) ∙ ap (fieldsLength 6 6000) (h .count) in
+    simp (length-append, size-field) (omega (arith, a, b))
 
 pub trace-eq : {a b : Trace} → a .header ≡ b .header → a .values ≡ b .values → a ≡ b
 trace-eq {a} {b} p q = ap₂ made p q
@@ -121,14 +107,11 @@ trace-eq {a} {b} p q = ap₂ made p q
     made x y = record { header = x; values = y }
 
 trace-inj : (n : ℕ) (t u : Trace) → Like n t → Like n u → traceBytes t ≡ traceBytes u → t ≡ u
-unfolding traceBytes samplesField
+unfolding traceBytesIn
 trace-inj n t u p q e =
-    let a = flat (map valueBytes (t .values)) in
-    let b = flat (map valueBytes (u .values)) in
-    let h = field-split 3 (headerBytes (t .header)) (headerBytes (u .header)) (field 4 a) (field 4 b) (header-size (t .header) (p .header) ∙ sym (header-size (u .header) (q .header))) e in
-    let g = field-split 4 a b [] [] (samples-size n t p ∙ sym (samples-size n u q)) (append-nil (field 4 a) ∙ h .1 ∙ sym (append-nil (field 4 b))) in
+    let h = field-split 3 (headerBytes (t .header)) (headerBytes (u .header)) (samplesFieldsIn tag04 (t .values)) (samplesFieldsIn tag04 (u .values)) (header-size (t .header) (p .header) ∙ sym (header-size (u .header) (q .header))) e in
     trace-eq (bytes-only (t .header) (u .header) (p .header) (q .header) (h .0))
-    (flat-inj valueBytes (λ v. isCanonical (pairOf v) ≡ true) 6 (λ v c. refl) value-inj (t .values) (u .values) (p .count ∙ sym (q .count)) (p .canonical) (q .canonical) (g .0))
+    (samples-inj tag04 tag04-writes n (t .values) (u .values) (p .count) (q .count) (p .canonical) (q .canonical) (h .1))
 
 pub trace-like : (s : List ℕ) → Bytes s → (code n i at : ℕ) → isCode code ≡ true → n < 2 ^ 15 → i < 2 ^ 15 → Like n (traceMeaning s code n i at)
 unfolding traceMeaning
@@ -167,25 +150,25 @@ traces-count s = size-walk (traceMeaning s (codeOf s) (samplesOf s) (intervalOf 
 -- the record's four pieces
 record-parts : (s : List ℕ)
     → reelRecord s ≡ field 1 (cardText s) ++ (field 2 (binaryBytes 0 (binaryNumbers s)) ++ (flat (map traceBytes (tracesIn s)) ++ field 5 (bytesOf 4 (length (tracesIn s)))))
-unfolding recordOf meaningBy tracesIn
+unfolding recordOfIn meaningBy tracesIn
 record-parts s = refl
 
 size-binary : (s : List ℕ) → Bytes s → length (binaryBytes 0 (binaryNumbers s)) ≡ 60
 unfolding binaryBytes
 size-binary s h = size-numbers binaryWidths (withCode 0 (binaryNumbers s)) (binary-fit s h) ∙ counts .1
 
-size-traces : (n : ℕ) (l : List Trace) → All (Like n) l → length (flat (map traceBytes l)) ≡ length l * (186 + n * 6)
-size-traces n l h = flat-size traceBytes (Like n) (186 + n * 6) (trace-size n) l h
+size-traces : (n : ℕ) (l : List Trace) → All (Like n) l → length (flat (map traceBytes l)) ≡ length l * traceLength n
+size-traces n l h = flat-size traceBytes (Like n) (traceLength n) (trace-size n) l h
 
 size-count : (k : ℕ) → length (field 5 (bytesOf 4 k)) ≡ 7
 size-count k = size-field 5 (bytesOf 4 k)
 
--- THEOREM. A record of T traces of N samples is 3273 + T × (186 + 6N) bytes.
+-- THEOREM. A record of T traces of N samples is 3273 + T × (183 + 3F + 6N) bytes, with F fields of samples a trace.
 pub record-size : (s : List ℕ) → Bytes s → causesOf s ≡ Fine → length (reelRecord s) ≡ recordLength (tracesOf s) (samplesOf s)
 record-size s h e =
     let n = samplesOf s in
-    let t = size-traces n (tracesIn s) (traces-like s h (limits s e)) ∙ ap (λ (k : ℕ). k * (186 + n * 6)) (traces-count s) in
-    ap length (record-parts s) ∙ simp (length-append, size-field, size-cards) (omega (arith, size-binary s h, t, size-count (length (tracesIn s)), ap (λ (x : ℕ). tracesOf s * (186 + x)) (mul-comm 6 n)))
+    let t = size-traces n (tracesIn s) (traces-like s h (limits s e)) ∙ ap (λ (k : ℕ). k * traceLength n) (traces-count s) in
+    ap length (record-parts s) ∙ simp (length-append, size-field, size-cards) (omega (arith, size-binary s h, t, size-count (length (tracesIn s))))
 
 -- the 26 numbers, by the 27
 binary-same : (s₁ s₂ : List ℕ) → withCode 0 (binaryNumbers s₁) ≡ withCode 0 (binaryNumbers s₂) → binaryNumbers s₁ ≡ binaryNumbers s₂
@@ -213,7 +196,7 @@ samples-same s₁ s₂ h₁ h₂ e =
 traces-same : (n : ℕ) (l₁ l₂ : List Trace) → All (Like n) l₁ → All (Like n) l₂
     → flat (map traceBytes l₁) ++ field 5 (bytesOf 4 (length l₁)) ≡ flat (map traceBytes l₂) ++ field 5 (bytesOf 4 (length l₂)) → l₁ ≡ l₂
 traces-same n l₁ l₂ p q e =
-    let m = 186 + n * 6 in
+    let m = traceLength n in
     let sum : length l₁ * m ≡ length l₂ * m =
     omega (arith, simp length-append at (ap length e), size-traces n l₁ p, size-traces n l₂ q, size-count (length l₁), size-count (length l₂)) in
     let t : length l₁ ≡ length l₂ = eq-of-mul-eq-mul-right m (omega arith) (length l₁) (length l₂) sum in

@@ -41,7 +41,7 @@ FiniteAt s at = isFinite 8 23 (wordAt s at) ≡ true
 pub record Headed (s : List ℕ) : Type 0 where
   pub long : 3600 ≤ length s
   pub code : isCode (codeOf s) ≡ true
-  pub samples : Between 1 8000 (samplesOf s)
+  pub samples : Between 1 32767 (samplesOf s)
   pub interval : Between 1 32767 (intervalOf s)
 
 -- Nor do 5 and 6: no byte comes after the last whole trace, and there are at most 100,000.
@@ -91,10 +91,10 @@ pub data ReelRow (s : List ℕ) : ℕ → ℕ → Type 0 where
   short-reel : length s < 3600 → ReelRow s 1 (length s)
   -- 2: the format code is none of 1, 2, 3, 4, 5, 8
   bad-code : 3600 ≤ length s → ¬ (isCode (codeOf s) ≡ true) → ReelRow s 2 3224
-  -- 3: N is not 1 to 8,000
-  bad-samples : 3600 ≤ length s → isCode (codeOf s) ≡ true → ¬ (Between 1 8000 (samplesOf s)) → ReelRow s 3 3220
+  -- 3: N is not 1 to 32,767
+  bad-samples : 3600 ≤ length s → isCode (codeOf s) ≡ true → ¬ (Between 1 32767 (samplesOf s)) → ReelRow s 3 3220
   -- 4: the interval is not 1 to 32,767
-  bad-interval : 3600 ≤ length s → isCode (codeOf s) ≡ true → Between 1 8000 (samplesOf s) → ¬ (Between 1 32767 (intervalOf s)) → ReelRow s 4 3216
+  bad-interval : 3600 ≤ length s → isCode (codeOf s) ≡ true → Between 1 32767 (samplesOf s) → ¬ (Between 1 32767 (intervalOf s)) → ReelRow s 4 3216
   -- 5: bytes come after the last whole trace, at the first of them
   left-over : Headed s → traceAt s (tracesOf s) < length s → ReelRow s 5 (traceAt s (tracesOf s))
   -- 6: there are more than 100,000 traces, at trace 100,001

@@ -1,14 +1,16 @@
 -- The pieces of a reel as the code writes them: how long each is, and how many samples changed. Assumes nothing.
-use mathlib.Core.Path.{_≡_, sym, ap, _∙_}
+use mathlib.Core.Path.{_≡_, sym, ap, ap₂, _∙_}
 use mathlib.Core.Bool.{Bool, true, false}
-use mathlib.Core.List.{List, _++_, map}
-use Prim.Native.Nat.{ℕ, _+_, _-_, _*_, _≤_, _<_}
+use mathlib.Core.List.{List, [], _++_}
+use Prim.Native.Nat.{ℕ, _+_, _-_, _*_, _≤_, _<_, min}
+use native.Mathlib.Nat.{zero-mul}
 use native.Mathlib.Omega.{arith}
 use lib.ListN.{length, replicate, length-append, length-replicate}
-use Rattle.numbers.specs.Walk.{pick, walk, flat, bytesAt}
+use Rattle.numbers.specs.Walk.{pick, flat, sum, bytesAt}
+use Rattle.fields.proofs.FieldsLaws.{by-fields, in-none, in-next, times-parts}
 use Rattle.numbers.specs.Places.{bytePlace}
 use Rattle.numbers.specs.BigEndian.{bytesOf}
-use Rattle.numbers.proofs.WalkLaws.{flat-length, size-bytes, sum-none, sum-more}
+use Rattle.numbers.proofs.WalkLaws.{flat-length, flat-none, flat-more, size-bytes, sum-none, sum-more}
 use Rattle.numbers.proofs.Filling.{size-over}
 use Rattle.reel.specs.Layout.{firstTrace, stride}
 use Rattle.formats.specs.Codes.{sampleBytes}
@@ -16,8 +18,10 @@ use Rattle.write_samples.specs.Samples.{sampleWords}
 use Rattle.write_samples.specs.Nearest.{nearestWords, pairsChanged}
 use Rattle.write_samples.proofs.WordLaws.{size-samples}
 use Rattle.write_samples.proofs.NearestLaws.{size-nearest, pairs-most}
-use Rattle.record.specs.Form.{toPairs, heldStride}
-use Rattle.write_reel.specs.Copied.{zerosFor, reelHeaderCopied, samplesCopied, samplesChangedAt, reelTraceCopied, traceChangedAt, tracesChangedAt, partsCopied, reelCopied}
+use Rattle.record.specs.Kind.{tag04}
+use Rattle.record.specs.Form.{shareIn, tracePlace}
+use Rattle.record.proofs.FormLaws.{share-some}
+use Rattle.write_reel.specs.Copied.{zerosFor, reelHeaderCopied, samplesCopied, samplesChangedAt, fieldsWords, fieldsChangedAt, reelTraceCopied, traceChangedAt, tracesCopied, tracesChangedAt, partsCopied, reelCopied}
 
 -- unassigned bytes in a slice of k bytes
 pub zeroed : (out : List ℕ) (k : ℕ) {ys : List ℕ} → ys ≡ zerosFor out → length out ≡ k → ys ≡ replicate k 0
@@ -47,21 +51,65 @@ module _ (s : List ℕ) (code n at : ℕ) where
   unfolding samplesCopied samplesChangedAt
   copied-exact near e = (sym (ap (λ (b : Bool). pick b (pairsChanged s code n at) 0) e), sym (ap (λ (b : Bool). pick b (nearestWords s code n at) (sampleWords s code n at)) e))
 
-module _ (near : Bool) (s : List ℕ) (code n : ℕ) where
-  pub size-samples-copied : (at : ℕ) → length (samplesCopied near s code n at) ≡ n * sampleBytes code
+module _ (near : Bool) (s : List ℕ) (code : ℕ) where
+  pub size-samples-copied : (n at : ℕ) → length (samplesCopied near s code n at) ≡ n * sampleBytes code
   unfolding samplesCopied
-  size-samples-copied at = go near
+  size-samples-copied n at = go near
     where
       go : (near : Bool) → length (pick near (nearestWords s code n at) (sampleWords s code n at)) ≡ n * sampleBytes code
       go true = size-nearest s code n at
       go false = size-samples s code n at
 
+  pub samples-most : (n at : ℕ) → samplesChangedAt near s code n at ≤ n
+  unfolding samplesChangedAt
+  samples-most n at = go near
+    where
+      go : (near : Bool) → pick near (pairsChanged s code n at) 0 ≤ n
+      go true = pairs-most s code n at
+      go false = omega arith
+
+  -- samples in fields of c, a field at a time
+  module _ (c : ℕ) (some : 0 < c) where
+    pub words-none : (n at : ℕ) → n ≤ 0 → fieldsWords near s code c n at ≡ []
+    unfolding fieldsWords
+    words-none n at h = ap flat (in-none c some 6 (λ count p. samplesCopied near s code count (p + 3)) n at h)
+
+    pub words-more : (n at : ℕ) → 0 < n → fieldsWords near s code c n at ≡ samplesCopied near s code (min c n) (at + 3) ++ fieldsWords near s code c (n - c) (at + (3 + min c n * 6))
+    unfolding fieldsWords
+    words-more n at h = ap flat (in-next c some 6 (λ count p. samplesCopied near s code count (p + 3)) n at h)
+
+    pub changed-none : (n at : ℕ) → n ≤ 0 → fieldsChangedAt near s code c n at ≡ 0
+    unfolding fieldsChangedAt
+    changed-none n at h = ap sum (in-none c some 6 (λ count p. samplesChangedAt near s code count (p + 3)) n at h)
+
+    pub changed-more : (n at : ℕ) → 0 < n → fieldsChangedAt near s code c n at ≡ samplesChangedAt near s code (min c n) (at + 3) + fieldsChangedAt near s code c (n - c) (at + (3 + min c n * 6))
+    unfolding fieldsChangedAt
+    changed-more n at h = ap sum (in-next c some 6 (λ count p. samplesChangedAt near s code count (p + 3)) n at h)
+
+    pub size-words : (n at : ℕ) → length (fieldsWords near s code c n at) ≡ n * sampleBytes code
+    size-words =
+        by-fields c some (λ n. (at : ℕ) → length (fieldsWords near s code c n at) ≡ n * sampleBytes code)
+        (λ n h at. let z : n ≡ 0 = omega arith in ap length (words-none n at h) ∙ sym (ap (λ (x : ℕ). x * sampleBytes code) z ∙ zero-mul (sampleBytes code)))
+        (λ n h rest at.
+        ap length (words-more n at h) ∙ length-append (samplesCopied near s code (min c n) (at + 3)) _
+        ∙ ap₂ (λ (x y : ℕ). x + y) (size-samples-copied (min c n) (at + 3)) (rest (at + (3 + min c n * 6)))
+        ∙ sym (times-parts c n (sampleBytes code)))
+
+    pub changed-most : (n at : ℕ) → fieldsChangedAt near s code c n at ≤ n
+    changed-most =
+        by-fields c some (λ n. (at : ℕ) → fieldsChangedAt near s code c n at ≤ n) (λ n h at. omega (arith, changed-none n at h))
+        (λ n h rest at. omega (arith, changed-more n at h, samples-most (min c n) (at + 3), rest (at + (3 + min c n * 6))))
+
+module _ (near : Bool) (s : List ℕ) (code n : ℕ) where
   pub size-trace : (at : ℕ) → length (reelTraceCopied near s code n at) ≡ stride n (sampleBytes code)
   unfolding reelTraceCopied
-  size-trace at = simp (length-append, size-samples-copied) (omega (arith, size-bytes-header 240 s (at + 3) 180 (omega arith)))
+  size-trace at =
+      let c = shareIn tag04 s n (at + 183) in
+      simp length-append (omega (arith, size-bytes-header 240 s (at + 3) 180 (omega arith), size-words near s code c (share-some tag04 s n (at + 183)) n (at + 183)))
 
-  pub size-traces : (t at : ℕ) → length (flat (map (reelTraceCopied near s code n) (walk (λ p. p) (heldStride n) t at))) ≡ t * stride n (sampleBytes code)
-  size-traces t at = flat-length (reelTraceCopied near s code n) (λ p. p) (stride n (sampleBytes code)) size-trace (heldStride n) t at
+  pub size-traces : (k j : ℕ) → length (tracesCopied near s code n k j) ≡ k * stride n (sampleBytes code)
+  unfolding tracesCopied
+  size-traces k j = flat-length (reelTraceCopied near s code n) (tracePlace s n) (stride n (sampleBytes code)) (λ i. size-trace (tracePlace s n i)) 1 k j
 
   pub size-parts : (t : ℕ) → length (partsCopied near s code n t) ≡ firstTrace + t * stride n (sampleBytes code)
   unfolding partsCopied
@@ -71,21 +119,26 @@ module _ (near : Bool) (s : List ℕ) (code n : ℕ) where
   unfolding reelCopied
   size-reel t = size-over (partsCopied near s code n t) (bytesOf 2 code) (bytePlace 0 3225) (omega (arith, size-parts t)) ∙ size-parts t
 
+  -- traces, one at a time
+  pub copied-none : (k j : ℕ) → k ≤ 0 → tracesCopied near s code n k j ≡ []
+  unfolding tracesCopied
+  copied-none k j h = flat-none (reelTraceCopied near s code n) (tracePlace s n) 1 k j h
+
+  pub copied-more : (k j : ℕ) → 0 < k → tracesCopied near s code n k j ≡ reelTraceCopied near s code n (tracePlace s n j) ++ tracesCopied near s code n (k - 1) (j + 1)
+  unfolding tracesCopied
+  copied-more k j h = flat-more (reelTraceCopied near s code n) (tracePlace s n) 1 k j h
+
   -- ## The count
 
   -- no more of a trace than it has samples
   pub trace-most : (at : ℕ) → traceChangedAt near s code n at ≤ n
-  unfolding traceChangedAt samplesChangedAt
-  trace-most at = go near
-    where
-      go : (near : Bool) → pick near (pairsChanged s code n (at + toPairs)) 0 ≤ n
-      go true = pairs-most s code n (at + toPairs)
-      go false = omega arith
+  unfolding traceChangedAt
+  trace-most at = changed-most near s code (shareIn tag04 s n (at + 183)) (share-some tag04 s n (at + 183)) n (at + 183)
 
-  pub traces-none : (t at : ℕ) → t ≤ 0 → tracesChangedAt near s code n t at ≡ 0
+  pub traces-none : (k j : ℕ) → k ≤ 0 → tracesChangedAt near s code n k j ≡ 0
   unfolding tracesChangedAt
-  traces-none t at h = sum-none (traceChangedAt near s code n) (heldStride n) t at h
+  traces-none k j h = sum-none (λ i. traceChangedAt near s code n (tracePlace s n i)) 1 k j h
 
-  pub traces-more : (t at : ℕ) → 0 < t → tracesChangedAt near s code n t at ≡ traceChangedAt near s code n at + tracesChangedAt near s code n (t - 1) (at + heldStride n)
+  pub traces-more : (k j : ℕ) → 0 < k → tracesChangedAt near s code n k j ≡ traceChangedAt near s code n (tracePlace s n j) + tracesChangedAt near s code n (k - 1) (j + 1)
   unfolding tracesChangedAt
-  traces-more t at h = sum-more (traceChangedAt near s code n) (heldStride n) t at h
+  traces-more k j h = sum-more (λ i. traceChangedAt near s code n (tracePlace s n i)) 1 k j h

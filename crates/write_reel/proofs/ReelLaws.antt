@@ -3,72 +3,102 @@
 use mathlib.Core.Path.{_≡_, refl, sym, ap, ap₂, _∙_}
 use mathlib.Core.List.{List, [], _∷_, _++_, map, append-assoc}
 use mathlib.Core.Bool.{Bool, true, false}
-use Prim.Native.Nat.{ℕ, zero, suc, _+_, _-_}
+use Prim.Native.Nat.{ℕ, _+_, _-_, _<_}
 use borrow.Author.Tests.{not-false}
 use lib.ListN.{length, replicate}
 use Rattle.numbers.specs.Terms.{Bytes}
-use Rattle.numbers.specs.Walk.{pick, walk, flat, sum, bytesAt, overwritten}
+use Rattle.numbers.specs.Walk.{pick, flat, sum, bytesAt, overwritten}
 use Rattle.numbers.specs.Places.{bytePlace}
 use Rattle.numbers.specs.BigEndian.{bytesOf}
-use Rattle.numbers.specs.Cause.{firstOf}
 use Rattle.numbers.specs.declared.Check.the-variants.{Fine}
 use Rattle.numbers.proofs.CauseLaws.{passed, then-fine}
-use Rattle.numbers.proofs.WalkLaws.{size-bytes}
+use Rattle.numbers.proofs.WalkLaws.{size-bytes, map-walk}
+use Rattle.fields.specs.Fields.{each, pairPlace}
+use Rattle.fields.proofs.FieldsLaws.{each-like, in-like, flat-in-fields, sum-in-fields}
 use Rattle.formats.specs.Codes.{isCode}
 use Rattle.formats.specs.Nearest.{nearestValue, changes}
 use Rattle.value.specs.Pair.{isCanonical, pairLength, pairIn}
 use Rattle.reel.specs.Layout.{cardBytes, traceHeader}
-use Rattle.reel.specs.Meaning.{Trace, Meaning}
+use Rattle.reel.specs.Meaning.{Trace}
 use Rattle.headers.specs.Header.{headerBytes, headerSize}
 use Rattle.record.specs.Record.{binaryBytes}
-use Rattle.record.specs.Form.{fieldHead, binarySize, binaryStart, toPairs, heldSamples, heldInterval, heldStride, heldCount, tracesPlace, pairCause, traceForm, cardsCauses, binaryCauses, bodyCauses, formCauses}
-use Rattle.record.specs.Held.{heldValue, heldTrace, heldBy}
-use Rattle.record.specs.Parts.{headForm}
+use Rattle.record.specs.Kind.{tag04}
+use Rattle.record.specs.Form.{fieldHead, binarySize, binaryStart, toSamples, headerCauses, heldSamples, heldInterval, heldCount, pairCauseIn, shareIn, samplesCausesIn, traceFormIn, tracePlace, formCauses}
+use Rattle.record.specs.Held.{heldValue, heldValuesIn, heldTraceIn, heldByIn, heldBy}
 use Rattle.headers.proofs.HeaderBytes.{bytes-again}
 use Rattle.record.proofs.StoredLaws.{code-stored}
-use Rattle.record.proofs.FormLaws.{trace-form, scalars-fine}
+use Rattle.record.proofs.FormLaws.{share-some, pairs-fine, scalars-fine, traces-fine}
 use Rattle.write_reel.specs.Reel.{sampleWritten, binaryHeader, traceWritten, reelOf}
 use Rattle.write_reel.specs.Nearest.{nearestTrace, nearestMeaning, traceChanges, meaningChanges}
 use Rattle.write_samples.specs.Samples.{wordBytes, writtenAt, sampleWords}
 use Rattle.write_samples.specs.Nearest.{nearestAt, roundedBytes, nearestWords, pairsChanged}
-use Rattle.write_reel.specs.Copied.{reelHeaderCopied, samplesCopied, samplesChangedAt, reelTraceCopied, traceChangedAt, tracesChangedAt, partsCopied, reelCopied}
+use Rattle.write_reel.specs.Copied.{reelHeaderCopied, samplesCopied, samplesChangedAt, fieldsWords, fieldsChangedAt, reelTraceCopied, traceChangedAt, tracesCopied, tracesChangedAt, partsCopied, reelCopied}
 use Rattle.write_reel.proofs.CopiedLaws.{header-bytes}
 
 -- ## Samples
 
 -- a canonical pair under one of the codes
-canonical : (s : List ℕ) (p : ℕ) → pairCause s p ≡ Fine → isCanonical (pairIn (bytesAt s p pairLength)) ≡ true
+canonical : (s : List ℕ) (p : ℕ) → pairCauseIn tag04 s p ≡ Fine → isCanonical (pairIn (bytesAt s p pairLength)) ≡ true
 canonical s p e = not-false (isCanonical (pairIn (bytesAt s p pairLength))) (passed _ 13 p e)
 
 module _ (s : List ℕ) (code : ℕ) (h : isCode code ≡ true) where
-  sample-is : (p : ℕ) → pairCause s p ≡ Fine → sampleWritten code (heldValue s p) ≡ wordBytes code (writtenAt s code p)
+  sample-is : (p : ℕ) → pairCauseIn tag04 s p ≡ Fine → sampleWritten code (heldValue s p) ≡ wordBytes code (writtenAt s code p)
   sample-is p e = rw (h, canonical s p e)
 
-  nearest-is : (p : ℕ) → pairCause s p ≡ Fine → sampleWritten code (nearestValue code (heldValue s p)) ≡ roundedBytes code (nearestAt s code p)
+  nearest-is : (p : ℕ) → pairCauseIn tag04 s p ≡ Fine → sampleWritten code (nearestValue code (heldValue s p)) ≡ roundedBytes code (nearestAt s code p)
   nearest-is p e = rw (h, canonical s p e)
 
-  changes-is : (p : ℕ) → pairCause s p ≡ Fine → changes code (heldValue s p) ≡ nearestAt s code p .changed
+  changes-is : (p : ℕ) → pairCauseIn tag04 s p ≡ Fine → changes code (heldValue s p) ≡ nearestAt s code p .changed
   changes-is p e = rw (h, canonical s p e)
 
-  -- along a walk over pairs that are all canonical
-  module _ (w : ℕ) where
-    first-fine : (k at : ℕ) → firstOf (walk (pairCause s) w (suc k) at) ≡ Fine → (pairCause s at ≡ Fine) × (firstOf (walk (pairCause s) w k (at + w)) ≡ Fine)
-    first-fine k at e = then-fine (pairCause s at) (firstOf (walk (pairCause s) w k (at + w))) e
+  -- the words of samples in fields, and how many changed, by the places of their pairs
+  module _ (c : ℕ) (some : 0 < c) (n at : ℕ) where
+    abbrev place : ℕ → ℕ
+    place j = pairPlace pairLength c at j
 
-    samples-walk : (k at : ℕ) → firstOf (walk (pairCause s) w k at) ≡ Fine
-        → flat (map (sampleWritten code) (walk (heldValue s) w k at)) ≡ flat (map (wordBytes code) (walk (writtenAt s code) w k at))
-    samples-walk zero at e = refl
-    samples-walk (suc k) at e = let t = first-fine k at e in ap₂ (λ (x y : List ℕ). x ++ y) (sample-is at (t .0)) (samples-walk k (at + w) (t .1))
+    exact-words : fieldsWords false s code c n at ≡ flat (each (λ j. wordBytes code (writtenAt s code (place j))) n)
+    unfolding fieldsWords samplesCopied sampleWords
+    exact-words =
+        ap flat (in-like c some pairLength _ _ (λ m p. ap flat (map-walk (wordBytes code) (writtenAt s code) pairLength m (p + 3))) n at)
+        ∙ sym (flat-in-fields c some pairLength (λ p. wordBytes code (writtenAt s code p)) n at)
 
-    nearest-walk : (k at : ℕ) → firstOf (walk (pairCause s) w k at) ≡ Fine
-        → flat (map (sampleWritten code) (map (nearestValue code) (walk (heldValue s) w k at))) ≡ flat (map (roundedBytes code) (walk (nearestAt s code) w k at))
-    nearest-walk zero at e = refl
-    nearest-walk (suc k) at e = let t = first-fine k at e in ap₂ (λ (x y : List ℕ). x ++ y) (nearest-is at (t .0)) (nearest-walk k (at + w) (t .1))
+    nearest-words : fieldsWords true s code c n at ≡ flat (each (λ j. roundedBytes code (nearestAt s code (place j))) n)
+    unfolding fieldsWords samplesCopied nearestWords
+    nearest-words =
+        ap flat (in-like c some pairLength _ _ (λ m p. ap flat (map-walk (roundedBytes code) (nearestAt s code) pairLength m (p + 3))) n at)
+        ∙ sym (flat-in-fields c some pairLength (λ p. roundedBytes code (nearestAt s code p)) n at)
 
-    changes-walk : (k at : ℕ) → firstOf (walk (pairCause s) w k at) ≡ Fine
-        → sum (map (changes code) (walk (heldValue s) w k at)) ≡ sum (walk (λ p. nearestAt s code p .changed) w k at)
-    changes-walk zero at e = refl
-    changes-walk (suc k) at e = let t = first-fine k at e in ap₂ (λ (x y : ℕ). x + y) (changes-is at (t .0)) (changes-walk k (at + w) (t .1))
+    changed-words : fieldsChangedAt true s code c n at ≡ sum (each (λ j. nearestAt s code (place j) .changed) n)
+    unfolding fieldsChangedAt samplesChangedAt pairsChanged
+    changed-words = sym (sum-in-fields c some pairLength (λ p. nearestAt s code p .changed) n at)
+
+  -- those of the samples that a trace holds
+  module _ (n at : ℕ) (e : samplesCausesIn tag04 s n at ≡ Fine) where
+    abbrev own : ℕ
+    own = shareIn tag04 s n at
+
+    abbrev at-pair : ℕ → ℕ
+    at-pair j = pairPlace pairLength own at j
+
+    samples-words : flat (map (sampleWritten code) (heldValuesIn tag04 s n at)) ≡ fieldsWords false s code own n at
+    unfolding heldValuesIn
+    samples-words =
+        ap flat (map-walk (sampleWritten code) (λ j. heldValue s (at-pair j)) 1 n 0 ∙ each-like _ _ n (λ j l. sample-is (at-pair j) (pairs-fine tag04 s n at e j l)))
+        ∙ sym (exact-words own (share-some tag04 s n at) n at)
+
+    rounded-words : flat (map (sampleWritten code) (map (nearestValue code) (heldValuesIn tag04 s n at))) ≡ fieldsWords true s code own n at
+    unfolding heldValuesIn
+    rounded-words =
+        ap flat (ap (map (sampleWritten code)) (map-walk (nearestValue code) (λ j. heldValue s (at-pair j)) 1 n 0)
+        ∙ map-walk (sampleWritten code) (λ j. nearestValue code (heldValue s (at-pair j))) 1 n 0
+        ∙ each-like _ _ n (λ j l. nearest-is (at-pair j) (pairs-fine tag04 s n at e j l)))
+        ∙ sym (nearest-words own (share-some tag04 s n at) n at)
+
+    changes-words : sum (map (changes code) (heldValuesIn tag04 s n at)) ≡ fieldsChangedAt true s code own n at
+    unfolding heldValuesIn
+    changes-words =
+        ap sum (map-walk (changes code) (λ j. heldValue s (at-pair j)) 1 n 0 ∙ each-like _ _ n (λ j l. changes-is (at-pair j) (pairs-fine tag04 s n at e j l)))
+        ∙ sym (changed-words own (share-some tag04 s n at) n at)
 
 -- ## Traces
 
@@ -77,67 +107,64 @@ abbrev aimed : Bool → ℕ → Trace → Trace
 aimed near code t = pick near (nearestTrace code t) t
 
 module _ (s : List ℕ) (b : Bytes s) (code n i : ℕ) (h : isCode code ≡ true) where
-  pairs-fine : (at : ℕ) → traceForm s n i at ≡ Fine → firstOf (walk (pairCause s) pairLength n (at + toPairs)) ≡ Fine
-  pairs-fine at e = then-fine (headForm s n i at) _ (sym (trace-form s n i at) ∙ e) .1
+  samples-fine : (at : ℕ) → traceFormIn tag04 s n i at ≡ Fine → samplesCausesIn tag04 s n (at + toSamples) ≡ Fine
+  unfolding traceFormIn
+  samples-fine at e = then-fine (headerCauses s n i at) _ e .1
 
   -- its header and its words
-  joined : (near : Bool) (at : ℕ) (words : List ℕ) → traceForm s n i at ≡ Fine → words ≡ samplesCopied near s code n (at + toPairs)
-      → headerBytes (heldTrace s n at .header) ++ (replicate (traceHeader - headerSize) 0 ++ words) ≡ reelTraceCopied near s code n at
-  unfolding heldTrace reelTraceCopied
+  joined : (near : Bool) (at : ℕ) (words : List ℕ) → traceFormIn tag04 s n i at ≡ Fine → words ≡ fieldsWords near s code (shareIn tag04 s n (at + toSamples)) n (at + toSamples)
+      → headerBytes (heldTraceIn tag04 s n at .header) ++ (replicate (traceHeader - headerSize) 0 ++ words) ≡ reelTraceCopied near s code n at
+  unfolding heldTraceIn reelTraceCopied
   joined near at words e is =
-      let header-is = bytes-again s b (at + fieldHead) (scalars-fine s n i at e) in
+      let header-is = bytes-again s b (at + fieldHead) (scalars-fine tag04 s n i at e) in
       let header = bytesAt s (at + fieldHead) headerSize in
       let zeros : List ℕ = replicate (traceHeader - headerSize) 0 in
       ap₂ (λ (x y : List ℕ). x ++ (zeros ++ y)) header-is is ∙ sym (append-assoc header zeros _)
-      ∙ ap (λ (l : List ℕ). l ++ samplesCopied near s code n (at + toPairs)) (sym (header-bytes traceHeader s (at + fieldHead) headerSize))
+      ∙ ap (λ (l : List ℕ). l ++ fieldsWords near s code (shareIn tag04 s n (at + toSamples)) n (at + toSamples)) (sym (header-bytes traceHeader s (at + fieldHead) headerSize))
 
-  trace-is : (near : Bool) (at : ℕ) → traceForm s n i at ≡ Fine → traceWritten code (aimed near code (heldTrace s n at)) ≡ reelTraceCopied near s code n at
-  unfolding traceWritten heldTrace samplesCopied sampleWords nearestWords
-  trace-is false at e = joined false at _ e (samples-walk s code h pairLength n (at + toPairs) (pairs-fine at e))
-  trace-is true at e = joined true at _ e (nearest-walk s code h pairLength n (at + toPairs) (pairs-fine at e))
+  trace-is : (near : Bool) (at : ℕ) → traceFormIn tag04 s n i at ≡ Fine → traceWritten code (aimed near code (heldTraceIn tag04 s n at)) ≡ reelTraceCopied near s code n at
+  unfolding traceWritten heldTraceIn
+  trace-is false at e = joined false at _ e (samples-words s code h n (at + toSamples) (samples-fine at e))
+  trace-is true at e = joined true at _ e (rounded-words s code h n (at + toSamples) (samples-fine at e))
 
-  trace-changes : (at : ℕ) → traceForm s n i at ≡ Fine → traceChanges code (heldTrace s n at) ≡ traceChangedAt true s code n at
-  unfolding heldTrace traceChangedAt samplesChangedAt pairsChanged
-  trace-changes at e = changes-walk s code h pairLength n (at + toPairs) (pairs-fine at e)
+  trace-changes : (at : ℕ) → traceFormIn tag04 s n i at ≡ Fine → traceChanges code (heldTraceIn tag04 s n at) ≡ traceChangedAt true s code n at
+  unfolding heldTraceIn traceChangedAt
+  trace-changes at e = changes-words s code h n (at + toSamples) (samples-fine at e)
 
-  -- along a walk over traces that are all of the right form
-  module _ (w : ℕ) where
-    trace-fine : (k at : ℕ) → firstOf (walk (traceForm s n i) w (suc k) at) ≡ Fine → (traceForm s n i at ≡ Fine) × (firstOf (walk (traceForm s n i) w k (at + w)) ≡ Fine)
-    trace-fine k at e = then-fine (traceForm s n i at) (firstOf (walk (traceForm s n i) w k (at + w))) e
+  -- along traces that are all of the right form
+  module _ (k : ℕ) (fine : (j : ℕ) → j < k → traceFormIn tag04 s n i (tracePlace s n j) ≡ Fine) where
+    abbrev held : ℕ → Trace
+    held j = heldTraceIn tag04 s n (tracePlace s n j)
 
-    traces-walk : (near : Bool) (k at : ℕ) → firstOf (walk (traceForm s n i) w k at) ≡ Fine
-        → flat (map (traceWritten code) (map (aimed near code) (walk (heldTrace s n) w k at))) ≡ flat (map (reelTraceCopied near s code n) (walk (λ p. p) w k at))
-    traces-walk near zero at e = refl
-    traces-walk near (suc k) at e = let t = trace-fine k at e in ap₂ (λ (x y : List ℕ). x ++ y) (trace-is near at (t .0)) (traces-walk near k (at + w) (t .1))
+    traces-each : (near : Bool) → flat (map (traceWritten code) (map (aimed near code) (each held k))) ≡ tracesCopied near s code n k 0
+    unfolding tracesCopied
+    traces-each near =
+        ap flat (ap (map (traceWritten code)) (map-walk (aimed near code) held 1 k 0)
+        ∙ map-walk (traceWritten code) (λ j. aimed near code (held j)) 1 k 0
+        ∙ each-like _ _ k (λ j l. trace-is near (tracePlace s n j) (fine j l))
+        ∙ sym (map-walk (reelTraceCopied near s code n) (tracePlace s n) 1 k 0))
 
-    counts-walk : (k at : ℕ) → firstOf (walk (traceForm s n i) w k at) ≡ Fine
-        → sum (map (traceChanges code) (walk (heldTrace s n) w k at)) ≡ sum (walk (traceChangedAt true s code n) w k at)
-    counts-walk zero at e = refl
-    counts-walk (suc k) at e = let t = trace-fine k at e in ap₂ (λ (x y : ℕ). x + y) (trace-changes at (t .0)) (counts-walk k (at + w) (t .1))
+    counts-each : sum (map (traceChanges code) (each held k)) ≡ tracesChangedAt true s code n k 0
+    unfolding tracesChangedAt
+    counts-each = ap sum (map-walk (traceChanges code) held 1 k 0 ∙ each-like _ _ k (λ j l. trace-changes (tracePlace s n j) (fine j l)))
 
 -- ## The reel
 
--- the traces of a valid record are of the right form
-traces-fine : (s : List ℕ) → formCauses s ≡ Fine → let n = heldSamples s in firstOf (walk (traceForm s n (heldInterval s)) (heldStride n) (heldCount s n) tracesPlace) ≡ Fine
-unfolding formCauses bodyCauses
-traces-fine s e = then-fine _ _ (then-fine (binaryCauses s) _ (then-fine (cardsCauses s) _ e .1) .1) .0
-
 module _ (s : List ℕ) (b : Bytes s) (code : ℕ) (h : isCode code ≡ true) (e : formCauses s ≡ Fine) where
-  traces-is : (near : Bool)
-      → let n = heldSamples s in flat (map (traceWritten code) (map (aimed near code) (heldBy s .traces))) ≡ flat (map (reelTraceCopied near s code n) (walk (λ p. p) (heldStride n) (heldCount s n) tracesPlace))
-  unfolding heldBy
-  traces-is near = traces-walk s b code (heldSamples s) (heldInterval s) h (heldStride (heldSamples s)) near (heldCount s (heldSamples s)) tracesPlace (traces-fine s e)
+  traces-is : (near : Bool) → let n = heldSamples s in flat (map (traceWritten code) (map (aimed near code) (heldBy s .traces))) ≡ tracesCopied near s code n (heldCount s n) 0
+  unfolding heldByIn
+  traces-is near = traces-each s b code (heldSamples s) (heldInterval s) h (heldCount s (heldSamples s)) (traces-fine tag04 s e) near
 
   -- of the traces that are written
   of-traces : (near : Bool) (traces : List Trace) → traces ≡ map (aimed near code) (heldBy s .traces)
       → reelOf code (record { cards = heldBy s .cards; binary = heldBy s .binary; traces = traces }) ≡ reelCopied near s code (heldSamples s) (heldCount s (heldSamples s))
-  unfolding reelOf reelCopied partsCopied heldBy
+  unfolding reelOf reelCopied partsCopied heldByIn
   of-traces near ts q =
       let n = heldSamples s in
       let cards = bytesAt s fieldHead cardBytes in
       let binary = bytesAt s (bytePlace binaryStart 3201) binarySize in
       let zeros : List ℕ = replicate (binaryHeader - binarySize) 0 in
-      let traces = flat (map (reelTraceCopied near s code n) (walk (λ p. p) (heldStride n) (heldCount s n) tracesPlace)) in
+      let traces = tracesCopied near s code n (heldCount s n) 0 in
       let place : bytePlace 0 3225 ≡ length cards + (3225 - 3201) = rw (size-bytes s fieldHead cardBytes) in
       let joined : reelHeaderCopied binaryHeader binary ++ traces ≡ binary ++ (zeros ++ traces) =
       ap (λ (l : List ℕ). l ++ traces) (header-bytes binaryHeader s (bytePlace binaryStart 3201) binarySize) ∙ append-assoc binary zeros traces in
@@ -155,6 +182,6 @@ module _ (s : List ℕ) (b : Bytes s) (code : ℕ) (h : isCode code ≡ true) (e
   pub nearest-reel-is : reelOf code (nearestMeaning code (heldBy s)) ≡ reelCopied true s code (heldSamples s) (heldCount s (heldSamples s))
   nearest-reel-is = of-traces true (map (nearestTrace code) (heldBy s .traces)) refl
 
-  pub count-is : meaningChanges code (heldBy s) ≡ tracesChangedAt true s code (heldSamples s) (heldCount s (heldSamples s)) tracesPlace
-  unfolding heldBy tracesChangedAt
-  count-is = counts-walk s b code (heldSamples s) (heldInterval s) h (heldStride (heldSamples s)) (heldCount s (heldSamples s)) tracesPlace (traces-fine s e)
+  pub count-is : meaningChanges code (heldBy s) ≡ tracesChangedAt true s code (heldSamples s) (heldCount s (heldSamples s)) 0
+  unfolding heldByIn
+  count-is = counts-each s b code (heldSamples s) (heldInterval s) h (heldCount s (heldSamples s)) (traces-fine tag04 s e)

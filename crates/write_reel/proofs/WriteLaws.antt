@@ -17,17 +17,18 @@ use Rattle.numbers.specs.declared.Check.{Check}
 use Rattle.numbers.specs.declared.Check.the-variants as check
 use Rattle.numbers.proofs.CauseLaws.{passed, then-assoc, then-fine}
 use Rattle.formats.specs.Codes.{isCode, sampleBytes}
-use Rattle.reel.specs.Layout.{firstTrace, stride}
+use Rattle.reel.specs.Layout.{stride}
 use Rattle.reel.specs.Causes.{mostSamples, mostTraces}
 use Rattle.reel.proofs.CheckLaws.{stride-high}
-use Rattle.record.specs.Form.{heldSamples, heldInterval, heldStride, heldCount, tracesPlace, cardsCauses, binaryCauses, bodyCauses, formCauses, recordFound, recordJudged}
+use Rattle.record.specs.Kind.{tag04}
+use Rattle.record.specs.Form.{heldSamples, heldInterval, heldCount, tracesPlace, tracePlace, cardsCauses, binaryCauses, bodyCausesIn, formCausesIn, formCauses, recordFound, recordJudged}
 use Rattle.record.specs.Held.{heldBy}
 use Rattle.fit.specs.Target.{targetCauses}
 use Rattle.record.specs.Answer.{outcome, countedOutcome}
 use Rattle.record.specs.declared.Answer.the-variants.{Taken, Refused}
 use Rattle.record.specs.declared.Counted.the-variants as counted
 use Rattle.record.specs.declared.Judged.the-variants as judged
-use Rattle.record.proofs.FormLaws.{tags-most, headed, held-length}
+use Rattle.record.proofs.FormLaws.{count-most, headed, held-length}
 use Rattle.record.proofs.JudgedLaws.{Own}
 use Rattle.fit.proofs.FitLaws.{target-form}
 use Rattle.write_reel.specs.Reel.{reelOf, reelLength}
@@ -41,22 +42,24 @@ pub record Fit (s : List ℕ) (code n t : ℕ) : Type 0 where
   pub a-code : isCode code ≡ true
   pub n-high : n ≤ mostSamples
   pub few : t ≤ mostTraces
-  pub room : tracesPlace + t * heldStride n ≤ length s
-  pub wide : stride n (sampleBytes code) ≤ 32240
-  pub size : t * stride n (sampleBytes code) ≤ 100000 * 32240
+  pub front : tracesPlace ≤ length s
+  pub room : tracePlace s n t ≤ length s
+  pub wide : stride n (sampleBytes code) ≤ 131308
+  pub size : t * stride n (sampleBytes code) ≤ 100000 * 131308
 
 pub fit : (s : List ℕ) (code n t : ℕ) → isCode code ≡ true → Own s (formCauses s) n t → Fit s code n t
-unfolding formCauses
+unfolding formCausesIn
 fit s code n t i o =
-    let h = headed s (then-fine (then (cardsCauses s) (binaryCauses s)) (bodyCauses s (heldSamples s) (heldInterval s) (heldCount s (heldSamples s))) (then-assoc (cardsCauses s) (binaryCauses s) _ ∙ o .fine) .0) in
+    let h = headed s (then-fine (then (cardsCauses s) (binaryCauses s)) (bodyCausesIn tag04 s (heldSamples s) (heldInterval s) (heldCount s (heldSamples s))) (then-assoc (cardsCauses s) (binaryCauses s) _ ∙ o .fine) .0) in
     let high : n ≤ mostSamples = subst (λ (x : ℕ). x ≤ mostSamples) (o .n-is) (h .n-high) in
-    let few : t ≤ mostTraces = subst (λ (x : ℕ). x ≤ mostTraces) (o .t-is) (tags-most mostTraces s (heldStride (heldSamples s)) tracesPlace) in
-    let l : length s ≡ 3273 + t * heldStride n = held-length s (o .fine) ∙ ap₂ (λ (x y : ℕ). 3273 + x * heldStride y) (o .t-is) (o .n-is) in
+    let few : t ≤ mostTraces = subst (λ (x : ℕ). x ≤ mostTraces) (o .t-is) (count-most tag04 s (heldSamples s)) in
+    let l : length s ≡ tracePlace s n t + 7 = held-length tag04 s (o .fine) ∙ ap₂ (λ (x y : ℕ). tracePlace s x y + 7) (o .n-is) (o .t-is) in
     let wide = stride-high code n high in
     record {
       a-code = i;
       n-high = high;
       few = few;
+      front = h .room;
       room = omega arith;
       wide = wide;
       size = mul-le-mul few wide;
@@ -74,7 +77,7 @@ module _ (near : Bool) (s : List ℕ) (code n t : ℕ) (out : List ℕ) (k : ℕ
   short-end l = rw (q, lt-ltb (length out) (reelLength code t n) (subst (λ (x : ℕ). length out < x) q l))
 
   -- or holds it
-  pub taken-end : (c : ℕ) (ys : List ℕ) → c ≡ tracesChangedAt near s code n t tracesPlace → ys ≡ reelCopied near s code n t → k ≤ length out
+  pub taken-end : (c : ℕ) (ys : List ℕ) → c ≡ tracesChangedAt near s code n t 0 → ys ≡ reelCopied near s code n t → k ≤ length out
       → countedOutcome (counted.Taken t n k c) (ys ++ drop k out) ≡ copiedOutcome near s code n t out
   taken-end c ys d e l = rw (q, d, e, le-ltb (length out) (reelLength code t n) (subst (λ (x : ℕ). x ≤ length out) q l))
 
@@ -116,7 +119,7 @@ module _ (s : List ℕ) (code : ℕ) (out : List ℕ) where
         reel = let f = own-form n t o in reel-is s b code (f .0) (f .1 .fine) ∙ ap₂ (λ (x y : ℕ). reelCopied false s code x y) (o .n-is) (o .t-is)
 
         go : (x : Bool) → ltb (length out) size ≡ x
-            → withoutCount (pick x (record { said = refused 10 size; bytes = out }) (record { said = taken (t ∷ n ∷ size ∷ tracesChangedAt false s code n t tracesPlace ∷ []); bytes = reelCopied false s code n t ++ drop size out })) ≡ writeOutcome s code out
+            → withoutCount (pick x (record { said = refused 10 size; bytes = out }) (record { said = taken (t ∷ n ∷ size ∷ tracesChangedAt false s code n t 0 ∷ []); bytes = reelCopied false s code n t ++ drop size out })) ≡ writeOutcome s code out
         go true e = rw (o .fine, size-is, e)
         go false e =
             let fine : writeCauses s code (length out) ≡ check.Fine = rw (o .fine, size-is, e) in
@@ -164,8 +167,8 @@ module _ (s : List ℕ) (code : ℕ) (out : List ℕ) where
         reel : reelOf code (nearestMeaning code (heldBy s)) ≡ reelCopied true s code n t
         reel = nearest-reel-is s b code (valid .0) (valid .1 .fine) ∙ ap₂ (λ (x y : ℕ). reelCopied true s code x y) (o .n-is) (o .t-is)
 
-        count : meaningChanges code (heldBy s) ≡ tracesChangedAt true s code n t tracesPlace
-        count = count-is s b code (valid .0) (valid .1 .fine) ∙ ap₂ (λ (x y : ℕ). tracesChangedAt true s code x y tracesPlace) (o .n-is) (o .t-is)
+        count : meaningChanges code (heldBy s) ≡ tracesChangedAt true s code n t 0
+        count = count-is s b code (valid .0) (valid .1 .fine) ∙ ap₂ (λ (x y : ℕ). tracesChangedAt true s code x y 0) (o .n-is) (o .t-is)
 
         told : (x : Bool) → ltb (length out) near-size ≡ x → nearestCauses s code (length out) ≡ refuseIf x 10 near-size
         told x e =
@@ -173,10 +176,10 @@ module _ (s : List ℕ) (code : ℕ) (out : List ℕ) where
             ∙ ap (λ (k : ℕ). refuseIf (ltb (length out) k) 10 k) near-size-is ∙ ap (λ (y : Bool). refuseIf y 10 near-size) e
 
         go : (x : Bool) → ltb (length out) near-size ≡ x
-            → pick x (record { said = refused 10 near-size; bytes = out }) (made t n near-size (tracesChangedAt true s code n t tracesPlace) (reelCopied true s code n t)) ≡ nearestOutcome s code out
+            → pick x (record { said = refused 10 near-size; bytes = out }) (made t n near-size (tracesChangedAt true s code n t 0) (reelCopied true s code n t)) ≡ nearestOutcome s code out
         go true e = sym (ap (nearestEnd s code out) (told true e))
         go false e =
             sym (ap (nearestEnd s code out) (told false e)
             ∙ ap₂ (λ (x y : ℕ). made x y (reelLengthOf s code) (meaningChanges code (heldBy s)) (reelOf code (nearestMeaning code (heldBy s)))) (o .t-is) (o .n-is)
             ∙ ap₂ (λ (x y : ℕ). made t n x y (reelOf code (nearestMeaning code (heldBy s)))) near-size-is count
-            ∙ ap (made t n near-size (tracesChangedAt true s code n t tracesPlace)) reel)
+            ∙ ap (made t n near-size (tracesChangedAt true s code n t 0)) reel)

@@ -13,7 +13,10 @@ use Rattle.reel.specs.Layout.{cardBytes, traceHeader}
 use Rattle.write_samples.specs.Samples.{sampleWords}
 use Rattle.write_samples.specs.Nearest.{nearestWords, pairsChanged}
 use Rattle.headers.specs.Header.{headerSize}
-use Rattle.record.specs.Form.{fieldHead, binarySize, binaryStart, toPairs, heldStride, tracesPlace}
+use Rattle.fields.specs.Fields.{inFields}
+use Rattle.value.specs.Pair.{pairLength}
+use Rattle.record.specs.Kind.{tag04}
+use Rattle.record.specs.Form.{fieldHead, binarySize, binaryStart, toSamples, shareIn, tracePlace}
 use Rattle.write_reel.specs.Reel.{binaryHeader, reelLength}
 
 -- Unassigned bytes in place of a slice's content.
@@ -32,24 +35,35 @@ samplesCopied near s code n at = pick near (nearestWords s code n at) (sampleWor
 unfoldable pub samplesChangedAt : Bool → List ℕ → ℕ → ℕ → ℕ → ℕ
 samplesChangedAt near s code n at = pick near (pairsChanged s code n at) 0
 
--- The trace whose tag 03 stands at the place `at`;
+-- The words of n samples in fields of c, whose first field stands at a place, and how many changed.
+unfoldable pub fieldsWords : Bool → List ℕ → ℕ → ℕ → ℕ → ℕ → List ℕ
+fieldsWords near s code c n at = flat (inFields (λ count p. samplesCopied near s code count (p + fieldHead)) pairLength c n at)
+
+unfoldable pub fieldsChangedAt : Bool → List ℕ → ℕ → ℕ → ℕ → ℕ → ℕ
+fieldsChangedAt near s code c n at = sum (inFields (λ count p. samplesChangedAt near s code count (p + fieldHead)) pairLength c n at)
+
+-- The trace whose tag 03 stands at the place `at`, by its own form;
 unfoldable pub reelTraceCopied : Bool → List ℕ → ℕ → ℕ → ℕ → List ℕ
 reelTraceCopied near s code n at =
-    reelHeaderCopied traceHeader (bytesAt s (at + fieldHead) headerSize) ++ samplesCopied near s code n (at + toPairs)
+    reelHeaderCopied traceHeader (bytesAt s (at + fieldHead) headerSize) ++ fieldsWords near s code (shareIn tag04 s n (at + toSamples)) n (at + toSamples)
 
--- and how many of its samples changed, and of t traces from a place on.
+-- and how many of its samples changed.
 unfoldable pub traceChangedAt : Bool → List ℕ → ℕ → ℕ → ℕ → ℕ
-traceChangedAt near s code n at = samplesChangedAt near s code n (at + toPairs)
+traceChangedAt near s code n at = fieldsChangedAt near s code (shareIn tag04 s n (at + toSamples)) n (at + toSamples)
+
+-- k traces from trace j on, and how many of their samples changed.
+unfoldable pub tracesCopied : Bool → List ℕ → ℕ → ℕ → ℕ → ℕ → List ℕ
+tracesCopied near s code n k j = flat (map (reelTraceCopied near s code n) (walk (tracePlace s n) 1 k j))
 
 unfoldable pub tracesChangedAt : Bool → List ℕ → ℕ → ℕ → ℕ → ℕ → ℕ
-tracesChangedAt near s code n t at = sum (walk (traceChangedAt near s code n) (heldStride n) t at)
+tracesChangedAt near s code n k j = sum (walk (λ i. traceChangedAt near s code n (tracePlace s n i)) 1 k j)
 
 -- The reel of t traces of n samples, but for its format code, which a record has as 0.
 unfoldable pub partsCopied : Bool → List ℕ → ℕ → ℕ → ℕ → List ℕ
 partsCopied near s code n t =
     bytesAt s fieldHead cardBytes
     ++ (reelHeaderCopied binaryHeader (bytesAt s (bytePlace binaryStart 3201) binarySize)
-    ++ flat (map (reelTraceCopied near s code n) (walk (λ p. p) (heldStride n) t tracesPlace)))
+    ++ tracesCopied near s code n t 0)
 
 -- The reel of t traces of n samples.
 unfoldable pub reelCopied : Bool → List ℕ → ℕ → ℕ → ℕ → List ℕ
@@ -61,6 +75,6 @@ copiedOutcome near s code n t out =
     pick (ltb (length out) (reelLength code t n))
     (record { said = refused 10 (reelLength code t n); bytes = out })
     (record {
-      said = taken (t ∷ n ∷ reelLength code t n ∷ tracesChangedAt near s code n t tracesPlace ∷ []);
+      said = taken (t ∷ n ∷ reelLength code t n ∷ tracesChangedAt near s code n t 0 ∷ []);
       bytes = reelCopied near s code n t ++ drop (reelLength code t n) out;
     })

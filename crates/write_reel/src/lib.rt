@@ -2,22 +2,22 @@
 // nearest writing `record::judge_record`; then the reel is written. Each function that writes is lent exactly the bytes that it writes.
 ghost use mathlib.Core.Path.{_≡_};
 ghost use mathlib.Core.Bool.{true, not};
-ghost use mathlib.Core.List.{map};
-ghost use Prim.Native.Nat.{_+_, _*_, _≤_};
+ghost use Prim.Native.Nat.{_+_, _*_, _≤_, _<_};
 ghost use lib.ListN.{length};
-ghost use Rattle.numbers.specs.Walk.{walk, flat, overwritten};
+ghost use Rattle.numbers.specs.Walk.{overwritten};
 ghost use Rattle.numbers.specs.Cause.{refuseIf, then};
 ghost use Rattle.numbers.specs.Places.{bytePlace};
 ghost use Rattle.numbers.specs.BigEndian.{bytesOf};
 ghost use Rattle.formats.specs.Codes.{isCode, sampleBytes};
 ghost use Rattle.reel.specs.Layout.{firstTrace, stride};
-ghost use Rattle.reel.specs.Causes.{mostSamples};
-ghost use Rattle.record.specs.Form.{heldStride, tracesPlace, formCauses, recordFound, recordJudged};
+ghost use Rattle.fields.specs.Fields.{fieldsLength};
+ghost use Rattle.record.specs.Kind.{tag04};
+ghost use Rattle.record.specs.Form.{behindTraceIn, tracesPlace, tracePlace, formCauses, recordFound, recordJudged};
 ghost use Rattle.fit.specs.Target.{fitJudged};
 ghost use Rattle.record.specs.Answer.{outcome, countedOutcome};
 ghost use Rattle.write_reel.specs.Writing.{writeOutcome};
 ghost use Rattle.write_reel.specs.Nearest.{nearestOutcome};
-ghost use Rattle.write_reel.specs.Copied.{zerosFor, reelHeaderCopied, samplesCopied, samplesChangedAt, reelTraceCopied, traceChangedAt, tracesChangedAt, reelCopied, copiedOutcome};
+ghost use Rattle.write_reel.specs.Copied.{zerosFor, reelHeaderCopied, samplesCopied, samplesChangedAt, fieldsWords, fieldsChangedAt, reelTraceCopied, traceChangedAt, tracesCopied, tracesChangedAt, reelCopied, copiedOutcome};
 use numbers::ByteNo;
 use numbers::Check;
 use numbers::Place;
@@ -66,29 +66,76 @@ fn put_samples(
     0
 }
 
+// The samples of a trace in fields of c, v bytes each on the reel; and how many changed.
+fn put_fields(
+    record: &[u8],
+    near: bool,
+    code: u32,
+    v: usize,
+    c: usize,
+    n: usize,
+    start: usize,
+    out: &mut [u8],
+) -> usize
+    requires { ⌜ (isCode code ≡ true) × (v ≡ sampleBytes code) × (0 < c) × (start + fieldsLength 6 c n ≤ length (now «record»)) × (length (now out) ≡ n * v) ⌝ }
+    ensures { λ r. ⌜ (r ≡ fieldsChangedAt near (now («record» .entry)) code c n start) × (now (out .exit) ≡ fieldsWords near (now («record» .entry)) code c n start) ⌝ }
+{
+    let mut at = start;
+    let mut o = 0;
+    let mut left = n;
+    let mut changed = 0;
+    while 0 < left {
+        let count = record::least(c, left);
+        let e = o + count * v;
+        changed += put_samples(record, near, code, count, at + 3, &mut out[o..e]);
+        at += 3 + count * 6;
+        o = e;
+        left -= count;
+    }
+    changed
+}
+
 // A trace: its 71 fields, the unassigned bytes of its header, and its samples; and how many of these changed.
-fn put_trace(record: &[u8], near: bool, code: u32, n: usize, at: usize, out: &mut [u8]) -> usize
-    requires { ⌜ (isCode code ≡ true) × (at + heldStride n ≤ length (now «record»)) × (length (now out) ≡ stride n (sampleBytes code)) ⌝ }
+fn put_trace(
+    record: &[u8],
+    near: bool,
+    code: u32,
+    v: usize,
+    n: u16,
+    at: usize,
+    out: &mut [u8],
+) -> usize
+    requires { ⌜ (isCode code ≡ true) × (v ≡ sampleBytes code) × (behindTraceIn tag04 (now «record») n at ≤ length (now «record»)) × (length (now out) ≡ stride n v) ⌝ }
     ensures { λ r. ⌜ (r ≡ traceChangedAt near (now («record» .entry)) code n at) × (now (out .exit) ≡ reelTraceCopied near (now («record» .entry)) code n at) ⌝ }
 {
     let e = out.len();
     put_header(&record[at + 3..at + 183], &mut out[0..240]);
-    put_samples(record, near, code, n, at + 186, &mut out[240..e])
+    let c = record::share_at(record, n, Place(at));
+    put_fields(
+        record,
+        near,
+        code,
+        v,
+        c,
+        n as usize,
+        at + 183,
+        &mut out[240..e],
+    )
 }
 
-// The traces, one behind the other; and how many samples changed.
+// The traces, one behind the other, each of w bytes on the reel; and how many samples changed.
 fn put_traces(
     record: &[u8],
     near: bool,
     code: u32,
-    n: usize,
+    v: usize,
+    n: u16,
     w: usize,
-    m: usize,
     t: usize,
     out: &mut [u8],
 ) -> usize
-    requires { ⌜ (isCode code ≡ true) × (w ≡ stride n (sampleBytes code)) × (m ≡ heldStride n) × (tracesPlace + t * m ≤ length (now «record»)) × (length (now out) ≡ t * w) ⌝ }
-    ensures { λ r. ⌜ (r ≡ tracesChangedAt near (now («record» .entry)) code n t tracesPlace) × (now (out .exit) ≡ flat (map (reelTraceCopied near (now («record» .entry)) code n) (walk (λ p. p) (heldStride n) t tracesPlace))) ⌝ }
+    requires { ⌜ (isCode code ≡ true) × (v ≡ sampleBytes code) × (w ≡ stride n v) × (tracePlace (now «record») n t ≤ length (now «record»)) × (length (now out) ≡ t * w) ⌝ }
+    ensures { λ r. ⌜ (r ≡ tracesChangedAt near (now («record» .entry)) code n t 0) × (now (out .exit) ≡ tracesCopied near (now («record» .entry)) code n t 0) ⌝ }
 {
     let mut at = 3266;
     let mut o = 0;
@@ -96,8 +143,8 @@ fn put_traces(
     let mut count = 0;
     while 0 < left {
         let e = o + w;
-        count += put_trace(record, near, code, n, at, &mut out[o..e]);
-        at += m;
+        count += put_trace(record, near, code, v, n, at, &mut out[o..e]);
+        at += record::stride_at(record, n, Place(at));
         o = e;
         left -= 1;
     }
@@ -118,18 +165,19 @@ fn put_reel(
     record: &[u8],
     near: bool,
     code: u32,
-    n: usize,
+    v: usize,
+    n: u16,
     w: usize,
     t: usize,
     out: &mut [u8],
 ) -> usize
-    requires { ⌜ (isCode code ≡ true) × (w ≡ stride n (sampleBytes code)) × (n ≤ mostSamples) × (tracesPlace + t * heldStride n ≤ length (now «record»)) × (length (now out) ≡ firstTrace + t * w) ⌝ }
-    ensures { λ r. ⌜ (r ≡ tracesChangedAt near (now («record» .entry)) code n t tracesPlace) × (now (out .exit) ≡ reelCopied near (now («record» .entry)) code n t) ⌝ }
+    requires { ⌜ (isCode code ≡ true) × (v ≡ sampleBytes code) × (w ≡ stride n v) × (tracesPlace ≤ length (now «record»)) × (tracePlace (now «record») n t ≤ length (now «record»)) × (length (now out) ≡ firstTrace + t * w) ⌝ }
+    ensures { λ r. ⌜ (r ≡ tracesChangedAt near (now («record» .entry)) code n t 0) × (now (out .exit) ≡ reelCopied near (now («record» .entry)) code n t) ⌝ }
 {
     let e = out.len();
     slices::copy(&record[3..3203], &mut out[0..3200]);
     put_header(&record[3206..3266], &mut out[3200..3600]);
-    let count = put_traces(record, near, code, n, w, 186 + 6 * n, t, &mut out[3600..e]);
+    let count = put_traces(record, near, code, v, n, w, t, &mut out[3600..e]);
     put_code(code, out);
     count
 }
@@ -148,7 +196,7 @@ fn put_checked(record: &[u8], near: bool, code: u32, n: usize, t: usize, reel: &
             place: Place(length),
         };
     }
-    let count = put_reel(record, near, code, n, w, t, &mut reel[..length]);
+    let count = put_reel(record, near, code, v, n as u16, w, t, &mut reel[..length]);
     Counted::Taken {
         traces: t,
         samples: n,

@@ -1,7 +1,8 @@
 -- `fit::check_body` meets its contract. Assumes nothing.
 use Rattle.fit.proofs.FitLaws.{trace-fine, fit-end, body-more, body-stop}
 use Rattle.record.proofs.FormLaws.{isMore, more-few, form-room, form-end}
-use Rattle.record.specs.Form.{tracesPlace}
+use Rattle.record.specs.Kind.{tag04}
+use Rattle.record.specs.Form.{tracesPlace, behindTraceIn}
 use Rattle.fit.specs.Parts.{traceCheck, fitFrom}
 use Rattle.record.specs.Parts.{formFrom}
 use Rattle.reel.specs.Causes.{mostTraces}
@@ -10,19 +11,18 @@ use Rattle.numbers.specs.Cause.{then}
 use Rattle.numbers.specs.declared.Check.the-variants.{Fine}
 use lib.ListN.{length}
 use mathlib.Core.Bool.{true}
-use Prim.Native.Nat.{_+_, _-_, _*_, _≤_, _<_}
-use mathlib.Core.Path.{_≡_, refl, sym, ap, ap₂, _∙_}
+use Prim.Native.Nat.{ℕ, _+_, _-_, _≤_, _<_}
+use mathlib.Core.Path.{_≡_, refl, sym, ap, ap₂, subst, _∙_}
 use native.Mathlib.Omega.{arith}
-use borrow.Author.Needs.{needs}
 use Rattle.fit.proofs.check_body.Statement.{statement}
 use Rattle.fit.proofs.check_body.Tie as tie
 
 abbrev Inv-loop : tie.InvT-loop
-Inv-loop «record» code n i w at₀ t₀ at t =
+Inv-loop «record» code n i at₀ t₀ at t =
     then (formFrom «record» n i mostTraces 0 tracesPlace) (fitFrom «record» code n mostTraces tracesPlace) ≡ then (formFrom «record» n i (mostTraces - t) t at) (fitFrom «record» code n (mostTraces - t) at)
 
 abbrev μ-loop : tie.MeasureT-loop
-μ-loop «record» code n i w at₀ t₀ at t = mostTraces - t
+μ-loop «record» code n i at₀ t₀ at t = mostTraces - t
 
 is-more : (c : tie.Then1 Inv-loop μ-loop) → isMore (c .before .before .before .before .args .«record» .now) (c .before .before .loop .t) (c .before .before .loop .at) ≡ true
 is-more c = sym (c .before .is-trace .ensures) ∙ c .if1 .taken
@@ -33,12 +33,18 @@ few c = more-few (c .before .before .before .before .args .«record» .now) (c .
 fine : (c : tie.After-enum-told Inv-loop μ-loop) → let a = c .before .before .before .before .before .before .before .args in traceCheck (a .«record» .now) (a .code) (a .n) (a .i) (c .before .before .before .before .before .loop .at) ≡ Fine
 fine c = sym (c .before .before .check-trace .ensures) ∙ c .enum-told .given .1
 
--- the trace ends within the record
-room : (c : tie.After-enum-told Inv-loop μ-loop) → let a = c .before .before .before .before .before .before .before .args in c .before .before .before .before .before .loop .at + (186 + a .n * 6) ≤ length (a .«record» .now)
+-- the place behind the trace, which ends within the record
+behind : (c : tie.After-stride-at Inv-loop μ-loop) → let a = c .before .before .before .before .before .before .before .before .args in let at = c .before .before .before .before .before .before .loop .at in at + c .stride-at .result ≡ behindTraceIn tag04 (a .«record» .now) (a .n) at
+unfolding behindTraceIn
+behind c = ap (λ (x : ℕ). c .before .before .before .before .before .before .loop .at + x) (c .stride-at .ensures)
+
+room : (c : tie.After-stride-at Inv-loop μ-loop) → let a = c .before .before .before .before .before .before .before .before .args in c .before .before .before .before .before .before .loop .at + c .stride-at .result ≤ length (a .«record» .now)
 room c =
-    let a = c .before .before .before .before .before .before .before .args in
+    let b = c .before .before .before .before .before .before .before .before in
+    let a = b .args in
     let s = a .«record» .now in
-    form-room s (a .n) (a .i) (c .before .before .before .before .before .loop .at) (trace-fine s (a .code) (a .n) (a .i) (c .before .before .before .before .before .before .before .pre) (c .before .before .before .before .before .loop .at) (fine c) .0)
+    let at = c .before .before .before .before .before .before .loop .at in
+    subst (λ (x : ℕ). x ≤ length s) (sym (behind c)) (form-room tag04 s (a .n) (a .i) at (trace-fine s (a .code) (a .n) (a .i) (b .pre) at (fine (c .before)) .0))
 
 check-trace-requires : tie.Need-check-trace-requires Inv-loop μ-loop
 check-trace-requires c κs = c .before .before .before .before .pre
@@ -56,16 +62,19 @@ add-at : tie.Need-add-at Inv-loop μ-loop
 add-at c = omega (arith, room c)
 
 add-t : tie.Need-add-t Inv-loop μ-loop
-add-t c = omega (arith, few (c .before .before .before))
+add-t c = omega (arith, few (c .before .before .before .before))
 
 loop-less : tie.Need-loop-less Inv-loop μ-loop
-loop-less c = omega (arith, few (c .before .before .before))
+loop-less c = omega (arith, few (c .before .before .before .before))
 
 loop-again : tie.Need-loop-again Inv-loop μ-loop
 loop-again c =
-    let h = c .before .before .before .before .before in
-    let a = c .before .before .before .before .before .before .before .args in
-    h .loop .inv ∙ body-more (a .«record» .now) (a .n) (a .code) (a .i) (c .before .before .before .before .before .before .before .pre) (h .loop .t) (h .loop .at) (is-more (c .before .before .before)) (fine c)
+    let h = c .before .before .before .before .before .before in
+    let b = c .before .before .before .before .before .before .before .before in
+    let a = b .args in
+    let s = a .«record» .now in
+    h .loop .inv ∙ body-more s (a .n) (a .code) (a .i) (b .pre) (h .loop .t) (h .loop .at) (is-more (c .before .before .before .before)) (fine (c .before))
+    ∙ ap (λ (x : ℕ). then (formFrom s (a .n) (a .i) (mostTraces - (h .loop .t + 1)) (h .loop .t + 1) x) (fitFrom s (a .code) (a .n) (mostTraces - (h .loop .t + 1)) x)) (sym (behind c))
 
 returns-2 : tie.Need-returns-2 Inv-loop μ-loop
 returns-2 c =
@@ -81,8 +90,6 @@ check-body-spec =
     (tie.spec
     Inv-loop
     μ-loop
-    (λ c. search needs)
-    (λ c. search needs)
     (λ c. refl)
     (λ c κs. tt)
     check-trace-requires
@@ -90,6 +97,7 @@ check-body-spec =
     (λ c. c .match .keys2)
     (λ c κs. tt)
     returns
+    (λ c κs. tt)
     add-at
     add-t
     loop-less

@@ -1,37 +1,44 @@
 -- `fit::check_trace` meets its contract. Assumes nothing.
-use Rattle.write_samples.proofs.WordLaws.{samples-checked}
-use Rattle.record.proofs.FormLaws.{head-room}
-use Rattle.fit.specs.Parts.{traceCheck}
-use Rattle.record.specs.Parts.{headForm}
+use Rattle.record.specs.Kind.{tag04}
+use Rattle.record.specs.Form.{headerCauses}
+use Rattle.record.proofs.FormLaws.{share-some, header-room}
+use Rattle.fit.specs.Parts.{fieldsCheck, traceCheck}
 use Rattle.numbers.proofs.CauseLaws.{then-stop, then-next}
 use Rattle.numbers.specs.declared.Check.the-variants.{Fine}
 use lib.ListN.{length}
-use Prim.Native.Nat.{_+_, _*_, _≤_}
-use mathlib.Core.Path.{_≡_, sym, _∙_}
+use Prim.Native.Nat.{ℕ, _+_, _<_, _≤_}
+use mathlib.Core.Path.{_≡_, sym, ap, subst, _∙_}
 use native.Mathlib.Omega.{arith}
+use borrow.Author.Needs.{needs}
 use Rattle.fit.proofs.check_trace.Statement.{statement}
 use Rattle.fit.proofs.check_trace.Tie as tie
 
-fine : (c : tie.After-enum-told) → let a = c .before .before .before .before .args in headForm (a .«record» .now) (a .n) (a .i) (a .at) ≡ Fine
-fine c = sym (c .before .before .check-head .ensures) ∙ c .enum-told .given .1
+fine : (c : tie.After-enum-told) → let a = c .before .before .before .before .args in headerCauses (a .«record» .now) (a .n) (a .i) (a .at) ≡ Fine
+fine c = sym (c .before .before .check-header .ensures) ∙ c .enum-told .given .1
 
--- the trace ends within the record
-room : (c : tie.After-enum-told) → let a = c .before .before .before .before .args in a .at + (186 + a .n * 6) ≤ length (a .«record» .now)
-room c = let a = c .before .before .before .before .args in head-room (a .«record» .now) (a .n) (a .i) (a .at) (fine c)
+-- the header ends within the record
+room : (c : tie.After-enum-told) → let a = c .before .before .before .before .args in a .at + 183 ≤ length (a .«record» .now)
+room c = let a = c .before .before .before .before .args in header-room (a .«record» .now) (a .n) (a .i) (a .at) (fine c)
 
 returns : tie.Need-returns
 unfolding traceCheck
-returns c = let e = c .before .before .check-head .ensures in e ∙ then-stop _ _ (sym e ∙ c .enum-told2 .given .1)
+returns c = let e = c .before .before .check-header .ensures in e ∙ then-stop _ _ (sym e ∙ c .enum-told2 .given .1)
 
-add-t9 : tie.Need-add-t9
-add-t9 c = omega (arith, room c)
+some : (c : tie.After-share-at) → 0 < c .share-at .result
+some c = let a = c .before .before .before .before .before .args in subst (λ (x : ℕ). 0 < x) (sym (c .share-at .ensures)) (share-some tag04 (a .«record» .now) (a .n) (a .at + 183))
+
+add-check-fields : tie.Need-add-check-fields
+add-check-fields c = omega (arith, room (c .before))
+
+check-fields-requires : tie.Need-check-fields-requires
+check-fields-requires c κs = (c .before .before .before .before .before .pre, some c, search needs)
 
 returns-2 : tie.Need-returns-2
 unfolding traceCheck
 returns-2 c =
-    let b = c .before .before .before .before .before in
-    let a = b .args in
-    c .check-samples .ensures ∙ samples-checked (a .«record» .now) (a .code) (a .n) (a .at + 186) (b .pre) (omega (arith, room (c .before))) ∙ then-next _ _ (fine (c .before))
+    let a = c .before .before .before .before .before .before .args in
+    let s = a .«record» .now in
+    c .check-fields .ensures ∙ ap (λ (x : ℕ). fieldsCheck s (a .code) x (a .n) (a .at + 183)) (c .before .share-at .ensures) ∙ then-next _ _ (fine (c .before .before))
 
 pub check-trace-spec : {M : Type 1} → statement M
 check-trace-spec =
@@ -41,6 +48,7 @@ check-trace-spec =
     (λ c. c .match .keys1)
     (λ c. c .match .keys2)
     returns
-    add-t9
     (λ c κs. tt)
+    add-check-fields
+    check-fields-requires
     returns-2)

@@ -3,23 +3,17 @@ use Rattle.read_reel.proofs.CopiedLaws.{size-head, size-traces, size-re
 use Rattle.read_samples.specs.Samples.{places}
 use Rattle.read_reel.specs.Copied.{tagBytes, headCopied, recordTraceCopied, recordCopied}
 use Rattle.reel.specs.Layout.{firstTrace}
-use Rattle.record.specs.Form.{tracesPlace, heldStride}
+use Rattle.record.specs.Form.{tracesPlace}
 use Rattle.numbers.proofs.Filling.{start, lend, close}
 use Rattle.numbers.specs.BigEndian.{bytesOf}
 use Rattle.numbers.specs.Walk.{flat}
 use lib.ListN.{length}
-use Prim.Native.Nat.{_+_, _*_}
+use Prim.Native.Nat.{ℕ, _+_, _*_}
 use mathlib.Core.List.{_++_, map}
-use mathlib.Core.Path.{refl, sym, ap, _∙_}
+use mathlib.Core.Path.{sym, ap, _∙_}
 use native.Mathlib.Omega.{arith}
 use Rattle.read_reel.proofs.put_record.Statement.{statement}
 use Rattle.read_reel.proofs.put_record.Tie as tie
-
-mul-m : tie.Need-mul-m
-mul-m c = omega (arith, c .before .before .pre .1)
-
-add-m : tie.Need-add-m
-add-m c = omega (arith, c .before .before .pre .1)
 
 mul-e : tie.Need-mul-e
 mul-e c = omega (arith, c .before .before .pre .6, c .before .before .good .1 .1 .1 .1 .1 .1 .0)
@@ -39,7 +33,7 @@ part-put-traces-end c = omega (arith, c .before .before .before .before .before 
 put-traces-requires : tie.Need-put-traces-requires
 put-traces-requires c κs =
     let s = c .before .before .before .before .before .before .before in
-    (s .pre .0, s .pre .1, s .pre .2, s .pre .3, refl, s .pre .5, omega (arith, c .put-traces-arg .given .2))
+    (s .pre .0, s .pre .1, s .pre .2, s .pre .3, s .pre .7, s .pre .5, omega (arith, c .put-traces-arg .given .2))
 
 cast-put-count : tie.Need-cast-put-count
 cast-put-count c = omega (arith, c .before .before .before .before .before .before .before .before .before .before .pre .4)
@@ -61,23 +55,22 @@ returns c =
     let s = a .reel .now in
     let g = flat (map (recordTraceCopied s (a .code) (a .n) (a .i)) (places (a .w) (a .t) firstTrace)) in
     let z = tagBytes 5 4 ++ bytesOf 4 (a .t) in
-    let e = tracesPlace + a .t * heldStride (a .n) in
-    let w₀ = start _ (a .out .now) (b .pre .6 ∙ sym (size-record s (a .code) (a .n) (a .i) (a .layout) (a .w) (a .t))) in
+    let e = tracesPlace + a .t * a .m in
+    let wide = ap (λ (x : ℕ). a .t * x) (b .pre .7) in
+    let w₀ = start _ (a .out .now) (b .pre .6 ∙ ap (λ (x : ℕ). 3273 + x) wide ∙ sym (size-record s (a .code) (a .n) (a .i) (a .layout) (a .w) (a .t))) in
     let w₁ = lend (headCopied (a .layout) s) (g ++ z) tracesPlace w₀ (omega arith) (size-head (a .layout) s) (c .before .before .before .before .before .before .before .before .before .before .put-head .ensures) in
-    let w₂ = lend g z e w₁ (omega arith) (size-traces s (a .code) (a .n) (a .i) (a .w) (a .t) firstTrace ∙ omega arith) (c .before .before .before .before .before .before .put-traces .ensures .1) in
+    let w₂ = lend g z e w₁ (omega arith) (size-traces s (a .code) (a .n) (a .i) (a .w) (a .t) firstTrace ∙ sym wide ∙ omega arith) (c .before .before .before .before .before .before .put-traces .ensures .1) in
     (c .before .before .before .before .before .before .put-traces .ensures .0, close z (e + 7) w₂ (omega arith) (omega arith) (c .before .before .put-count .ensures))
 
 same-length : tie.Need-same-length
 same-length c =
     let b = c .before .before .before .before .before .before .before .before .before .before .before .before .before .before in
-    ap length (returns c .1) ∙ (size-record (b .args .reel .now) (b .args .code) (b .args .n) (b .args .i) (b .args .layout) (b .args .w) (b .args .t) ∙ sym (b .pre .6))
+    ap length (returns c .1) ∙ (size-record (b .args .reel .now) (b .args .code) (b .args .n) (b .args .i) (b .args .layout) (b .args .w) (b .args .t) ∙ sym (b .pre .6 ∙ ap (λ (x : ℕ). 3273 + b .args .t * x) (b .pre .7)))
 
 pub put-record-spec : {M : Type 1} → statement M
 put-record-spec =
     tie.close
     (tie.spec
-    mul-m
-    add-m
     mul-e
     add-e
     (λ c. omega arith)

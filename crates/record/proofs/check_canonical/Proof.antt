@@ -1,11 +1,10 @@
 -- `record::check_canonical` meets its contract. Assumes nothing.
 use Rattle.numbers.proofs.CauseLaws.{first-none, first-more, first-stop}
 use Rattle.numbers.proofs.WalkLaws.{times-more}
-use Rattle.numbers.specs.Cause.{firstOf}
-use Rattle.numbers.specs.Walk.{walk}
-use Rattle.record.specs.Form.{pairCause}
-use Rattle.numbers.specs.Cause.{refuseIf}
-use Rattle.numbers.specs.Walk.{bytesAt}
+use Rattle.numbers.specs.Cause.{firstOf, refuseIf}
+use Rattle.numbers.specs.Walk.{walk, bytesAt}
+use Rattle.record.specs.Kind.{tag04}
+use Rattle.record.specs.Form.{pairCauseIn}
 use Rattle.value.specs.Pair.{isCanonical, pairIn}
 use mathlib.Core.Bool.{not}
 use borrow.Author.Tests.{not-true, not-false}
@@ -18,7 +17,7 @@ use Rattle.record.proofs.check_canonical.Tie as tie
 
 abbrev Inv-loop : tie.InvT-loop
 Inv-loop «record» n start at₀ left₀ at left =
-    (firstOf (walk (pairCause «record») 6 n start) ≡ firstOf (walk (pairCause «record») 6 left at)) × (at + left * 6 ≤ length «record»)
+    (firstOf (walk (pairCauseIn tag04 «record») 6 n start) ≡ firstOf (walk (pairCauseIn tag04 «record») 6 left at)) × (at + left * 6 ≤ length «record»)
 
 abbrev μ-loop : tie.MeasureT-loop
 μ-loop «record» n start at₀ left₀ at left = left
@@ -37,7 +36,7 @@ returns c =
     let h = c .before .before .before .before in
     let s = c .before .before .before .before .before .before .args .«record» .now in
     let k = ap (λ b. refuseIf (not b) 13 (h .loop .at)) (sym (canonical (c .before)) ∙ not-true (c .before .is-canonical .result) (c .if1 .taken)) in
-    sym (h .loop .inv .0 ∙ first-stop (pairCause s) 6 (h .loop .left) (h .loop .at) (c .before .before .before .loop-test .taken) k)
+    sym (h .loop .inv .0 ∙ first-stop (pairCauseIn tag04 s) 6 (h .loop .left) (h .loop .at) (c .before .before .before .loop-test .taken) k)
 
 add-at : tie.Need-add-at Inv-loop μ-loop
 add-at c = omega (arith, times-more (c .before .before .before .before .loop .left) 6 (c .before .before .before .loop-test .taken), c .before .before .before .before .loop .inv)
@@ -53,13 +52,13 @@ loop-again c =
     let h = c .before .before .before .before in
     let s = c .before .before .before .before .before .before .args .«record» .now in
     let k = ap (λ b. refuseIf (not b) 13 (h .loop .at)) (sym (canonical (c .before)) ∙ not-false (c .before .is-canonical .result) (c .if1 .left)) in (
-      h .loop .inv .0 ∙ first-more (pairCause s) 6 (h .loop .left) (h .loop .at) (c .before .before .before .loop-test .taken) k,
+      h .loop .inv .0 ∙ first-more (pairCauseIn tag04 s) 6 (h .loop .left) (h .loop .at) (c .before .before .before .loop-test .taken) k,
       omega (arith, times-more (h .loop .left) 6 (c .before .before .before .loop-test .taken), h .loop .inv),
     )
 
 returns-2 : tie.Need-returns-2 Inv-loop μ-loop
 returns-2 c =
-    first-none (pairCause (c .before .before .before .args .«record» .now)) 6 (c .before .loop .left) (c .before .loop .at) (c .loop-test .left) ∙ sym (c .before .loop .inv .0)
+    first-none (pairCauseIn tag04 (c .before .before .before .args .«record» .now)) 6 (c .before .loop .left) (c .before .loop .at) (c .loop-test .left) ∙ sym (c .before .loop .inv .0)
 
 pub check-canonical-spec : {M : Type 1} → statement M
 check-canonical-spec =

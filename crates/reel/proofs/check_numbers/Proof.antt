@@ -11,8 +11,8 @@ use borrow.Author.Needs.{needs}
 use Rattle.reel.proofs.check_numbers.Statement.{statement}
 use Rattle.reel.proofs.check_numbers.Tie as tie
 
--- a trace's samples are at most 32,000 bytes
-small : (c : tie.After-width-of) → c .before .before .before .before .before .args .n * c .width-of .result ≤ 32000
+-- a trace's samples are at most 131,068 bytes
+small : (c : tie.After-width-of) → c .before .before .before .before .before .args .n * c .width-of .result ≤ 131068
 small c =
     let a = c .before .before .before .before .before .args in
     let f = header-fine (a .layout) (a .code) (a .n) (a .i) (sym (c .before .before .before .check-header .ensures) ∙ c .before .enum-told .given .1) in

@@ -6,7 +6,7 @@ use Rattle.reel.specs.Layout.{firstTrace, stride}
 use Rattle.formats.specs.Codes.{sampleBytes}
 use lib.Seq.{length-take-le}
 use Prim.Native.Nat.{ℕ, _+_, _*_, _≤_}
-use mathlib.Core.Path.{_≡_, sym, ap, subst}
+use mathlib.Core.Path.{_≡_, refl, sym, ap, subst}
 use native.Mathlib.Omega.{arith}
 use Rattle.write_reel.proofs.put_checked.Statement.{statement}
 use Rattle.write_reel.proofs.put_checked.Tie as tie
@@ -18,11 +18,11 @@ fits : (c : tie.Start) → let a = c .args in Fit (a .«record» .now) (a .code)
 fits c = let a = c .args in fit (a .«record» .now) (a .code) (a .n) (a .t) (c .pre .0) (owns c)
 
 -- a trace's bytes on the reel, and the reel's length
-wide : (c : tie.After-width-of) → 240 + c .before .before .before .args .n * c .width-of .result ≤ 32240
-wide c = subst (λ (v : ℕ). 240 + c .before .before .before .args .n * v ≤ 32240) (sym (c .width-of .ensures .0)) (fits (c .before .before .before) .wide)
+wide : (c : tie.After-width-of) → 240 + c .before .before .before .args .n * c .width-of .result ≤ 131308
+wide c = subst (λ (v : ℕ). 240 + c .before .before .before .args .n * v ≤ 131308) (sym (c .width-of .ensures .0)) (fits (c .before .before .before) .wide)
 
-most : (c : tie.After-width-of) → c .before .before .before .args .t * (240 + c .before .before .before .args .n * c .width-of .result) ≤ 100000 * 32240
-most c = subst (λ (v : ℕ). c .before .before .before .args .t * (240 + c .before .before .before .args .n * v) ≤ 100000 * 32240) (sym (c .width-of .ensures .0)) (fits (c .before .before .before) .size)
+most : (c : tie.After-width-of) → c .before .before .before .args .t * (240 + c .before .before .before .args .n * c .width-of .result) ≤ 100000 * 131308
+most c = subst (λ (v : ℕ). c .before .before .before .args .t * (240 + c .before .before .before .args .n * v) ≤ 100000 * 131308) (sym (c .width-of .ensures .0)) (fits (c .before .before .before) .size)
 
 size : (c : tie.After-width-of) → let a = c .before .before .before .args in 3600 + a .t * (240 + a .n * c .width-of .result) ≡ firstTrace + a .t * stride (a .n) (sampleBytes (a .code))
 size c = let a = c .before .before .before .args in ap (λ (v : ℕ). 3600 + a .t * (240 + a .n * v)) (c .width-of .ensures .0)
@@ -58,7 +58,7 @@ put-reel-requires c κs =
     let s = c .before .before .before .before .before in
     let a = s .args in
     let f = fits s in
-    (f .a-code, ap (λ (v : ℕ). 240 + a .n * v) (c .before .before .width-of .ensures .0), f .n-high, f .room, length-take-le (3600 + a .t * (240 + a .n * c .before .before .width-of .result)) (a .reel .now) (c .before .if1 .left))
+    (f .a-code, c .before .before .width-of .ensures .0, refl, f .front, f .room, length-take-le (3600 + a .t * (240 + a .n * c .before .before .width-of .result)) (a .reel .now) (c .before .if1 .left))
 
 same-length : tie.Need-same-length
 same-length c = c .before .reel .given .1
@@ -79,6 +79,7 @@ put-checked-spec =
     mul-length
     add-length
     returns
+    (λ c. omega (arith, fits (c .before .before .before .before) .n-high))
     slice-relend-prefix-put-reel
     slice-aggregate-put-reel
     put-reel-requires

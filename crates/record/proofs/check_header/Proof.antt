@@ -1,5 +1,5 @@
--- `record::check_head` meets its contract. Assumes nothing.
-use Rattle.record.proofs.FormLaws.{head-form, field-room}
+-- `record::check_header` meets its contract. Assumes nothing.
+use Rattle.record.proofs.FormLaws.{header-parts, field-room}
 use Rattle.record.specs.Form.{fieldCause}
 use Rattle.headers.specs.Header.{headerSize, smallestCauses, headerJudged}
 use Rattle.reel.specs.Layout.{number16}
@@ -13,10 +13,9 @@ use mathlib.Core.Bool.{not}
 use Prim.Native.Nat.{_+_, _≤_}
 use mathlib.Core.Path.{_≡_, sym, _∙_}
 use native.Mathlib.Omega.{arith}
-use borrow.Author.Needs.{needs}
 use borrow.Author.Tests.{le-leb}
-use Rattle.record.proofs.check_head.Statement.{statement}
-use Rattle.record.proofs.check_head.Tie as tie
+use Rattle.record.proofs.check_header.Statement.{statement}
+use Rattle.record.proofs.check_header.Tie as tie
 
 fine : (c : tie.After-enum-told) → let a = c .before .before .before .before .args in fieldCause (a .«record» .now) 3 180 (placeNo (a .at)) ≡ Fine
 fine c = sym (c .before .before .check-field .ensures) ∙ c .enum-told .given .1
@@ -42,46 +41,33 @@ row115 c = c .check-like .ensures
 fine115 : (c : tie.After-enum-told5) → let a = c .before .before .before .before .before .before .before .before .before .before .args in refuseIf (not (eqb (number16 (a .«record» .now) (bytePlace (placeNo (a .at) + 3) 115)) (a .n))) 13 (bytePlace (placeNo (a .at) + 3) 115) ≡ Fine
 fine115 c = sym (row115 (c .before .before)) ∙ c .enum-told5 .given .1
 
-row117 : (c : tie.After-check-like2) → let a = c .before .before .before .before .before .before .before .before .before .before .before .args in c .check-like2 .result ≡ refuseIf (not (eqb (number16 (a .«record» .now) (bytePlace (placeNo (a .at) + 3) 117)) (a .i))) 13 (bytePlace (placeNo (a .at) + 3) 117)
-row117 c = c .check-like2 .ensures
-
-fine117 : (c : tie.After-enum-told7) → let a = c .before .before .before .before .before .before .before .before .before .before .before .before .before .args in refuseIf (not (eqb (number16 (a .«record» .now) (bytePlace (placeNo (a .at) + 3) 117)) (a .i))) 13 (bytePlace (placeNo (a .at) + 3) 117) ≡ Fine
-fine117 c = sym (row117 (c .before .before)) ∙ c .enum-told7 .given .1
-
 returns : tie.Need-returns
 returns c =
     let e = c .before .before .check-field .ensures in
     let a = c .before .before .before .before .args in
-    e ∙ then-stop _ _ (sym e ∙ c .enum-told2 .given .1) ∙ sym (head-form (a .«record» .now) (a .n) (a .i) (placeNo (a .at)))
+    e ∙ then-stop _ _ (sym e ∙ c .enum-told2 .given .1) ∙ sym (header-parts (a .«record» .now) (a .n) (a .i) (placeNo (a .at)))
 
 returns-2 : tie.Need-returns-2
 returns-2 c =
     let e = rowScalars (c .before .before) in
     let a = c .before .before .before .before .before .before .before .args in
-    e ∙ then-stop _ _ (sym e ∙ c .enum-told4 .given .1) ∙ then-next _ _ (fine (c .before .before .before)) ∙ sym (head-form (a .«record» .now) (a .n) (a .i) (placeNo (a .at)))
+    e ∙ then-stop _ _ (sym e ∙ c .enum-told4 .given .1) ∙ then-next _ _ (fine (c .before .before .before)) ∙ sym (header-parts (a .«record» .now) (a .n) (a .i) (placeNo (a .at)))
 
 returns-3 : tie.Need-returns-3
 returns-3 c =
     let e = row115 (c .before .before) in
     let a = c .before .before .before .before .before .before .before .before .before .before .args in
     e ∙ then-stop _ _ (sym e ∙ c .enum-told6 .given .1) ∙ then-next _ _ (fineScalars (c .before .before .before)) ∙ then-next _ _ (fine (c .before .before .before .before .before .before))
-    ∙ sym (head-form (a .«record» .now) (a .n) (a .i) (placeNo (a .at)))
+    ∙ sym (header-parts (a .«record» .now) (a .n) (a .i) (placeNo (a .at)))
 
 returns-4 : tie.Need-returns-4
 returns-4 c =
-    let e = row117 (c .before .before) in
-    let a = c .before .before .before .before .before .before .before .before .before .before .before .before .before .args in
-    e ∙ then-stop _ _ (sym e ∙ c .enum-told8 .given .1) ∙ then-next _ _ (fine115 (c .before .before .before)) ∙ then-next _ _ (fineScalars (c .before .before .before .before .before .before)) ∙ then-next _ _ (fine (c .before .before .before .before .before .before .before .before .before))
-    ∙ sym (head-form (a .«record» .now) (a .n) (a .i) (placeNo (a .at)))
+    let a = c .before .before .before .before .before .before .before .before .before .before .before .args in
+    c .check-like2 .ensures ∙ then-next _ _ (fine115 (c .before)) ∙ then-next _ _ (fineScalars (c .before .before .before .before)) ∙ then-next _ _ (fine (c .before .before .before .before .before .before .before))
+    ∙ sym (header-parts (a .«record» .now) (a .n) (a .i) (placeNo (a .at)))
 
-returns-5 : tie.Need-returns-5
-returns-5 c =
-    let a = c .before .before .before .before .before .before .before .before .before .before .before .before .before .before .args in
-    c .check-field2 .ensures ∙ then-next _ _ (fine117 (c .before)) ∙ then-next _ _ (fine115 (c .before .before .before .before)) ∙ then-next _ _ (fineScalars (c .before .before .before .before .before .before .before)) ∙ then-next _ _ (fine (c .before .before .before .before .before .before .before .before .before .before))
-    ∙ sym (head-form (a .«record» .now) (a .n) (a .i) (placeNo (a .at)))
-
-pub check-head-spec : {M : Type 1} → statement M
-check-head-spec =
+pub check-header-spec : {M : Type 1} → statement M
+check-header-spec =
     tie.close
     (tie.spec
     (λ c κs. tt)
@@ -100,10 +86,4 @@ check-head-spec =
     returns-3
     (λ c. omega (arith, room (c .before .before .before .before .before .before)))
     (λ c κs. (omega arith, omega (arith, room (c .before .before .before .before .before .before))))
-    (λ c. c .match4 .keys1)
-    (λ c. c .match4 .keys2)
-    returns-4
-    (λ c. search needs)
-    (λ c. omega (arith, room (c .before .before .before .before .before .before .before .before .before)))
-    (λ c κs. tt)
-    returns-5)
+    returns-4)
