@@ -2,10 +2,10 @@
 use mathlib.Core.Path.{_≡_, refl, sym, ap, ap₂, _∙_}
 use mathlib.Core.List.{List}
 use mathlib.Core.Bool.{Bool, true, false, not, _&&_}
-use Prim.Native.Nat.{ℕ, zero, suc, _+_, _-_, _*_, _≤_, _<_, min}
+use Prim.Native.Nat.{ℕ, zero, suc, _+_, _-_, _*_, _<_, min}
 use native.Mathlib.Omega.{arith}
 use lib.Dec.{ltb, eqb}
-use lib.ListN.{length, getD}
+use lib.ListN.{getD}
 use borrow.Author.Tests.{not-false, ltb-false}
 use Rattle.numbers.specs.Walk.{pick, walk, flat, bytesAt}
 use Rattle.numbers.specs.BigEndian.{number}
@@ -30,9 +30,11 @@ use Rattle.record.specs.Form.{fieldCause, cardsCauses, heldSamples, heldInterva
 use Rattle.record.specs.Held.{heldValue}
 use Rattle.fit.specs.Target.{isUnfit, fitCause, samplesFit, traceFit, fitCauses, targetCauses}
 use Rattle.write_samples.specs.Samples.{pairRefused, pairCheck}
-use Rattle.record.specs.Parts.{formFrom}
-use Rattle.fit.specs.Parts.{fieldCheck, fieldsCheck, traceCheck, fitFrom}
-use Rattle.record.proofs.FormLaws.{field-room, share-some, isMore, more-few, more-tag, place-next, form-more, form-is, form-stop}
+use Rattle.record.specs.declared.Target.the-variants.{Code}
+use Rattle.record.specs.Parts.{pairsBy, fieldBy, fieldsBy, traceBy, formFrom}
+use Rattle.fit.specs.Parts.{fitFrom}
+use Rattle.write_samples.proofs.WordLaws.{samples-checked}
+use Rattle.record.proofs.FormLaws.{field-room, fields-none, fields-more, share-some, isMore, more-few, more-tag, place-next, form-more, form-is, form-stop}
 
 -- ## Pairs
 
@@ -72,52 +74,42 @@ module _ (s : List ℕ) (code : ℕ) (h : isCode code ≡ true) where
 
 -- ## Fields
 
-module _ (s : List ℕ) (code : ℕ) where
-  -- a field at a time
-  pub check-none : (c : ℕ) → 0 < c → (n at : ℕ) → n ≤ 0 → fieldsCheck s code c n at ≡ Fine
-  unfolding fieldsCheck
-  check-none c some n at h = ap firstOf (in-none c some 6 (fieldCheck s code) n at h)
-
-  pub check-more : (c : ℕ) → 0 < c → (n at : ℕ) → 0 < n
-      → fieldsCheck s code c n at ≡ then (fieldCheck s code (min c n) at) (fieldsCheck s code c (n - c) (at + (3 + min c n * 6)))
-  unfolding fieldsCheck
-  check-more c some n at h = ap firstOf (in-next c some 6 (fieldCheck s code) n at h)
-
-  -- a field in which nothing is found ends within the record
-  pub check-room : (count at : ℕ) → fieldCheck s code count at ≡ Fine → at + (3 + count * 6) ≤ length s
-  unfolding fieldCheck
-  check-room count at e = field-room s 4 (count * 6) at (then-fine (fieldCause s 4 (count * 6) at) _ e .0)
-
 module _ (s : List ℕ) (code : ℕ) (h : isCode code ≡ true) where
   -- 14 alone, of the samples of a field
   abbrev fitOf : ℕ → ℕ → List Check
   fitOf m p = walk (fitCause s code) 6 m (p + 3)
 
+  -- the pairs of a field that stands, by 13 and 14
+  pairs-are : (m at : ℕ) → fieldCause s 4 (m * 6) at ≡ Fine → pairsBy (Code code) s m (at + 3) ≡ firstOf (walk (pairCheck s code) 6 m (at + 3))
+  unfolding pairsBy
+  pairs-are m at e = samples-checked s code m (at + 3) h (omega (arith, field-room s 4 (m * 6) at e))
+
   -- a field in which nothing is found is of the right form, and its samples fit
-  one-fine : (m at : ℕ) → fieldCheck s code m at ≡ Fine → (fieldFormIn tag04 s m at ≡ Fine) × (firstOf (fitOf m at) ≡ Fine)
-  unfolding fieldCheck fieldFormIn
+  one-fine : (m at : ℕ) → fieldBy (Code code) s m at ≡ Fine → (fieldFormIn tag04 s m at ≡ Fine) × (firstOf (fitOf m at) ≡ Fine)
+  unfolding fieldBy fieldFormIn
   one-fine m at e =
       let t = then-fine (fieldCause s 4 (m * 6) at) _ e in
-      let p = pairs-fine s code h 6 m (at + 3) (t .1) in
-      (ap₂ then (t .0) p, sym (pairs-fit s code h 6 m (at + 3) p) ∙ t .1)
+      let q = sym (pairs-are m at (t .0)) ∙ t .1 in
+      let p = pairs-fine s code h 6 m (at + 3) q in
+      (ap₂ then (t .0) p, sym (pairs-fit s code h 6 m (at + 3) p) ∙ q)
 
   -- what is found in a field of the right form
-  one-fit : (m at : ℕ) → fieldFormIn tag04 s m at ≡ Fine → fieldCheck s code m at ≡ firstOf (fitOf m at)
-  unfolding fieldCheck fieldFormIn
+  one-fit : (m at : ℕ) → fieldFormIn tag04 s m at ≡ Fine → fieldBy (Code code) s m at ≡ firstOf (fitOf m at)
+  unfolding fieldBy fieldFormIn
   one-fit m at e =
       let t = then-fine (fieldCause s 4 (m * 6) at) _ e in
-      ap (λ (x : Check). then x (firstOf (walk (pairCheck s code) 6 m (at + 3)))) (t .0) ∙ pairs-fit s code h 6 m (at + 3) (t .1)
+      ap (λ (x : Check). then x (pairsBy (Code code) s m (at + 3))) (t .0) ∙ pairs-are m at (t .0) ∙ pairs-fit s code h 6 m (at + 3) (t .1)
 
   module _ (c : ℕ) (some : 0 < c) where
     abbrev Both : ℕ → Type 0
-    Both n = (at : ℕ) → fieldsCheck s code c n at ≡ Fine → (firstOf (inFields (fieldFormIn tag04 s) 6 c n at) ≡ Fine) × (firstOf (flat (inFields fitOf 6 c n at)) ≡ Fine)
+    Both n = (at : ℕ) → fieldsBy (Code code) s c n at ≡ Fine → (firstOf (inFields (fieldFormIn tag04 s) 6 c n at) ≡ Fine) × (firstOf (flat (inFields fitOf 6 c n at)) ≡ Fine)
 
     fields-fine : (n : ℕ) → Both n
     fields-fine =
         by-fields c some Both (λ n l at e. (ap firstOf (in-none c some 6 (fieldFormIn tag04 s) n at l), ap (λ (x : List (List Check)). firstOf (flat x)) (in-none c some 6 fitOf n at l)))
         (λ n l rest at e.
         let next = at + (3 + min c n * 6) in
-        let t = then-fine (fieldCheck s code (min c n) at) _ (sym (check-more s code c some n at l) ∙ e) in
+        let t = then-fine (fieldBy (Code code) s (min c n) at) _ (sym (fields-more (Code code) s c some n at l) ∙ e) in
         let x = one-fine (min c n) at (t .0) in
         let y = rest next (t .1) in (
           ap firstOf (in-next c some 6 (fieldFormIn tag04 s) n at l) ∙ ap₂ then (x .0) (y .0),
@@ -125,15 +117,15 @@ module _ (s : List ℕ) (code : ℕ) (h : isCode code ≡ true) where
         ))
 
     abbrev Fits : ℕ → Type 0
-    Fits n = (at : ℕ) → firstOf (inFields (fieldFormIn tag04 s) 6 c n at) ≡ Fine → fieldsCheck s code c n at ≡ firstOf (flat (inFields fitOf 6 c n at))
+    Fits n = (at : ℕ) → firstOf (inFields (fieldFormIn tag04 s) 6 c n at) ≡ Fine → fieldsBy (Code code) s c n at ≡ firstOf (flat (inFields fitOf 6 c n at))
 
     fields-fit : (n : ℕ) → Fits n
     fields-fit =
-        by-fields c some Fits (λ n l at e. check-none s code c some n at l ∙ sym (ap (λ (x : List (List Check)). firstOf (flat x)) (in-none c some 6 fitOf n at l)))
+        by-fields c some Fits (λ n l at e. fields-none (Code code) s c some n at l ∙ sym (ap (λ (x : List (List Check)). firstOf (flat x)) (in-none c some 6 fitOf n at l)))
         (λ n l rest at e.
         let next = at + (3 + min c n * 6) in
         let t = then-fine (fieldFormIn tag04 s (min c n) at) _ (sym (ap firstOf (in-next c some 6 (fieldFormIn tag04 s) n at l)) ∙ e) in
-        check-more s code c some n at l
+        fields-more (Code code) s c some n at l
         ∙ ap₂ then (one-fit (min c n) at (t .0)) (rest next (t .1))
         ∙ sym (ap (λ (z : List (List Check)). firstOf (flat z)) (in-next c some 6 fitOf n at l) ∙ first-append (fitOf (min c n) at) (flat (inFields fitOf 6 c (n - c) next))))
 
@@ -143,14 +135,14 @@ module _ (s : List ℕ) (code : ℕ) (h : isCode code ≡ true) where
     fit-is = ap firstOf (pairs-in-fields (shareIn tag04 s n at) (share-some tag04 s n at) 6 (fitCause s code) n at)
 
     -- a trace's samples in which the one pass finds nothing are of the right form, and fit
-    judged-fine : fieldsCheck s code (shareIn tag04 s n at) n at ≡ Fine → (samplesCausesIn tag04 s n at ≡ Fine) × (samplesFit s code n at ≡ Fine)
+    judged-fine : fieldsBy (Code code) s (shareIn tag04 s n at) n at ≡ Fine → (samplesCausesIn tag04 s n at ≡ Fine) × (samplesFit s code n at ≡ Fine)
     unfolding samplesCausesIn
     judged-fine e =
         let x = fields-fine (shareIn tag04 s n at) (share-some tag04 s n at) n at e in
         (x .0, fit-is ∙ x .1)
 
     -- in samples of the right form it finds the first that doesn't fit
-    judged-fit : samplesCausesIn tag04 s n at ≡ Fine → fieldsCheck s code (shareIn tag04 s n at) n at ≡ samplesFit s code n at
+    judged-fit : samplesCausesIn tag04 s n at ≡ Fine → fieldsBy (Code code) s (shareIn tag04 s n at) n at ≡ samplesFit s code n at
     unfolding samplesCausesIn
     judged-fit e = fields-fit (shareIn tag04 s n at) (share-some tag04 s n at) n at e ∙ sym fit-is
 
@@ -158,16 +150,16 @@ module _ (s : List ℕ) (code : ℕ) (h : isCode code ≡ true) where
 
 module _ (s : List ℕ) (code n i : ℕ) (h : isCode code ≡ true) where
   -- a trace for which the check finds nothing
-  pub trace-fine : (at : ℕ) → traceCheck s code n i at ≡ Fine → (traceFormIn tag04 s n i at ≡ Fine) × (traceFit s code n at ≡ Fine)
-  unfolding traceCheck traceFormIn
+  pub trace-fine : (at : ℕ) → traceBy (Code code) s n i at ≡ Fine → (traceFormIn tag04 s n i at ≡ Fine) × (traceFit s code n at ≡ Fine)
+  unfolding traceBy traceFormIn
   trace-fine at e =
       let t = then-fine (headerCauses s n i at) _ e in
       let x = judged-fine s code h n (at + 183) (t .1) in
       (ap₂ then (t .0) (x .0), x .1)
 
   -- what the check finds in a trace of the right form
-  pub trace-fit : (at : ℕ) → traceFormIn tag04 s n i at ≡ Fine → traceCheck s code n i at ≡ traceFit s code n at
-  unfolding traceCheck traceFormIn
+  pub trace-fit : (at : ℕ) → traceFormIn tag04 s n i at ≡ Fine → traceBy (Code code) s n i at ≡ traceFit s code n at
+  unfolding traceBy traceFormIn
   trace-fit at e =
       let t = then-fine (headerCauses s n i at) _ e in
       ap₂ then (t .0) (judged-fit s code h n (at + 183) (t .1))
@@ -219,7 +211,7 @@ module _ (s : List ℕ) (n : ℕ) where
 
     module _ (i : ℕ) (h : isCode code ≡ true) (t at : ℕ) (e : isMore s t at ≡ true) where
       -- behind a trace for which the check finds nothing
-      pub body-more : traceCheck s code n i at ≡ Fine
+      pub body-more : traceBy (Code code) s n i at ≡ Fine
           → then (formFrom s n i (mostTraces - t) t at) (fitFrom s code n (mostTraces - t) at)
           ≡ then (formFrom s n i (mostTraces - (t + 1)) (t + 1) (behindTraceIn tag04 s n at)) (fitFrom s code n (mostTraces - (t + 1)) (behindTraceIn tag04 s n at))
       body-more f =
@@ -229,11 +221,11 @@ module _ (s : List ℕ) (n : ℕ) where
           (fit-more t at e ∙ ap (λ c. then c (fitFrom s code n (mostTraces - (t + 1)) (behindTraceIn tag04 s n at))) (x .1))
 
       -- at a trace for which it finds something
-      pub body-stop : {number : ℕ} {place : Place} → traceCheck s code n i at ≡ Refused number place
-          → then (formFrom s n i (mostTraces - t) t at) (traceCheck s code n i at) ≡ then (formFrom s n i (mostTraces - t) t at) (fitFrom s code n (mostTraces - t) at)
+      pub body-stop : {number : ℕ} {place : Place} → traceBy (Code code) s n i at ≡ Refused number place
+          → then (formFrom s n i (mostTraces - t) t at) (traceBy (Code code) s n i at) ≡ then (formFrom s n i (mostTraces - t) t at) (fitFrom s code n (mostTraces - t) at)
       body-stop {number} {place} f = go (formFrom s n i (mostTraces - t) t at) refl
         where
-          go : (c : Check) → formFrom s n i (mostTraces - t) t at ≡ c → then c (traceCheck s code n i at) ≡ then c (fitFrom s code n (mostTraces - t) at)
+          go : (c : Check) → formFrom s n i (mostTraces - t) t at ≡ c → then c (traceBy (Code code) s n i at) ≡ then c (fitFrom s code n (mostTraces - t) at)
           go Fine q =
               let x = then-fine (traceFormIn tag04 s n i at) _ (sym (form-more s n i t at e) ∙ q) in
               let y = trace-fit s code n i h at (x .0) in

@@ -1,63 +1,19 @@
 // Whether a record can be written under a target code: the causes 11 to 14.
 ghost use mathlib.Core.Path.{_≡_};
 ghost use mathlib.Core.Bool.{true};
-ghost use Prim.Native.Nat.{_-_, _^_, _<_};
+ghost use Prim.Native.Nat.{_-_};
 ghost use Rattle.numbers.specs.Cause.{then};
 ghost use Rattle.formats.specs.Codes.{isCode};
 ghost use Rattle.reel.specs.Causes.{mostTraces};
 ghost use Rattle.record.specs.Form.{tracesPlace};
 ghost use Rattle.record.specs.Parts.{formFrom};
 ghost use Rattle.fit.specs.Target.{targetCauses, fitJudged};
-ghost use Rattle.fit.specs.Parts.{fieldCheck, fieldsCheck, traceCheck, fitFrom};
+ghost use Rattle.fit.specs.Parts.{fitFrom};
 use numbers::ByteNo;
 use numbers::Check;
 use numbers::Place;
 use record::Judged;
-
-// 12, then 13 or 14, of a field of samples.
-fn check_one(record: &[u8], code: u32, count: usize, at: usize) -> Check
-    requires { ⌜ (isCode code ≡ true) × (count < 2 ^ 16) ⌝ }
-    ensures { λ r. ⌜ r ≡ fieldCheck (now («record» .entry)) code count at ⌝ }
-{
-    let a = record::check_field(record, 4, count * 6, Place(at));
-    let Check::Fine = a else {
-        return a;
-    };
-    write_samples::check_samples(record, code, count, Place(at + 3))
-}
-
-// The same of n samples in fields of c.
-fn check_fields(record: &[u8], code: u32, c: usize, n: usize, start: usize) -> Check
-    requires { ⌜ (isCode code ≡ true) × (0 < c) × (n < 2 ^ 16) ⌝ }
-    ensures { λ r. ⌜ r ≡ fieldsCheck (now («record» .entry)) code c n start ⌝ }
-{
-    let mut at = start;
-    let mut left = n;
-    while 0 < left {
-        let count = record::least(c, left);
-        let a = check_one(record, code, count, at);
-        let Check::Fine = a else {
-            return a;
-        };
-        at += 3 + count * 6;
-        left -= count;
-    }
-    Check::Fine
-}
-
-// A trace for which this finds nothing is of the right form, and its samples fit. What it finds first is a cause of 12 or 13, or a 14,
-// which gives way to any 12 or 13 behind it.
-fn check_trace(record: &[u8], code: u32, n: u16, i: u16, at: usize) -> Check
-    requires { ⌜ isCode code ≡ true ⌝ }
-    ensures { λ r. ⌜ r ≡ traceCheck (now («record» .entry)) code n i at ⌝ }
-{
-    let a = record::check_header(record, n, i, Place(at));
-    let Check::Fine = a else {
-        return a;
-    };
-    let c = record::share_at(record, n, Place(at));
-    check_fields(record, code, c, n as usize, at + 183)
-}
+use record::Target;
 
 // 12 and 13 from a trace on; where there is none, what was found at that trace, which is then a sample that doesn't fit.
 fn check_later(record: &[u8], n: u16, i: u16, t: usize, at: usize, found: Check) -> Check
@@ -70,7 +26,8 @@ fn check_later(record: &[u8], n: u16, i: u16, t: usize, at: usize, found: Check)
     found
 }
 
-// 12 and 13 of the traces and of what stands behind them, then 14.
+// 12 and 13 of the traces and of what stands behind them, then 14. What is first found at a trace is a cause of 12 or 13, or a 14, which gives
+// way to any 12 or 13 behind it.
 fn check_body(record: &[u8], code: u32, n: u16, i: u16) -> Check
     requires { ⌜ isCode code ≡ true ⌝ }
     ensures { λ r. ⌜ r ≡ then (formFrom (now («record» .entry)) n i mostTraces 0 tracesPlace) (fitFrom (now («record» .entry)) code n mostTraces tracesPlace) ⌝ }
@@ -78,7 +35,7 @@ fn check_body(record: &[u8], code: u32, n: u16, i: u16) -> Check
     let mut at = 3266;
     let mut t = 0;
     while record::is_trace(record, t, Place(at)) {
-        let c = check_trace(record, code, n, i, at);
+        let c = record::check_trace(record, Target::Code { code }, n, i, Place(at));
         let Check::Fine = c else {
             return check_later(record, n, i, t, at, c);
         };

@@ -73,7 +73,7 @@ fn put_samples(reel: &[u8], code: usize, n: usize, start: usize, out: &mut [u8])
     let mut o = 0;
     let mut left = n;
     while 0 < left {
-        let count = record::least(6000, left);
+        let count = fields::next_count(6000, left);
         let e = o + (3 + count * 6);
         put_field(reel, code, count, at, &mut out[o..e]);
         at += count * v;

@@ -31,7 +31,9 @@ use Rattle.record.specs.Kind.{Kind, tag04}
 use Rattle.record.specs.Record.{fieldSamples, traceLengthIn}
 use Rattle.record.specs.Form.{isField, fieldCause, cardCause, cardsCauses, heldSamples, heldInterval, binaryCauses, tracesPlace, headerCauses, endCauses, pairCauseIn, fieldFormIn, isEarlierIn, shareIn, samplesCausesIn, traceFormIn, heldStrideIn, behindTraceIn, tracePlaceIn, isTraceIn, heldCountIn, bodyCausesIn, heldCount, formCausesIn, formCauses, recordFound, numbersIn}
 use Rattle.record.specs.declared.Judged.the-variants as judged
-use Rattle.record.specs.Parts.{fieldsForm, formFrom}
+use Rattle.record.specs.declared.Target.{Target}
+use Rattle.record.specs.declared.Target.the-variants.{None}
+use Rattle.record.specs.Parts.{pairsBy, fieldBy, fieldsBy, traceBy, formFrom}
 
 -- ## Fields
 
@@ -67,16 +69,13 @@ share-some k s n at = go (ltb fieldSamples n) refl (leb n (k .earlier)) (eqb (nu
     go true e false c = omega arith
     go false e b c = omega arith
 
--- and at most 8,000
-pub share-high : (s : List ℕ) (n at : ℕ) → shareIn tag04 s n at ≤ 8000
-share-high s n at = go (leb n 8000) refl (ltb fieldSamples n) (eqb (number16 s (at + 1)) (n * 6))
+-- where that isn't 6,000, they all stand in one field
+pub share-one : (k : Kind) (s : List ℕ) (n at : ℕ) → (shareIn k s n at ≡ fieldSamples → ⊥) → fieldsIn (shareIn k s n at) n ≡ 1
+share-one k s n at other = go (isEarlierIn k s n at) (share-some k s n at) other
   where
-    go : (b : Bool) → leb n 8000 ≡ b → (a c : Bool) → pick ((a && b) && c) n fieldSamples ≤ 8000
-    go true e true true = leb-true n 8000 e
-    go true e true false = omega arith
-    go true e false c = omega arith
-    go false e true c = omega arith
-    go false e false c = omega arith
+    go : (b : Bool) → 0 < pick b n fieldSamples → (pick b n fieldSamples ≡ fieldSamples → ⊥) → fieldsIn (pick b n fieldSamples) n ≡ 1
+    go true some other = fields-one n some n some (omega arith)
+    go false some other = absurd (other refl)
 
 -- samples in which nothing is found end within the record
 pub samples-room : (k : Kind) (s : List ℕ) (c : ℕ) → 0 < c → (n at : ℕ) → firstOf (inFields (fieldFormIn k s) (k .width) c n at) ≡ Fine → at ≤ length s
@@ -103,26 +102,27 @@ pairs-fine k s n at e =
     ∙ flat-fine (λ f. walk (pairCauseIn k s) (k .width) (fieldCount c n f) (fieldPlace (k .width) c at f + 3)) (fieldsIn c n)
     (λ f l. then-fine (fieldCause s (k .tag) (fieldCount c n f * k .width) (fieldPlace (k .width) c at f)) _ (one f l) .1))
 
--- the samples of a trace, a field at a time
-module _ (s : List ℕ) where
-  pub fields-none : (c : ℕ) → 0 < c → (n at : ℕ) → n ≤ 0 → fieldsForm s c n at ≡ Fine
-  unfolding fieldsForm
-  fields-none c some n at h = ap firstOf (in-none c some 6 (fieldFormIn tag04 s) n at h)
+-- the samples of a trace, a field at a time, whatever the target
+module _ (target : Target) (s : List ℕ) where
+  pub fields-none : (c : ℕ) → 0 < c → (n at : ℕ) → n ≤ 0 → fieldsBy target s c n at ≡ Fine
+  unfolding fieldsBy
+  fields-none c some n at h = ap firstOf (in-none c some 6 (fieldBy target s) n at h)
 
   pub fields-more : (c : ℕ) → 0 < c → (n at : ℕ) → 0 < n
-      → fieldsForm s c n at ≡ then (fieldFormIn tag04 s (min c n) at) (fieldsForm s c (n - c) (at + (3 + min c n * 6)))
-  unfolding fieldsForm
-  fields-more c some n at h = ap firstOf (in-next c some 6 (fieldFormIn tag04 s) n at h)
+      → fieldsBy target s c n at ≡ then (fieldBy target s (min c n) at) (fieldsBy target s c (n - c) (at + (3 + min c n * 6)))
+  unfolding fieldsBy
+  fields-more c some n at h = ap firstOf (in-next c some 6 (fieldBy target s) n at h)
 
-  pub one-room : (count at : ℕ) → fieldFormIn tag04 s count at ≡ Fine → at + (3 + count * 6) ≤ length s
-  unfolding fieldFormIn
+  -- a field in which nothing is found ends within the record
+  pub one-room : (count at : ℕ) → fieldBy target s count at ≡ Fine → at + (3 + count * 6) ≤ length s
+  unfolding fieldBy
   one-room count at e = field-room s 4 (count * 6) at (then-fine (fieldCause s 4 (count * 6) at) _ e .0)
 
 -- ## A trace
 
--- its form is that of its header, and then that of its samples by its own share
-pub trace-form : (s : List ℕ) (n i at : ℕ) → traceFormIn tag04 s n i at ≡ then (headerCauses s n i at) (fieldsForm s (shareIn tag04 s n (at + 183)) n (at + 183))
-unfolding traceFormIn samplesCausesIn fieldsForm
+-- without a target, its causes are 12 and 13 of its header and of its samples
+pub trace-form : (s : List ℕ) (n i at : ℕ) → traceBy None s n i at ≡ traceFormIn tag04 s n i at
+unfolding traceBy fieldsBy fieldBy pairsBy traceFormIn samplesCausesIn fieldFormIn
 trace-form s n i at = refl
 
 -- a header's causes one after the other, before any other check

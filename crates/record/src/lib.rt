@@ -1,7 +1,7 @@
 // The form of a record: the causes 12 and 13 against any bytes that are lent as one.
 ghost use mathlib.Core.Path.{_≡_};
 ghost use mathlib.Core.Bool.{not, _&&_};
-ghost use Prim.Native.Nat.{_+_, _-_, _*_, _^_, _≤_, _<_, min};
+ghost use Prim.Native.Nat.{_+_, _-_, _*_, _^_, _≤_, _<_};
 ghost use lib.ListN.{length, getD};
 ghost use lib.Dec.{leb, ltb, eqb};
 ghost use Rattle.numbers.specs.Walk.{walk, bytesAt};
@@ -11,8 +11,8 @@ ghost use Rattle.value.specs.Pair.{pairIn};
 ghost use Rattle.reel.specs.Layout.{number16};
 ghost use Rattle.reel.specs.Causes.{mostTraces};
 ghost use Rattle.record.specs.Kind.{tag04};
-ghost use Rattle.record.specs.Form.{fieldHead, toSamples, fieldCause, cardCause, cardsCauses, numberCauses, binaryStart, binaryCauses, pairCauseIn, fieldFormIn, shareIn, heldStrideIn, headerCauses, traceFormIn, endCauses, formCauses, numbersIn, recordJudged};
-ghost use Rattle.record.specs.Parts.{fieldsForm, formFrom};
+ghost use Rattle.record.specs.Form.{fieldHead, toSamples, fieldCause, cardCause, cardsCauses, numberCauses, binaryStart, binaryCauses, pairCauseIn, shareIn, heldStrideIn, headerCauses, endCauses, formCauses, numbersIn, recordJudged};
+ghost use Rattle.record.specs.Parts.{pairsBy, fieldBy, fieldsBy, traceBy, formFrom};
 use numbers::ByteNo;
 use numbers::Check;
 use numbers::Place;
@@ -55,6 +55,12 @@ pub struct Numbers {
 pub enum Judged {
     Fine { samples: usize, traces: usize },
     Refused { number: u8, place: Place },
+}
+
+// What a record's samples are judged for: that their pairs are canonical, or also that they fit a code.
+pub enum Target {
+    None,
+    Code { code: u32 },
 }
 
 // Whether a field of that length, with its tag and length before it, ends within so many bytes.
@@ -262,47 +268,51 @@ pub fn share_at(record: &[u8], n: u16, at: Place) -> usize
     n as usize
 }
 
-// The bytes of that trace.
+// The bytes of that trace. (No division but by 6,000, which the compiler makes a product of.)
 pub fn stride_at(record: &[u8], n: u16, at: Place) -> usize
     ensures { λ r. ⌜ r ≡ heldStrideIn tag04 (now («record» .entry)) n (placeNo at) ⌝ }
 {
     let c = share_at(record, n, at);
     let m = n as usize;
-    183 + (3 * ((m + (c - 1)) / c) + m * 6)
-}
-
-// The smaller of two numbers.
-pub fn least(a: usize, b: usize) -> usize
-    ensures { λ r. ⌜ r ≡ min a b ⌝ }
-{
-    if a < b {
-        return a;
+    if c == 6000 {
+        return 183 + (3 * ((m + 5999) / 6000) + m * 6);
     }
-    b
+    186 + m * 6
 }
 
-// 12, then 13, of a field of samples.
-fn check_one_form(record: &[u8], count: usize, at: usize) -> Check
+// 13 against the first of n pairs from a place on that isn't canonical; under a target code also 14 against the first that doesn't fit.
+fn check_pairs(record: &[u8], target: Target, n: usize, at: usize) -> Check
+    requires { ⌜ at + n * 6 ≤ length (now «record») ⌝ }
+    ensures { λ r. ⌜ r ≡ pairsBy target (now («record» .entry)) n at ⌝ }
+{
+    match target {
+        Target::None => check_canonical(record, n, at),
+        Target::Code { code } => write_samples::check_samples(record, code, n, Place(at)),
+    }
+}
+
+// A field of samples: 12, then its pairs.
+fn check_one(record: &[u8], target: Target, count: usize, at: usize) -> Check
     requires { ⌜ count < 2 ^ 16 ⌝ }
-    ensures { λ r. ⌜ r ≡ fieldFormIn tag04 (now («record» .entry)) count at ⌝ }
+    ensures { λ r. ⌜ r ≡ fieldBy target (now («record» .entry)) count at ⌝ }
 {
     let a = check_field(record, 4, count * 6, Place(at));
     let Check::Fine = a else {
         return a;
     };
-    check_canonical(record, count, at + 3)
+    check_pairs(record, target, count, at + 3)
 }
 
 // The same of n samples in fields of c.
-fn check_fields_form(record: &[u8], c: usize, n: usize, start: usize) -> Check
+fn check_fields(record: &[u8], target: Target, c: usize, n: usize, start: usize) -> Check
     requires { ⌜ (0 < c) × (n < 2 ^ 16) ⌝ }
-    ensures { λ r. ⌜ r ≡ fieldsForm (now («record» .entry)) c n start ⌝ }
+    ensures { λ r. ⌜ r ≡ fieldsBy target (now («record» .entry)) c n start ⌝ }
 {
     let mut at = start;
     let mut left = n;
     while 0 < left {
-        let count = least(c, left);
-        let a = check_one_form(record, count, at);
+        let count = fields::next_count(c, left);
+        let a = check_one(record, target, count, at);
         let Check::Fine = a else {
             return a;
         };
@@ -312,16 +322,16 @@ fn check_fields_form(record: &[u8], c: usize, n: usize, start: usize) -> Check
     Check::Fine
 }
 
-// 12 and 13 of a trace.
-fn check_trace_form(record: &[u8], n: u16, i: u16, at: usize) -> Check
-    ensures { λ r. ⌜ r ≡ traceFormIn tag04 (now («record» .entry)) n i at ⌝ }
+// The trace whose tag 03 stands at a place: 12 and 13 of its header, then its samples by its own form.
+pub fn check_trace(record: &[u8], target: Target, n: u16, i: u16, at: Place) -> Check
+    ensures { λ r. ⌜ r ≡ traceBy target (now («record» .entry)) n i (placeNo at) ⌝ }
 {
-    let a = check_header(record, n, i, Place(at));
+    let a = check_header(record, n, i, at);
     let Check::Fine = a else {
         return a;
     };
-    let c = share_at(record, n, Place(at));
-    check_fields_form(record, c, n as usize, at + 183)
+    let c = share_at(record, n, at);
+    check_fields(record, target, c, n as usize, at.0 + 183)
 }
 
 // Whether a trace is to be looked for at a place, behind t traces: tag 03 stands there, and it is not trace 100,001.
@@ -369,7 +379,7 @@ pub fn check_rest(record: &[u8], n: u16, i: u16, done: usize, start: Place) -> C
     let mut at = start.0;
     let mut t = done;
     while is_trace(record, t, Place(at)) {
-        let c = check_trace_form(record, n, i, at);
+        let c = check_trace(record, Target::None, n, i, Place(at));
         let Check::Fine = c else {
             return c;
         };

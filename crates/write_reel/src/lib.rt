@@ -85,7 +85,7 @@ fn put_fields(
     let mut left = n;
     let mut changed = 0;
     while 0 < left {
-        let count = record::least(c, left);
+        let count = fields::next_count(c, left);
         let e = o + count * v;
         changed += put_samples(record, near, code, count, at + 3, &mut out[o..e]);
         at += 3 + count * 6;

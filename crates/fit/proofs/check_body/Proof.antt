@@ -3,8 +3,9 @@ use Rattle.fit.proofs.FitLaws.{trace-fine, fit-end, body-more, body-sto
 use Rattle.record.proofs.FormLaws.{isMore, more-few, form-room, form-end}
 use Rattle.record.specs.Kind.{tag04}
 use Rattle.record.specs.Form.{tracesPlace, behindTraceIn}
-use Rattle.fit.specs.Parts.{traceCheck, fitFrom}
-use Rattle.record.specs.Parts.{formFrom}
+use Rattle.fit.specs.Parts.{fitFrom}
+use Rattle.record.specs.declared.Target.the-variants.{Code}
+use Rattle.record.specs.Parts.{traceBy, formFrom}
 use Rattle.reel.specs.Causes.{mostTraces}
 use Rattle.numbers.proofs.CauseLaws.{then-last}
 use Rattle.numbers.specs.Cause.{then}
@@ -30,7 +31,7 @@ is-more c = sym (c .before .is-trace .ensures) ∙ c .if1 .taken
 few : (c : tie.Then1 Inv-loop μ-loop) → c .before .before .loop .t < mostTraces
 few c = more-few (c .before .before .before .before .args .«record» .now) (c .before .before .loop .t) (c .before .before .loop .at) (is-more c)
 
-fine : (c : tie.After-enum-told Inv-loop μ-loop) → let a = c .before .before .before .before .before .before .before .args in traceCheck (a .«record» .now) (a .code) (a .n) (a .i) (c .before .before .before .before .before .loop .at) ≡ Fine
+fine : (c : tie.After-enum-told Inv-loop μ-loop) → let a = c .before .before .before .before .before .before .before .args in traceBy (Code (a .code)) (a .«record» .now) (a .n) (a .i) (c .before .before .before .before .before .loop .at) ≡ Fine
 fine c = sym (c .before .before .check-trace .ensures) ∙ c .enum-told .given .1
 
 -- the place behind the trace, which ends within the record
@@ -45,9 +46,6 @@ room c =
     let s = a .«record» .now in
     let at = c .before .before .before .before .before .before .loop .at in
     subst (λ (x : ℕ). x ≤ length s) (sym (behind c)) (form-room tag04 s (a .n) (a .i) at (trace-fine s (a .code) (a .n) (a .i) (b .pre) at (fine (c .before)) .0))
-
-check-trace-requires : tie.Need-check-trace-requires Inv-loop μ-loop
-check-trace-requires c κs = c .before .before .before .before .pre
 
 returns : tie.Need-returns Inv-loop μ-loop
 returns c =
@@ -92,7 +90,7 @@ check-body-spec =
     μ-loop
     (λ c. refl)
     (λ c κs. tt)
-    check-trace-requires
+    (λ c κs. tt)
     (λ c. c .match .keys1)
     (λ c. c .match .keys2)
     (λ c κs. tt)

@@ -30,23 +30,23 @@ loop-holds c =
     (omega (arith, s .pre .1, ap (λ (x : ℕ). a .n * x) w), s .pre .2, omega arith, begin _ _ (s .pre .2 ∙ sym (size-in-fields (a .reel .now) (a .code) (a .n) (a .start))), w)
 
 -- a field's share of what is left, on the reel and in the record
-times : (c : tie.After-least Inv-loop μ-loop) → let l = c .before .before .loop in let v = c .before .before .before .width-of .result in l .left * v ≡ c .least .result * v + (l .left - fieldSamples) * v
+times : (c : tie.After-next-count Inv-loop μ-loop) → let l = c .before .before .loop in let v = c .before .before .before .width-of .result in l .left * v ≡ c .next-count .result * v + (l .left - fieldSamples) * v
 times c =
     let v = c .before .before .before .width-of .result in
-    times-parts fieldSamples (c .before .before .loop .left) v ∙ ap (λ (x : ℕ). x * v + (c .before .before .loop .left - fieldSamples) * v) (sym (c .least .ensures))
+    times-parts fieldSamples (c .before .before .loop .left) v ∙ ap (λ (x : ℕ). x * v + (c .before .before .loop .left - fieldSamples) * v) (sym (c .next-count .ensures))
 
-fields : (c : tie.After-least Inv-loop μ-loop) → let l = c .before .before .loop in fieldsLength 6 fieldSamples (l .left) ≡ 3 + c .least .result * 6 + fieldsLength 6 fieldSamples (l .left - fieldSamples)
+fields : (c : tie.After-next-count Inv-loop μ-loop) → let l = c .before .before .loop in fieldsLength 6 fieldSamples (l .left) ≡ 3 + c .next-count .result * 6 + fieldsLength 6 fieldSamples (l .left - fieldSamples)
 fields c =
     length-more fieldSamples (omega arith) 6 (c .before .before .loop .left) (c .before .loop-test .taken)
-    ∙ ap (λ (x : ℕ). 3 + x * 6 + fieldsLength 6 fieldSamples (c .before .before .loop .left - fieldSamples)) (sym (c .least .ensures))
+    ∙ ap (λ (x : ℕ). 3 + x * 6 + fieldsLength 6 fieldSamples (c .before .before .loop .left - fieldSamples)) (sym (c .next-count .ensures))
 
 put-field-requires : tie.Need-put-field-requires Inv-loop μ-loop
 put-field-requires c κs =
     let b = c .before .before .before .before .before .before .before in
     let l = c .before .before .before .loop in
-    let count = c .before .least .result in (
+    let count = c .before .next-count .result in (
       b .pre .0,
-      omega (arith, c .before .least .ensures),
+      omega (arith, c .before .next-count .ensures),
       omega (arith, times (c .before), l .inv .0, ap (λ (x : ℕ). count * x) (l .inv .4)),
       omega arith,
     )
@@ -59,8 +59,8 @@ loop-again c =
     let l = c .before .before .before .before .before .before .loop in
     let v = c .before .before .before .before .before .before .before .width-of .result in
     let some = c .before .before .before .before .before .loop-test .taken in
-    let count = c .before .before .before .before .least .result in
-    let q : count ≡ min fieldSamples (l .left) = c .before .before .before .before .least .ensures in
+    let count = c .before .before .before .before .next-count .result in
+    let q : count ≡ min fieldSamples (l .left) = c .before .before .before .before .next-count .ensures in
     let less : l .left - fieldSamples ≡ l .left - count = omega arith in
     let wide = ap (λ (x : ℕ). count * x) (l .inv .4) in
     let next : l .at + min fieldSamples (l .left) * sampleBytes (a .code) ≡ l .at + count * v = ap (λ (x : ℕ). l .at + x * sampleBytes (a .code)) (sym q) ∙ ap (λ (x : ℕ). l .at + x) (sym wide) in
@@ -94,8 +94,8 @@ put-samples-spec =
     (λ c κs. tt)
     loop-holds
     (λ c κs. tt)
-    (λ c. omega (arith, c .least .ensures))
-    (λ c. omega (arith, c .least .ensures))
+    (λ c. omega (arith, c .next-count .ensures))
+    (λ c. omega (arith, c .next-count .ensures))
     (λ c. omega (arith, fields c, c .before .before .loop .inv .1, c .before .before .loop .inv .2))
     (λ c. omega arith)
     (λ c. omega arith)
@@ -103,8 +103,8 @@ put-samples-spec =
     put-field-requires
     (λ c. omega (arith, times (c .before .before .before .before), c .before .before .before .before .before .before .loop .inv .0))
     (λ c. omega (arith, times (c .before .before .before .before), c .before .before .before .before .before .before .loop .inv .0))
-    (λ c. omega (arith, c .before .before .before .before .least .ensures))
-    (λ c. omega (arith, c .before .before .before .before .least .ensures, c .before .before .before .before .before .loop-test .taken))
+    (λ c. omega (arith, c .before .before .before .before .next-count .ensures))
+    (λ c. omega (arith, c .before .before .before .before .next-count .ensures, c .before .before .before .before .before .loop-test .taken))
     loop-again
     same-length
     returns)

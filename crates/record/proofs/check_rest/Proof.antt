@@ -1,5 +1,5 @@
 -- `record::check_rest` meets its contract. Assumes nothing.
-use Rattle.record.proofs.FormLaws.{isMore, more-few, form-more, form-end, form-room}
+use Rattle.record.proofs.FormLaws.{trace-form, isMore, more-few, form-more, form-end, form-room}
 use Rattle.record.specs.Kind.{tag04}
 use Rattle.record.specs.Form.{traceFormIn, behindTraceIn}
 use Rattle.record.specs.Parts.{formFrom}
@@ -29,7 +29,9 @@ few : (c : tie.Then1 Inv-loop μ-loop) → c .before .before .loop .t < mostTrac
 few c = more-few (c .before .before .before .before .args .«record» .now) (c .before .before .loop .t) (c .before .before .loop .at) (is-more c)
 
 fine : (c : tie.After-enum-told Inv-loop μ-loop) → let a = c .before .before .before .before .before .before .before .args in traceFormIn tag04 (a .«record» .now) (a .n) (a .i) (c .before .before .before .before .before .loop .at) ≡ Fine
-fine c = sym (c .before .before .check-trace-form .ensures) ∙ c .enum-told .given .1
+fine c =
+    let a = c .before .before .before .before .before .before .before .args in
+    sym (trace-form (a .«record» .now) (a .n) (a .i) (c .before .before .before .before .before .loop .at)) ∙ sym (c .before .before .check-trace .ensures) ∙ c .enum-told .given .1
 
 -- the place behind the trace, which ends within the record
 behind : (c : tie.After-stride-at Inv-loop μ-loop) → let a = c .before .before .before .before .before .before .before .before .args in let at = c .before .before .before .before .before .before .loop .at in at + c .stride-at .result ≡ behindTraceIn tag04 (a .«record» .now) (a .n) at
@@ -45,7 +47,7 @@ returns : tie.Need-returns Inv-loop μ-loop
 returns c =
     let h = c .before .before .before .before .before in
     let a = c .before .before .before .before .before .before .before .args in
-    let e = c .before .before .check-trace-form .ensures in
+    let e = c .before .before .check-trace .ensures ∙ trace-form (a .«record» .now) (a .n) (a .i) (h .loop .at) in
     e ∙ then-stop _ _ (sym e ∙ c .enum-told2 .given .1) ∙ sym (h .loop .inv ∙ form-more (a .«record» .now) (a .n) (a .i) (h .loop .t) (h .loop .at) (is-more (c .before .before .before)))
 
 add-at : tie.Need-add-at Inv-loop μ-loop

@@ -22,16 +22,16 @@ abbrev μ-loop : tie.MeasureT-loop
 μ-loop «record» near code v c n start out₀ at₀ o₀ left₀ changed₀ out at o left changed = left
 
 -- a field's share of what is left, in words and in the record
-times : (c : tie.After-least Inv-loop μ-loop) → let a = c .before .before .before .before .before .args in let l = c .before .before .loop in l .left * a .v ≡ c .least .result * a .v + (l .left - a .c) * a .v
+times : (c : tie.After-next-count Inv-loop μ-loop) → let a = c .before .before .before .before .before .args in let l = c .before .before .loop in l .left * a .v ≡ c .next-count .result * a .v + (l .left - a .c) * a .v
 times c =
     let a = c .before .before .before .before .before .args in
-    times-parts (a .c) (c .before .before .loop .left) (a .v) ∙ ap (λ (x : ℕ). x * a .v + (c .before .before .loop .left - a .c) * a .v) (sym (c .least .ensures))
+    times-parts (a .c) (c .before .before .loop .left) (a .v) ∙ ap (λ (x : ℕ). x * a .v + (c .before .before .loop .left - a .c) * a .v) (sym (c .next-count .ensures))
 
-fields : (c : tie.After-least Inv-loop μ-loop) → let a = c .before .before .before .before .before .args in let l = c .before .before .loop in fieldsLength 6 (a .c) (l .left) ≡ 3 + c .least .result * 6 + fieldsLength 6 (a .c) (l .left - a .c)
+fields : (c : tie.After-next-count Inv-loop μ-loop) → let a = c .before .before .before .before .before .args in let l = c .before .before .loop in fieldsLength 6 (a .c) (l .left) ≡ 3 + c .next-count .result * 6 + fieldsLength 6 (a .c) (l .left - a .c)
 fields c =
     let a = c .before .before .before .before .before .args in
     length-more (a .c) (c .before .before .before .before .before .pre .2) 6 (c .before .before .loop .left) (c .before .loop-test .taken)
-    ∙ ap (λ (x : ℕ). 3 + x * 6 + fieldsLength 6 (a .c) (c .before .before .loop .left - a .c)) (sym (c .least .ensures))
+    ∙ ap (λ (x : ℕ). 3 + x * 6 + fieldsLength 6 (a .c) (c .before .before .loop .left - a .c)) (sym (c .next-count .ensures))
 
 loop-holds : tie.Need-loop-holds Inv-loop μ-loop
 loop-holds c =
@@ -42,14 +42,14 @@ loop-holds c =
 put-samples-requires : tie.Need-put-samples-requires Inv-loop μ-loop
 put-samples-requires c κs =
     let b = c .before .before .before .before .before .before in
-    (b .pre .0, omega (arith, c .before .least .ensures, times (c .before), fields (c .before), c .before .before .before .loop .inv .0, c .before .before .before .loop .inv .1, c .before .before .before .loop .inv .2), omega (arith, ap (λ (x : ℕ). c .before .least .result * x) (b .pre .1)))
+    (b .pre .0, omega (arith, c .before .next-count .ensures, times (c .before), fields (c .before), c .before .before .before .loop .inv .0, c .before .before .before .loop .inv .1, c .before .before .before .loop .inv .2), omega (arith, ap (λ (x : ℕ). c .before .next-count .result * x) (b .pre .1)))
 
 add-changed : tie.Need-add-changed Inv-loop μ-loop
 add-changed c =
     let b = c .before .before .before .before .before .before .before .before .before in
     let a = b .args in
     let l = c .before .before .before .before .before .before .loop in
-    omega (arith, c .before .before .before .before .least .ensures, l .inv .4, c .before .before .put-samples .ensures .0, samples-most (a .near) (a .«record» .now) (a .code) (c .before .before .before .before .least .result) (l .at + 3))
+    omega (arith, c .before .before .before .before .next-count .ensures, l .inv .4, c .before .before .put-samples .ensures .0, samples-most (a .near) (a .«record» .now) (a .code) (c .before .before .before .before .next-count .result) (l .at + 3))
 
 loop-again : tie.Need-loop-again Inv-loop μ-loop
 loop-again c =
@@ -58,8 +58,8 @@ loop-again c =
     let r = a .«record» .now in
     let l = c .before .before .before .before .before .before .loop in
     let some = c .before .before .before .before .before .loop-test .taken in
-    let count = c .before .before .before .before .least .result in
-    let q : count ≡ min (a .c) (l .left) = c .before .before .before .before .least .ensures in
+    let count = c .before .before .before .before .next-count .result in
+    let q : count ≡ min (a .c) (l .left) = c .before .before .before .before .next-count .ensures in
     let less : l .left - a .c ≡ l .left - count = omega arith in
     let next = l .at + (3 + count * 6) in
     let more : fieldsWords (a .near) r (a .code) (a .c) (l .left) (l .at) ≡ samplesCopied (a .near) r (a .code) count (l .at + 3) ++ fieldsWords (a .near) r (a .code) (a .c) (l .left - count) next =
@@ -100,19 +100,19 @@ put-fields-spec =
     μ-loop
     loop-holds
     (λ c κs. tt)
-    (λ c. omega (arith, c .least .ensures, times c, fields c, c .before .before .loop .inv .0, c .before .before .loop .inv .1, c .before .before .loop .inv .2))
-    (λ c. omega (arith, c .least .ensures, times c, fields c, c .before .before .loop .inv .0, c .before .before .loop .inv .1, c .before .before .loop .inv .2))
-    (λ c. omega (arith, c .least .ensures, times c, fields c, c .before .before .loop .inv .0, c .before .before .loop .inv .1, c .before .before .loop .inv .2))
+    (λ c. omega (arith, c .next-count .ensures, times c, fields c, c .before .before .loop .inv .0, c .before .before .loop .inv .1, c .before .before .loop .inv .2))
+    (λ c. omega (arith, c .next-count .ensures, times c, fields c, c .before .before .loop .inv .0, c .before .before .loop .inv .1, c .before .before .loop .inv .2))
+    (λ c. omega (arith, c .next-count .ensures, times c, fields c, c .before .before .loop .inv .0, c .before .before .loop .inv .1, c .before .before .loop .inv .2))
     (λ c. omega arith)
     (λ c. omega arith)
-    (λ c. omega (arith, c .least .ensures, times c, fields c, c .before .before .loop .inv .0, c .before .before .loop .inv .1, c .before .before .loop .inv .2))
+    (λ c. omega (arith, c .next-count .ensures, times c, fields c, c .before .before .loop .inv .0, c .before .before .loop .inv .1, c .before .before .loop .inv .2))
     put-samples-requires
     add-changed
-    (λ c. omega (arith, c .before .before .before .before .least .ensures, fields (c .before .before .before .before), c .before .before .before .before .before .before .loop .inv .0, c .before .before .before .before .before .before .loop .inv .1, c .before .before .before .before .before .before .loop .inv .2))
-    (λ c. omega (arith, c .before .before .before .before .least .ensures, fields (c .before .before .before .before), c .before .before .before .before .before .before .loop .inv .0, c .before .before .before .before .before .before .loop .inv .1, c .before .before .before .before .before .before .loop .inv .2))
-    (λ c. omega (arith, c .before .before .before .before .least .ensures, fields (c .before .before .before .before), c .before .before .before .before .before .before .loop .inv .0, c .before .before .before .before .before .before .loop .inv .1, c .before .before .before .before .before .before .loop .inv .2))
-    (λ c. omega (arith, c .before .before .before .before .least .ensures))
-    (λ c. omega (arith, c .before .before .before .before .least .ensures, c .before .before .before .before .before .loop-test .taken, c .before .before .before .before .before .before .before .before .before .pre .2))
+    (λ c. omega (arith, c .before .before .before .before .next-count .ensures, fields (c .before .before .before .before), c .before .before .before .before .before .before .loop .inv .0, c .before .before .before .before .before .before .loop .inv .1, c .before .before .before .before .before .before .loop .inv .2))
+    (λ c. omega (arith, c .before .before .before .before .next-count .ensures, fields (c .before .before .before .before), c .before .before .before .before .before .before .loop .inv .0, c .before .before .before .before .before .before .loop .inv .1, c .before .before .before .before .before .before .loop .inv .2))
+    (λ c. omega (arith, c .before .before .before .before .next-count .ensures, fields (c .before .before .before .before), c .before .before .before .before .before .before .loop .inv .0, c .before .before .before .before .before .before .loop .inv .1, c .before .before .before .before .before .before .loop .inv .2))
+    (λ c. omega (arith, c .before .before .before .before .next-count .ensures))
+    (λ c. omega (arith, c .before .before .before .before .next-count .ensures, c .before .before .before .before .before .loop-test .taken, c .before .before .before .before .before .before .before .before .before .pre .2))
     loop-again
     same-length
     returns)

@@ -1,17 +1,16 @@
--- `fit::check_one` meets its contract. Assumes nothing.
+-- `record::check_one` meets its contract. Assumes nothing.
 use Rattle.numbers.proofs.CauseLaws.{then-stop, then-next}
 use Rattle.numbers.specs.declared.Check.the-variants.{Fine}
 use Rattle.record.specs.Form.{fieldCause}
+use Rattle.record.specs.Parts.{fieldBy}
 use Rattle.record.proofs.FormLaws.{field-room}
-use Rattle.fit.specs.Parts.{fieldCheck}
-use Rattle.write_samples.proofs.WordLaws.{samples-checked}
 use lib.ListN.{length}
 use Prim.Native.Nat.{_+_, _*_, _≤_}
 use mathlib.Core.Path.{_≡_, sym, _∙_}
 use native.Mathlib.Omega.{arith}
 use borrow.Author.Needs.{needs}
-use Rattle.fit.proofs.check_one.Statement.{statement}
-use Rattle.fit.proofs.check_one.Tie as tie
+use Rattle.record.proofs.check_one.Statement.{statement}
+use Rattle.record.proofs.check_one.Tie as tie
 
 fine : (c : tie.After-enum-told) → let a = c .before .before .before .before .args in fieldCause (a .«record» .now) 4 (a .count * 6) (a .at) ≡ Fine
 fine c = sym (c .before .before .check-field .ensures) ∙ c .enum-told .given .1
@@ -32,18 +31,18 @@ enum-told-2 : tie.Need-enum-told-2
 enum-told-2 c = search needs
 
 returns : tie.Need-returns
-unfolding fieldCheck
+unfolding fieldBy
 returns c = let e = c .before .before .check-field .ensures in e ∙ then-stop _ _ (sym e ∙ c .enum-told2 .given .1)
 
-check-samples-requires : tie.Need-check-samples-requires
-check-samples-requires c κs = search needs
+add-check-pairs : tie.Need-add-check-pairs
+add-check-pairs c = omega (arith, room c)
+
+check-pairs-requires : tie.Need-check-pairs-requires
+check-pairs-requires c κs = omega (arith, room c)
 
 returns-2 : tie.Need-returns-2
-unfolding fieldCheck
-returns-2 c =
-    let b = c .before .before .before .before .before in
-    let a = b .args in
-    c .check-samples .ensures ∙ samples-checked (a .«record» .now) (a .code) (a .count) (a .at + 3) (b .pre .0) (omega (arith, room (c .before))) ∙ then-next _ _ (fine (c .before))
+unfolding fieldBy
+returns-2 c = c .check-pairs .ensures ∙ then-next _ _ (fine (c .before))
 
 pub check-one-spec : {M : Type 1} → statement M
 check-one-spec =
@@ -54,6 +53,6 @@ check-one-spec =
     enum-told
     enum-told-2
     returns
-    (λ c. omega (arith, room c))
-    check-samples-requires
+    add-check-pairs
+    check-pairs-requires
     returns-2)
