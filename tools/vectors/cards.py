@@ -1,4 +1,4 @@
-"""The card listing, its way back and eight card bytes blanked, worked out from document 02's CR 1 and CR 6 alone.
+"""The card listing, its way back and eight card bytes blanked, worked out from document 02's CR 1, CR 6 and CR 8 alone.
 
     python3 tools/vectors/cards.py            checks this file on the paper's statements
 
@@ -20,7 +20,7 @@ sys.path.insert(0, str(Path(__file__).resolve().parent))
 sys.dont_write_bytecode = True
 
 from records import (  # noqa: E402
-    TAG, counts, first_cause, make_record, some_cards, some_fields, some_traces, with_bytes,
+    TAG, counts, first_cause, in_new_form, make_record, some_cards, some_fields, some_long, some_traces, with_bytes,
 )
 from reels import CARDS, card_text, make_reel, some_bytes  # noqa: E402
 from samples import pair_bytes  # noqa: E402
@@ -184,6 +184,28 @@ def check_there_and_back(rnd):
         assert list_cards(taken, LISTING)[-1] == any_text.replace(b"\x00", b" ")
 
 
+def check_long(rnd):
+    """Long traces, of either form: the record that comes of a listing keeps each trace's, and so its length."""
+    for n, t, earlier, length in (
+        (6000, 1, (), 39459), (6001, 2, (), 75663), (6001, 2, (1,), 75660), (8000, 2, (2,), 99648), (8000, 2, (1, 2), 99645),
+        (8001, 1, (), 51468), (32767, 1, (), 200076),
+    ):
+        record = b"".join(some_fields(rnd, some_long(rnd, n, t), earlier=earlier))
+        assert len(record) == length and (record == in_new_form(record)) == (not earlier)
+        listing = listing_of(some_bytes(rnd, CARDS))
+        assert list_cards(record, 3240) == ("taken", 3240, listing_of(record[3:3203]))
+        said = take_cards(record, listing, length)
+        assert said == ("taken", t, n, length, record[:3] + cards_of(listing) + record[3203:])
+        assert first_cause(said[-1]) is None
+        assert take_cards(record, listing, length - 1) == ("refused", 10, length)
+        for call in (list_cards, lambda record, room: take_cards(record, b"", room)):
+            assert call(record + b"\x00", 0) == ("refused", 12, length)
+            assert call(with_bytes(record, length - 13, bytes.fromhex("0000 00000002")), 0) == ("refused", 13, length - 13)
+    for n in (8001, 10922):
+        single = make_record(9, n, some_long(rnd, n, 1), earlier=(1,))
+        assert list_cards(single, 0) == take_cards(single, b"", 0) == ("refused", 12, 3449)
+
+
 def check_order():
     """12 and 13, then 17 by length, then by place, then 10."""
     record, listing = make_record(), listing_of(some_cards(random.Random(1)))
@@ -204,6 +226,7 @@ def main():
     check_blanks()
     check_example()
     check_there_and_back(random.Random(1975))
+    check_long(random.Random(1976))
     check_order()
     print("cards.py: the paper's statements hold")
 

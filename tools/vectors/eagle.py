@@ -1,4 +1,4 @@
-"""Reading of Eagle reels, worked out from document 02's CR 7 alone, over the rules of tools/vectors/reels.py.
+"""Reading of Eagle reels, worked out from document 02's CR 7 and CR 8 alone, over the rules of tools/vectors/reels.py.
 
     python3 tools/vectors/eagle.py            checks this file on the paper's statements
 
@@ -237,8 +237,13 @@ def check_lengths(rnd):
             t, rest = divmod(length - HEADERS, size)
             wanted = ("refused", 5, HEADERS + t * size) if rest else None
             assert first_cause(reel[:length]) == wanted
-    assert said(make_reel(1, 8000, 1, [bytes(33198) + TRAILER_END])) == ("taken", 1, 8000, 51459, 0)
+    assert said(make_reel(1, 8000, 1, [bytes(33198) + TRAILER_END])) == ("taken", 1, 8000, 51462, 0)
     assert said(make_reel(1, 8000, 1, [bytes(33199)])) == ("refused", 5, 3600)
+    assert said(make_reel(1, 32767, 1, [bytes(132266) + TRAILER_END])) == ("refused", 10, 200076)
+    assert said(make_reel(1, 32767, 1, [bytes(132266) + b"\xFF\xFE"])) == ("refused", 20, 135866)
+    assert said(make_reel(1, 32767, 1, [bytes(132267)])) == ("refused", 5, 3600)
+    for n in (0, 32768, 65535):
+        assert said(make_reel(0, n, 1)) == ("refused", 3, 3220)
     many = make_reel(1, 1, 1, [(bytes(1202) + TRAILER_END) * 100000])
     assert len(many) == 120403600
     assert said(many) == ("refused", 10, 3273 + 100000 * 192)
@@ -298,6 +303,25 @@ def check_plain(rnd):
     assert min(counts.values()) > 10, counts
 
 
+def check_long(rnd):
+    """Long traces: the record is that of the plain reel, in fields of 6,000 samples; the trailers end where they do."""
+    for n, t, size, length in (
+        (5999, 2, 25196, 75633), (6000, 2, 25200, 75645), (6001, 2, 25204, 75663), (8001, 1, 33204, 51468),
+        (12001, 1, 49204, 75471), (32767, 1, 132268, 200076),
+    ):
+        reel = random_eagle(rnd, n, t)
+        assert len(reel) == 3600 + t * size
+        front, record = read_eagle(reel, length)
+        assert front[:4] == ("taken", t, n, length) and read_reel(without_trailers(reel), length) == (front, record)
+        assert front[4] > n // 32  # the first digit of a random fraction is 0 in one word of 16
+        assert read_eagle(reel, length - 1) == (("refused", 10, length), None)
+        again = with_trailers(write_reel(record, 1, 1 << 20)[-1], [trailer()] * t)
+        assert len(again) == len(reel) and read_eagle(again, length) == ((*front[:4], 0), record)
+        for i in range(1, t + 1):
+            end = 3600 + i * size - 2
+            assert said(with_bytes(reel, end, b"\xFF\x7F"), 0) == ("refused", 20, end)
+
+
 def check_both():
     """Bytes that are a reel under either layout, each with its own T, count and record."""
     reel = one_trace_or_four()
@@ -352,6 +376,7 @@ def main():
     check_lengths(random.Random(1992))
     check_cards()
     check_plain(random.Random(1993))
+    check_long(random.Random(1994))
     check_both()
     check_words()
     check_fields()

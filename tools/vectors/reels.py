@@ -1,4 +1,4 @@
-"""Reading of whole reels, worked out from document 01 and document 02's CR 2, CR 3 and CR 4 alone.
+"""Reading of whole reels, worked out from document 01 and document 02's CR 2, CR 3, CR 4 and CR 8 alone.
 
     python3 tools/vectors/reels.py            checks this file on the paper's statements
     python3 tools/vectors/reels.py --line     answers as the program does: a reel in, its line out
@@ -29,7 +29,8 @@ from samples import (  # noqa: E402
 CARDS = 3200
 HEADERS = 3600  # cards and binary header
 TRACE_HEADER = 240
-MOST_N = 8000
+MOST_N = 32767
+MOST_IN_FIELD = 6000  # samples in a field of a record
 MOST_T = 100000
 MOST_INTERVAL = 32767
 
@@ -61,8 +62,13 @@ def trace_size(code, n):
     return TRACE_HEADER + n * sample_size(code)
 
 
+def count_of_fields(n):
+    """How many fields the samples of a trace stand in: N / 6,000 rounded up."""
+    return n // MOST_IN_FIELD + (n % MOST_IN_FIELD != 0)
+
+
 def record_length(t, n):
-    return 3273 + t * (186 + 6 * n)
+    return 3273 + t * (183 + 3 * count_of_fields(n) + 6 * n)
 
 
 def binary_number(reel, byte_number):
@@ -243,10 +249,12 @@ def record_with(reel, cards, starts):
         fields.append(tagged(0x03, b"".join(
             number_bytes(held[b], width) for b, width in TRACE_FIELDS.items()
         )))
-        fields.append(tagged(0x04, b"".join(
-            pair_of_word(code, reel[place : place + size])
-            for place in words(reel, start)
-        )))
+        places = words(reel, start)
+        while places:  # 6,000 samples a field, the last with what remains
+            places, some = places[MOST_IN_FIELD:], places[:MOST_IN_FIELD]
+            fields.append(tagged(0x04, b"".join(
+                pair_of_word(code, reel[place : place + size]) for place in some
+            )))
     fields.append(tagged(0x05, len(starts).to_bytes(4, "big")))
     return b"".join(fields)
 
@@ -438,6 +446,25 @@ def example():
 
 # ------------------------------------------------------------- self-check
 
+# N, the fields of a trace, and the length of a record of one trace.
+LONG_LENGTHS = (
+    (1, 1, 3465), (5999, 1, 39453), (6000, 1, 39459), (6001, 2, 39468), (8000, 2, 51462), (8001, 2, 51468),
+    (12000, 2, 75462), (12001, 3, 75471), (18000, 3, 111465), (18001, 4, 111474), (24000, 4, 147468),
+    (24001, 5, 147477), (30000, 5, 183471), (30001, 6, 183480), (32767, 6, 200076),
+)
+
+# N, and the tags and lengths of a trace's samples, each by its distance from the trace's tag 03. 8CA0 is 36,000.
+LONG_FIELDS = {
+    5999: {183: "048C9A"},
+    6000: {183: "048CA0"},
+    6001: {183: "048CA0", 36186: "040006"},
+    8000: {183: "048CA0", 36186: "042EE0"},
+    8001: {183: "048CA0", 36186: "042EE6"},
+    12000: {183: "048CA0", 36186: "048CA0"},
+    12001: {183: "048CA0", 36186: "048CA0", 72189: "040006"},
+    32767: {183: "048CA0", 36186: "048CA0", 72189: "048CA0", 108192: "048CA0", 144195: "048CA0", 180198: "0440DA"},
+}
+
 
 def random_reel(rnd, code, n, t, interval=2000):
     """A good reel with all other bytes random, unassigned ones too; 115 and 117 now 0, now not.
@@ -464,7 +491,10 @@ def check_layout():
         for b, width in fields.items():
             assert b == byte_number
             byte_number += width
-    assert record_length(100000, 8000) == 4818603273
+    for n, fields, length in LONG_LENGTHS:
+        assert count_of_fields(n) == fields and record_length(1, n) == length
+        assert record_length(0, n) == 3273 and record_length(3, n) == 3 * length - 6546
+    assert record_length(100000, 32767) == 19680303273
 
 
 def check_example():
@@ -699,6 +729,49 @@ def check_scalars(rnd):
     assert several > 1000
 
 
+def check_long(rnd):
+    """Traces of several fields: where these stand, and the pairs in them; two traces, each with its own samples."""
+    for n, tags in LONG_FIELDS.items():
+        traces = [[whole8(rnd.getrandbits(8) - 128) for _ in range(n)] for _ in range(2)]
+        reel = make_reel(2000, n, 8, [make_trace(trace) for trace in traces])
+        length = record_length(2, n)
+        assert read_reel(reel, length - 1) == (("refused", 10, length), None)
+        said, record = read_reel(reel, length)
+        assert said == ("taken", 2, n, length, 0) and record[-7:] == bytes.fromhex("050004 00000002")
+        for i, trace in enumerate(traces):
+            start = 3266 + i * (length - 3273) // 2
+            assert record[start : start + 3] == bytes.fromhex("0300B4")
+            ends = [*list(tags)[1:], (length - 3273) // 2]
+            held = b""
+            for (at, tag), end in zip(tags.items(), ends):
+                assert record[start + at : start + at + 3] == bytes.fromhex(tag) and int(tag[2:], 16) == end - at - 3
+                held += record[start + at + 3 : start + end]
+            assert held == b"".join(pair_of_word(8, sample) for sample in trace)
+        # the same samples under other codes, and one of another value in each field
+        others = {2: whole32, 3: whole16}
+        for code, put_whole in others.items():
+            other = make_reel(2000, n, code, [make_trace(put_whole(signed(s)) for s in trace) for trace in traces])
+            assert read_reel(other, length)[1] == record
+        for k in {0, min(n, 6000) - 1, min(n - 1, 6000), n - 1}:
+            other = bytearray(reel)
+            other[3600 + 240 + n + 240 + k] ^= 1
+            again = read_reel(bytes(other), length)[1]
+            place = 3266 + (length - 3273) // 2 + 183 + 3 * (k // 6000 + 1) + 6 * k
+            assert again != record and again[:place] == record[:place] and again[place + 6 :] == record[place + 6 :]
+    # words that aren't normal, and words without a value, in every field
+    places = (0, 5999, 6000, 11999, 12000, 17999, 18000, 23999, 24000, 29999, 30000, 32766)
+    some = [NORMAL[5]] * 32767
+    for turn, k in enumerate(places, 1):
+        some[k] = NOT_NORMAL[turn]
+        assert read_reel(make_reel(1, 32767, 1, [make_trace(some)]), 200076)[0] == ("taken", 1, 32767, 200076, turn)
+    one = ieee(0, 127, 0)
+    for k in places:
+        for code, word, number in ((4, gain(0, 1, 0x01), 9), (5, NO_VALUES[0], 19)):
+            good = gain(0, 1) if code == 4 else one
+            reel = make_reel(1, 32767, code, [make_trace([good] * k + [word] * (32767 - k))])
+            assert read_reel(reel, 0)[0] == ("refused", number, 3840 + 4 * k)
+
+
 def check_causes():
     def said(reel):
         return read_reel(reel, BUFFER)[0]
@@ -713,9 +786,11 @@ def check_causes():
     assert said(make_reel(0, 0, 1)) == ("refused", 3, 3220)
     assert said(make_reel(0, 1, 1)) == ("refused", 4, 3216)
     assert said(make_reel(1, 1, 1)) == ("taken", 0, 1, 3273, 0)
-    assert said(make_reel(32767, 8000, 4)) == ("taken", 0, 8000, 3273, 0)
-    assert said(make_reel(2000, 8001, 1)) == ("refused", 3, 3220)
-    assert said(make_reel(32768, 8000, 1)) == ("refused", 4, 3216)
+    for n in (8000, 8001, 32766, 32767):
+        assert said(make_reel(32767, n, 4)) == ("taken", 0, n, 3273, 0)
+        assert said(make_reel(32768, n, 1)) == ("refused", 4, 3216)
+    for n in range(32768, 65536):
+        assert first_cause(make_reel(0, n, 1)) == ("refused", 3, 3220)
     assert said(good + b"\x00") == ("refused", 5, 3848)
     assert said(good[:-1]) == ("refused", 5, 3600)
 
@@ -789,8 +864,12 @@ def check_look_up():
     assert look_up(make_reel(1, 1, 1), 1, 1) == ("refused", 15, 0)
     # a record of any length: look-up has no output
     many = make_reel(1, 8000, 3, [make_trace([bytes(16000)])] * 3)
-    assert read_reel(many, BUFFER)[0] == ("refused", 10, 147831)
+    assert read_reel(many, BUFFER)[0] == ("refused", 10, 147840)
     assert look_up(many, 3, 115) == ("found", 8000)
+    many = make_reel(1, 32767, 8, [make_trace([bytes(32767)], {117: 1})] * 2)
+    assert read_reel(many, BUFFER)[0] == ("refused", 10, 396879)
+    assert look_up(many, 0, 3221) == look_up(many, 2, 115) == ("found", 32767)
+    assert look_up(many, 3, 1) == ("refused", 15, 0)
 
 
 def check_program_line():
@@ -801,6 +880,11 @@ def check_program_line():
     assert program_line(example() + bytes(65536)) == b"too long\n"
     assert program_line(make_reel(1, 3428, 3, [bytes(240 + 6856)] * 3)) == b"taken 3 3428 65535 0\n"
     assert program_line(make_reel(1, 5158, 3, [bytes(240 + 10316)] * 2)) == b"refused 10 65541\n"
+    # long traces: the longest record of one trace that goes in, the next, and the longest trace
+    assert program_line(make_reel(1, 10345, 8, [bytes(10585)])) == b"taken 1 10345 65532 0\n"
+    assert program_line(make_reel(1, 10346, 8, [bytes(10586)])) == b"refused 10 65538\n"
+    assert program_line(make_reel(1, 32767, 8, [bytes(33007)])) == b"refused 10 200076\n"
+    assert program_line(make_reel(1, 32768, 8, [bytes(33008)])) == b"refused 3 3220\n"
 
 
 def main():
@@ -814,6 +898,7 @@ def main():
     check_meaning(random.Random(1977))
     check_scalars(random.Random(1978))
     check_not_normal(random.Random(1979))
+    check_long(random.Random(1980))
     check_causes()
     check_look_up()
     check_program_line()
