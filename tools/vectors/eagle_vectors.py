@@ -1,4 +1,4 @@
-"""Test vectors for reading Eagle reels, and the same bytes as plain reels, from document 02's CR 7 alone.
+"""Test vectors for reading Eagle reels, and plain reels beside them, from document 02's CR 7 and CR 8 alone.
 
 Run from the root of the repository:  python3 tools/vectors/eagle_vectors.py [--check | --list]
 It rewrites crates/eagle_vectors/stdin and crates/eagle_vectors/stdout; with
@@ -10,10 +10,10 @@ tools/vectors/reels.py. Beside them nearly every case has its answer worked out
 by hand, and both must agree. The record of each Eagle reel is that of the plain
 reel without its trailers and its check.
 
-stdin is a row of cases without anything between them, at most 900,000 bytes:
+stdin is a row of cases without anything between them, at most 1,400,000 bytes:
     1 byte     call: 1 reads a plain reel, 2 an Eagle reel
-    4 bytes    room, the length of the output, big-endian, at most 60,000
-    4 bytes    length of the reel, big-endian, at most 60,000
+    4 bytes    room, the length of the output, big-endian, at most 210,000
+    4 bytes    length of the reel, big-endian, at most 210,000
     the reel
 
 The output holds bytes A5 before each call. stdout has a line for each case:
@@ -39,19 +39,19 @@ from eagle import (  # noqa: E402
     both_layouts, example_eagle, one_trace_or_four, random_eagle, read_eagle, some_trailer, trace_size, trailer,
     with_trailers, without_trailers,
 )
-from records import make_record, with_bytes  # noqa: E402
+from records import make_record, some_long, with_bytes, word_of_pair  # noqa: E402
 from reels import (  # noqa: E402
-    BINARY_FIELDS, SCALARS, TRACE_FIELDS, example, make_reel, make_trace, random_reel, read_into, read_reel,
+    BINARY_FIELDS, SCALARS, TRACE_FIELDS, example, gain, ieee, make_reel, make_trace, random_reel, read_into, read_reel,
     record_length, some_bytes, some_sample,
 )
-from samples import CODES, NORMAL, NOT_NORMAL, pair_bytes  # noqa: E402
+from samples import CODES, NO_VALUES, NORMAL, NOT_NORMAL, pair_bytes  # noqa: E402
 from write_vectors import digest  # noqa: E402
 
 FOLDER = Path(__file__).resolve().parents[2] / "crates" / "eagle_vectors"
 
 PLAIN, EAGLE = 1, 2
-MOST = 60000  # of room and of a reel
-MOST_STDIN = 900000
+MOST = 210000  # of room and of a reel
+MOST_STDIN = 1400000
 FILLING = b"\xA5"
 
 
@@ -86,7 +86,7 @@ class Cases:
 
     def taken(self, what, reel, t, n, count, more=0, call=EAGLE, record=None):
         """A reel that is taken; the room is what the record needs, and so much more."""
-        length = 3273 + t * (186 + 6 * n)
+        length = 3273 + t * (183 + 3 * -(-n // 6000) + 6 * n)
         self.put(what, call, reel, length + more, f"taken {t} {n} {length} {count}", record)
 
     def refused(self, what, reel, number, beside, room=None, call=EAGLE):
@@ -196,7 +196,7 @@ def cards(x, rnd):
     every = bytes(i % 256 for i in range(7, 3207))
     put("every card byte", every + headers[3200:], bytes(b or 0x40 for b in every[:3198]) + b"\x40\x40")
     x.refused("no traces, one byte short", with_bytes(headers, 3199, b"\x01"), 10, 3273, 3272)
-    x.taken("no traces, the longest room", make_reel(1, 8000, 1, cards=every), 0, 8000, 0, MOST - 3273)
+    x.taken("no traces, the longest room", make_reel(1, 32767, 1, cards=every), 0, 32767, 0, MOST - 3273)
 
 
 # ----------------------------------------------------------------- refused
@@ -213,7 +213,7 @@ def headers(x, rnd):
     x.refused("code 5", with_bytes(good, 3225, b"\x05"), 2, 3224)
     plain = random_reel(rnd, 3, 2, 1)
     x.refused("code 3, a trailer behind its short samples", plain + trailer(), 2, 3224)
-    for n in (0, 8001, 32768, 65535):
+    for n in (0, 32768, 40768, 65535):
         x.refused(f"N {n}", make_reel(2000, n, 1), 3, 3220)
     for interval in (0, 32768, 65535):
         x.refused(f"interval {interval}", make_reel(interval, 2, 1), 4, 3216)
@@ -373,8 +373,43 @@ def any_bytes(x, rnd):
         x.refused(f"any {len(reel)} bytes", reel, 1, len(reel), rnd.getrandbits(9), EAGLE)
 
 
+# ------------------------------------------------------------ long traces
+
+
+def long_traces(x, rnd):
+    """Traces whose samples stand in several fields of the record, whichever the layout and the code."""
+    def put(what, n, t, code, call=PLAIN, more=0):
+        """Whole numbers of 8 bits, and the record of them."""
+        traces = some_long(rnd, n, t)
+        reel = make_reel(9, n, code, [make_trace(word_of_pair(code, pair) for pair in trace) for trace in traces])
+        if call == EAGLE:
+            reel = with_trailers(reel, [some_trailer(rnd) for _ in traces])
+        x.taken(what, reel, t, n, 0, more, call, make_record(9, n, traces))
+        return reel
+
+    # plain reels: whole fields, and one sample more or less
+    for n in (5999, 6000, 6001, 8000, 8001, 12000, 12001):
+        put(f"{n} samples of one byte", n, 1, 8)
+    reel = put("two traces of 6001 samples of one byte", 6001, 2, 8)
+    x.refused("the same, room for two single fields", reel, 10, 75663, 75657, PLAIN)
+    reel = put("32767 samples of one byte", 32767, 1, 8, more=3)
+    x.refused("the same, one byte short", reel, 10, 200076, 200075, PLAIN)
+    # 9 and 19 in the second field
+    for code, good, bad, number in ((4, gain(3, 5), gain(3, 5, 0x10), 9), (5, ieee(0, 99, 7), NO_VALUES[2], 19)):
+        reel = make_reel(9, 6002, code, [make_trace([good] * 6001 + [bad])])
+        x.refused(f"sample 6002 of code {code}", reel, number, 3840 + 4 * 6001, call=PLAIN)
+    # Eagle reels
+    put("two traces of 6001 samples", 6001, 2, 1, EAGLE)
+    words = [NOT_NORMAL[k % 27] if k in (0, 5999, 6000, 11999, 12000) else some_sample(rnd, 1) for k in range(12001)]
+    reel = with_trailers(make_reel(9, 12001, 1, [make_trace(words)]), [some_trailer(rnd)])
+    x.taken("12001 samples", reel, 1, 12001, count_in(reel, 12001))
+    reel = put("32767 samples", 32767, 1, 1, EAGLE)
+    assert len(reel) == 135868
+
+
 PARTS = (
     good_reels, long_reels, words, cards, headers, lengths, trailers, traces, order, either, small_changes, any_bytes,
+    long_traces,
 )
 
 

@@ -1,4 +1,4 @@
-"""Test vectors for the card listing, its way back and eight card bytes blanked, from document 02's CR 1 and CR 6 alone.
+"""Test vectors for the card listing, its way back and eight card bytes blanked, from document 02's CR 1, CR 6 and CR 8 alone.
 
 Run from the root of the repository:  python3 tools/vectors/listing_vectors.py [--check | --list]
 It rewrites crates/listing_vectors/stdin and crates/listing_vectors/stdout; with
@@ -11,11 +11,11 @@ back, and its record must come out; each record that came of a listing is
 listed, and that listing must come out. What was blanked is blanked again, and
 must stay.
 
-stdin is a row of cases without anything between them, at most 1,000,000 bytes:
+stdin is a row of cases without anything between them, at most 1,350,000 bytes:
     1 byte     call: 1 lists, 2 takes back, 3 blanks eight card bytes
-    4 bytes    room, the length of the output, big-endian, at most 60,000; 0 for call 3
-    4 bytes    length of the record, big-endian, at most 60,000; 8 for call 3
-    4 bytes    length of the listing, big-endian, at most 60,000; 0 for calls 1 and 3
+    4 bytes    room, the length of the output, big-endian, at most 210,000; 0 for call 3
+    4 bytes    length of the record, big-endian, at most 210,000; 8 for call 3
+    4 bytes    length of the listing, big-endian, at most 210,000; 0 for calls 1 and 3
     the record; for call 3 the eight card bytes
     the listing
 
@@ -40,7 +40,7 @@ sys.dont_write_bytecode = True
 from cards import LISTING, after, blank_eight, list_cards, listing_of, place_of_line_end, take_cards  # noqa: E402
 from records import (  # noqa: E402
     make_record, place_of_card, place_of_field, place_of_pair, place_of_samples, refilled, relengthed,
-    retagged, some_cards, some_fields, some_traces, with_bytes,
+    retagged, some_cards, some_fields, some_long, some_traces, with_bytes,
 )
 from reels import example, read_reel, some_bytes  # noqa: E402
 from samples import pair_bytes  # noqa: E402
@@ -49,8 +49,8 @@ from write_vectors import digest, joined, whole  # noqa: E402
 FOLDER = Path(__file__).resolve().parents[2] / "crates" / "listing_vectors"
 
 LIST, TAKE, BLANK = 1, 2, 3
-MOST = 60000  # of room, of a record and of a listing
-MOST_STDIN = 900000
+MOST = 210000  # of room, of a record and of a listing
+MOST_STDIN = 1350000
 FILLING = b"\xA5"
 NO_LISTING = b""
 
@@ -109,9 +109,9 @@ class Cases:
         output = None if by_hand is None else by_hand + FILLING * more
         self.put(what, LIST, record, NO_LISTING, 3240 + more, "taken 3240", output)
 
-    def taken(self, what, record, listing, t, n, more=0, by_hand=None):
-        """A listing that is taken back; the room is what the record needs, and so much more."""
-        length = 3273 + t * (186 + 6 * n)
+    def taken(self, what, record, listing, t, n, more=0, by_hand=None, earlier=0):
+        """A listing that is taken back; the room is what the record needs, and so much more. So many traces are of the earlier form."""
+        length = 3273 + t * (183 + 3 * -(-n // 6000) + 6 * n) - 3 * earlier
         output = None if by_hand is None else by_hand + FILLING * more
         self.put(what, TAKE, record, listing, length + more, f"taken {t} {n} {length}", output)
 
@@ -201,7 +201,7 @@ def good_records(x, rnd):
     x.listed("document 01's example", record, by_hand=BLANKS)
     x.listed("document 01's example, more room", record, 60, BLANKS)
     x.not_listed("document 01's example, one byte short", record, 10, 3240, 3239)
-    for t, n, more in ((0, 8000, 0), (1, 9, 1), (3, 4, 300)):
+    for t, n, more in ((0, 32767, 0), (1, 9, 1), (3, 4, 300)):
         record = with_cards(joined(some_fields(rnd, some_traces(rnd, 1, n, t), n=n)), FIRST.cards)
         x.listed(f"a text, {t} traces", record, more, FIRST.listing)
     # every code but 00, at two places of a card
@@ -218,7 +218,7 @@ def good_listings(x, rnd):
     record = read_reel(example(), 3471)[1]
     x.taken("document 01's example, its own listing", record, BLANKS, 1, 2, by_hand=record)
     x.taken("document 01's example, a text", record, FIRST.listing, 1, 2, by_hand=with_cards(record, FIRST.cards))
-    for t, n, more in ((0, 8000, 1), (2, 5, 0)):
+    for t, n, more in ((0, 32767, 1), (2, 5, 0)):
         record = with_cards(joined(some_fields(rnd, some_traces(rnd, 4, n, t), n=n)), FIRST.cards)
         x.taken(f"a text corrected, {t} traces", record, CORRECTED.listing, t, n, more,
                 with_cards(record, CORRECTED.cards))
@@ -288,7 +288,7 @@ def bad_records(rnd):
     for card in (0, 80, 3199):
         yield f"card byte {card} is 00", with_bytes(joined(fields()), place_of_card(card), b"\x00"), 13, 3 + card
     yield "interval 0", joined(fields(1, fields={3217: 0})), 13, 3222
-    yield "N 8,001", joined(fields(1, fields={3221: 8001})), 13, 3226
+    yield "N 32,768", joined(fields(1, fields={3221: 32768})), 13, 3226
     yield "a format code", joined(fields(fields={3225: 1})), 13, 3230
     yield "field 69 is 0 in trace 1", joined(fields(2, trace_fields={1: {69: 0}})), 13, place_of_field(1, 2, 69)
     yield "field 71 is 1 in trace 2, its numbers 0", joined(fields(
@@ -442,9 +442,28 @@ def eights(x, rnd):
         x.blanked("any bytes", some_bytes(rnd, 8))
 
 
+# ------------------------------------------------------------ long traces
+
+
+def long_traces(x, rnd):
+    """Traces of several fields and of the earlier form, which a record keeps; its bytes behind the cards are the same."""
+    def record(n, traces, earlier=()):
+        return with_cards(joined(some_fields(rnd, traces, n=n, earlier=earlier)), FIRST.cards)
+
+    early = record(6001, some_long(rnd, 6001, 1), (1,))
+    x.listed("6,001 samples, of the earlier form", early, by_hand=FIRST.listing)
+    x.not_taken("6,001 samples, of the earlier form, one byte short", early, CORRECTED.listing, 10, 39465, 39464)
+    mixed = record(6001, some_long(rnd, 6001, 2), (1,))
+    x.taken("6,001 samples, trace 1 of the earlier form", mixed, CORRECTED.listing, 2, 6001, 4,
+            with_cards(mixed, CORRECTED.cards), 1)
+    long = record(32767, some_long(rnd, 32767, 1))
+    x.taken("32,767 samples", long, CORRECTED.listing, 1, 32767, 0, with_cards(long, CORRECTED.cards))
+    x.not_listed("a single field of 8,001", record(8001, some_long(rnd, 8001, 1), (1,)), 12, 3449)
+
+
 PARTS = (
     good_records, good_listings, room, records_with_a_cause, listings_of_another_length, line_ends, order, small_changes,
-    any_bytes, eights,
+    any_bytes, eights, long_traces,
 )
 
 

@@ -1,4 +1,4 @@
-"""Test vectors for writing reels, worked out from document 01 and document 02's CR 2, CR 4 and CR 5 alone.
+"""Test vectors for writing reels, worked out from document 01 and document 02's CR 2, CR 4, CR 5 and CR 8 alone.
 
 Run from the root of the repository:  python3 tools/vectors/write_vectors.py [--check | --list]
 It rewrites crates/write_vectors/stdin and crates/write_vectors/stdout; with
@@ -7,14 +7,14 @@ what each case is about beside its line, and neither writes anything.
 
 The rules are those of tools/vectors/records.py. Beside them nearly every case
 has its answer worked out by hand, and both must agree. Each written reel is
-read by the rules of tools/vectors/reels.py, and its record must come back, by
-nearest writing with the values that its samples became.
+read by the rules of tools/vectors/reels.py, and its record must come back in
+the new form, by nearest writing with the values that its samples became.
 
-stdin is a row of cases without anything between them, at most 1,080,000 bytes:
+stdin is a row of cases without anything between them, at most 2,350,000 bytes:
     1 byte     0 for exact writing, 1 for nearest writing
     1 byte     target code
-    4 bytes    room, the length of the output, big-endian, at most 60,000
-    4 bytes    length of the record, big-endian, at most 60,000
+    4 bytes    room, the length of the output, big-endian, at most 210,000
+    4 bytes    length of the record, big-endian, at most 210,000
     the record
 
 The output holds bytes A5 before each call. stdout has a line for each case:
@@ -45,16 +45,16 @@ from reels import (  # noqa: E402
     some_bytes, trace_size, whole16,
 )
 from records import (  # noqa: E402
-    RECORD_SCALARS, make_fields, make_record, nearest_record, place_of_card, place_of_end, place_of_field,
+    RECORD_SCALARS, in_new_form, make_fields, make_record, nearest_record, place_of_card, place_of_end, place_of_field,
     place_of_pair, place_of_samples, place_of_trace, reel_length, refilled, relengthed, retagged, some_fields,
-    some_traces, with_bytes, write_into, write_nearest, write_reel,
+    some_long, some_traces, with_bytes, write_into, write_nearest, write_reel,
 )
 from samples import CODES, pair_bytes  # noqa: E402
 
 FOLDER = Path(__file__).resolve().parents[2] / "crates" / "write_vectors"
 
-MOST = 60000  # of room and of a record
-MOST_STDIN = 1080000
+MOST = 210000  # of room and of a record
+MOST_STDIN = 2350000
 FILLING = b"\xA5"
 
 
@@ -70,6 +70,7 @@ def check_written(record, said):
     _, t, n, length, *_, reel = said
     code = reel[3225]
     assert length == len(reel) == 3600 + t * (240 + n * sample_size(code))
+    record = in_new_form(record)
     assert read_reel(reel, len(record)) == (("taken", t, n, len(record), 0), record)
     assert not any(reel[3260:3600])
     for start in range(3600, length, trace_size(code, n)):
@@ -93,7 +94,7 @@ class Cases:
         kind = "nearest, " if nearest else ""
         if said[0] == "taken":
             check_written(nearest_record(record, code)[0] if nearest else record, said)
-            (*_, count), again = read_reel(said[-1], len(record))
+            (*_, count), again = read_reel(said[-1], MOST)
             line += f" {digest(again)} {count}"
             self.kinds[f"{kind}taken, code {code}"] += 1
         else:
@@ -177,7 +178,7 @@ def good_records(x, rnd):
 def no_traces(x, rnd):
     every = bytes(1 + i % 255 for i in range(3200))  # every card byte but 00
     for code, interval, n, more in (
-        (1, 1, 1, 0), (2, 32767, 8000, 1), (3, 256, 255, 400), (5, 2, 7, 3), (8, 4096, 4095, 5), (4, 255, 256, 0),
+        (1, 1, 1, 0), (2, 32767, 32767, 1), (3, 256, 255, 400), (5, 2, 7, 3), (8, 4096, 4095, 5), (4, 255, 256, 0),
     ):
         record = make_record(interval, n, [], every[code:] + every[:code], rest=some_bytes(rnd, 60))
         x.taken(f"no traces, code {code}", record, code, 0, n, more)
@@ -188,12 +189,12 @@ def no_traces(x, rnd):
 
 
 def long_records(x, rnd):
-    # 6N is 48,000, which needs all 16 bits of a field's length
+    # two fields; 36,000, the first one's length, needs all 16 bits
     record = joined(some_fields(rnd, some_traces(rnd, 3, 8000, 1)))
     x.taken("8,000 samples", record, 3, 1, 8000)
-    # the count of traces takes two bytes; the reel is longer than any room here
+    # the count of traces takes two bytes
     record = make_record(9, 1, [whole(i - 128) for i in range(257)])
-    x.refused("257 traces", record, 10, 3600 + 257 * 244, 1, MOST)
+    x.refused("257 traces", record, 10, 3600 + 257 * 244, 1, 60000)
 
 
 # Pairs (e, m) that fit a code, and such as don't, at the edges of what it holds.
@@ -399,7 +400,7 @@ def wrong_numbers(x, rnd):
     for number, t in ((0, 0), (32768, 1)):
         x.refused(f"interval {number}", joined(some_fields(
             rnd, [whole(1, 2)] * t, n=2, fields={3217: number}, trace_fields={1: {117: number}})), 13, 3222)
-    for number, t in ((8001, 0), (32768, 1)):
+    for number, t in ((65535, 0), (32768, 1)):
         x.refused(f"N {number}", joined(some_fields(
             rnd, [whole(1, 2)] * t, n=2, fields={3221: number}, trace_fields={1: {115: number}})), 13, 3226)
     x.refused("N 0, and traces without samples", joined(some_fields(rnd, [[]], n=0)), 13, 3226)
@@ -407,7 +408,7 @@ def wrong_numbers(x, rnd):
         x.refused(f"code {number} in the record", joined(some_fields(
             rnd, [whole(1, 2)] * t, n=2, fields={3225: number})), 13, 3230, code=3)
     for what, place in (
-        ({3217: 40000, 3225: 1}, 3222), ({3221: 9000, 3225: 2}, 3226), ({3217: 0, 3221: 0, 3225: 4}, 3222),
+        ({3217: 40000, 3225: 1}, 3222), ({3221: 40000, 3225: 2}, 3226), ({3217: 0, 3221: 0, 3225: 4}, 3222),
     ):
         x.refused(f"binary fields {what}", joined(some_fields(rnd, [], n=2, fields=what)), 13, place)
     # fields beside them may be anything
@@ -564,7 +565,7 @@ def order(x, rnd):
     # 13 before 13, front to back
     a = fields([even, even], fields={3217: 0, 3221: 0}, trace_fields={1: {115: 0, 117: 0}})
     x.refused("a card byte 00, all numbers wrong", joined([with_bytes(a[0], 2000, b"\x00")] + a[1:]), 13, 2000)
-    a = fields([even, even], fields={3221: 8001}, trace_fields={1: {115: 0, 117: 0}})
+    a = fields([even, even], fields={3221: 32768}, trace_fields={1: {115: 0, 117: 0}})
     x.refused("N wrong, and all numbers of trace 1", joined(a), 13, 3226)
     a = fields([even, even], one, trace_fields={1: {117: 1999}, 2: {115: 3}})
     x.refused("field 117 and the pairs of trace 1, field 115 of trace 2", joined(a),
@@ -703,10 +704,75 @@ def nearest_writing(x, rnd):
     refused("samples don't fit, the last pair even", joined(a), 13, place_of_pair(2, 2, 2), 3, 4500)
 
 
+# ------------------------------------------------------------ long traces
+
+
+def long_traces(x, rnd):
+    """Traces of several fields and of the earlier form. The places are by hand.
+
+    Trace 1 begins at place 3266 and its first field of samples at 3449; a second one begins at 39452, a third at 75455.
+    """
+    def fields(n, traces, earlier=(), some=rnd):
+        return some_fields(some, traces, n=n, earlier=earlier)
+
+    # whole fields, and one sample less
+    for n, code in ((5999, 8), (6000, 2)):
+        x.taken(f"{n} samples", joined(fields(n, some_long(rnd, n, 1))), code, 1, n)
+    # the same trace in both forms, all else the same too: one reel, and it comes back in the new form
+    traces, lines = some_long(rnd, 6001, 1), set()
+    for earlier, length in (((), 39468), ((1,), 39465)):
+        record = joined(fields(6001, traces, earlier, random.Random(6001)))
+        assert len(record) == length
+        x.taken(f"6,001 samples, of the {'earlier' if earlier else 'new'} form", record, 8, 1, 6001)
+        lines.add(x.all[-1][2])
+    assert len(lines) == 1
+    x.taken("8,000 samples, of the earlier form", joined(fields(8000, some_long(rnd, 8000, 1), (1,))), 3, 1, 8000)
+    x.taken("8,001 samples", joined(fields(8001, some_traces(rnd, 1, 8001, 1))), 1, 1, 8001, 7)
+    x.taken("32,767 samples", joined(fields(32767, some_long(rnd, 32767, 1))), 3, 1, 32767)
+    # each trace by itself
+    traces = some_long(rnd, 6001, 2)
+    x.taken("6,001 samples, trace 1 of the earlier form", joined(fields(6001, traces, (1,))), 1, 2, 6001)
+    traces[0][6000], traces[1][5999], traces[1][6000] = pair_bytes(7, 1), pair_bytes(-1, 3), pair_bytes(251, -3)
+    x.nearest("6,001 samples, trace 2 of the earlier form", joined(fields(6001, traces, (2,))), 8, 2, 6001, 3)
+
+    # 12: what is neither form
+    one = pair_bytes(0, 1)
+    a = fields(8001, [[one] * 8001], (1,))
+    x.refused("a single field of 8,001", joined(a), 12, 3449)
+    a = fields(6001, some_long(rnd, 6001, 1))
+    x.refused("6,001 samples, no second field", joined(a[:4] + a[5:]), 12, 39452)
+    x.refused("6,001 samples, the second field cut short", joined(a[:5])[:-1], 12, 39452)
+    x.refused("6,000 samples, a second field", joined(fields(6000, [[one] * 6000])[:4] + a[4:]), 12, 39452)
+    a = fields(6001, some_long(rnd, 6001, 1), (1,))
+    x.refused("6,001 samples, of the earlier form, then a second field", joined(a[:4] + [refilled(a[3], one)] + a[4:]),
+              12, 39458)
+    x.refused("6,001 samples, of the earlier form, cut short", joined(a[:4])[:-1], 12, 3449)
+    # 13, field by field: a pair of the first before the second's form, and that before its pairs
+    even = pair_bytes(0, 2)
+    trace = some_long(rnd, 6001, 1)[0]
+    a = fields(6001, [trace[:5999] + [even, even]])
+    x.refused("the last pair of field 1 even, field 2 of wrong length", joined(a[:4] + [relengthed(a[4], 12)] + a[5:]),
+              13, 39446)
+    a = fields(6001, [trace[:6000] + [even]])
+    x.refused("tag 05 for field 2, its pair even", joined(a[:4] + [retagged(a[4], 5)] + a[5:]), 12, 39452)
+    x.refused("the pair of field 2 even", joined(a), 13, 39455)
+    trace = some_long(rnd, 12001, 1)[0]
+    x.refused("the pair of field 3 even", joined(fields(12001, [trace[:12000] + [even]])), 13, 75458)
+    # in trace 2, behind a trace of the earlier form: it begins at 39458, its samples at 39641 and 75644
+    traces = some_long(rnd, 6001, 2)
+    traces[1][5999], traces[1][6000] = pair_bytes(-1, 1), even
+    x.refused("trace 1 of the earlier form, the last pair of trace 2 even", joined(fields(6001, traces, (1,))), 13, 75647)
+    traces[1][6000] = one
+    x.refused("trace 1 of the earlier form, 14 in trace 2", joined(fields(6001, traces, (1,))), 14, 75638, 2)
+    # 10: the reel's length, whatever the form
+    x.refused("6,001 samples, of the earlier form, one byte short", joined(fields(6001, [trace[:6001]], (1,))),
+              10, 9841, 8, 9840)
+
+
 PARTS = (
     good_records, no_traces, long_records, edges, room, bad_codes, wrong_tags, wrong_lengths, cut_short,
     missing_and_twice, counts_and_more, wrong_numbers, wrong_trace_numbers, wrong_pairs, order,
-    small_changes, any_bytes, scalars, nearest_writing,
+    small_changes, any_bytes, scalars, nearest_writing, long_traces,
 )
 
 

@@ -1,8 +1,8 @@
-// Runs vectors of Eagle reels, and of bytes that are read as plain reels too. The input is a row of cases without anything between them:
+// Runs vectors of Eagle reels, and of plain reels beside them. The input is a row of cases without anything between them:
 //
 //     1 byte     call: 1 reads a plain reel, 2 an Eagle reel
-//     4 bytes    room, the length of the output, big-endian, at most 60,000
-//     4 bytes    length of the reel, big-endian, at most 60,000
+//     4 bytes    room, the length of the output, big-endian, at most 210,000
+//     4 bytes    length of the reel, big-endian, at most 210,000
 //     the reel
 //
 // The output holds bytes A5 before each call. Each case is answered by a line, its items parted by one space:
@@ -11,8 +11,8 @@
 //     refused NUMBER BESIDE DIGEST
 //
 // COUNT is that of the reel's words that are not normal. DIGEST is that of the whole output after the call, all its room. A digest is 0 at
-// first, and each byte b makes (digest * 31 + b) mod 2^32 of it. All numbers are decimal. A case that is cut short, or longer than 60,000, or
-// of another call, is answered by `bad case`, and is the last.
+// first, and each byte b makes (digest * 31 + b) mod 2^32 of it. All numbers are decimal. A case that is cut short, or longer than 210,000,
+// or of another call, is answered by `bad case`, and is the last.
 use libc::STDIN_FILENO;
 use libc::STDOUT_FILENO;
 use record::Counted;
@@ -106,8 +106,8 @@ fn run_case() -> bool {
     let mut head = [0u8; 9];
     let n = io::read_full(STDIN_FILENO, &mut head);
     if n == 9 {
-        let mut reel = [0u8; 60000];
-        let mut out = [0u8; 60000];
+        let mut reel = [0u8; 210000];
+        let mut out = [0u8; 210000];
         return run_reel(
             head[0],
             numbers::be32(head[1], head[2], head[3], head[4]) as usize,

@@ -1,9 +1,9 @@
 // Runs vectors of listings and of card bytes. The input is a row of cases without anything between them:
 //
 //     1 byte     call: 1 lists the cards, 2 takes a listing back, 3 blanks eight card bytes
-//     4 bytes    room, the length of the output, big-endian, at most 60,000; 0 for call 3
-//     4 bytes    length of the record, big-endian, at most 60,000; 8 for call 3
-//     4 bytes    length of the listing, big-endian, at most 60,000; 0 for calls 1 and 3
+//     4 bytes    room, the length of the output, big-endian, at most 210,000; 0 for call 3
+//     4 bytes    length of the record, big-endian, at most 210,000; 8 for call 3
+//     4 bytes    length of the listing, big-endian, at most 210,000; 0 for calls 1 and 3
 //     the record, for call 3 the eight card bytes
 //     the listing
 //
@@ -15,7 +15,7 @@
 //     blanked NUMBER                   call 3: the eight bytes as one number, the first highest
 //
 // DIGEST is that of the whole output after the call, all its room. A digest is 0 at first, and each byte b makes
-// (digest * 31 + b) mod 2^32 of it. All numbers are decimal. A case that is cut short, or longer than 60,000, or of another call, or of
+// (digest * 31 + b) mod 2^32 of it. All numbers are decimal. A case that is cut short, or longer than 210,000, or of another call, or of
 // call 3 with another length than 8, is answered by `bad case`, and is the last.
 use libc::STDIN_FILENO;
 use libc::STDOUT_FILENO;
@@ -161,9 +161,9 @@ fn run_case() -> bool {
     let mut head = [0u8; 13];
     let n = io::read_full(STDIN_FILENO, &mut head);
     if n == 13 {
-        let mut record = [0u8; 60000];
-        let mut listing = [0u8; 60000];
-        let mut out = [0u8; 60000];
+        let mut record = [0u8; 210000];
+        let mut listing = [0u8; 210000];
+        let mut out = [0u8; 210000];
         return run_parts(
             head[0],
             numbers::be32(head[1], head[2], head[3], head[4]) as usize,

@@ -2,8 +2,8 @@
 //
 //     1 byte     0 to write exactly, 1 to the nearest
 //     1 byte     target code
-//     4 bytes    room, the length of the output, big-endian, at most 60,000
-//     4 bytes    length of the record, big-endian, at most 60,000
+//     4 bytes    room, the length of the output, big-endian, at most 210,000
+//     4 bytes    length of the record, big-endian, at most 210,000
 //     the record
 //
 // The output holds bytes A5 before each call. Each case is answered by a line, its items parted by one space:
@@ -14,8 +14,8 @@
 //
 // the second where it was written to the nearest. DIGEST is that of the whole output after the call, all its room. AGAIN is the digest of the
 // record that reading the written reel gives, and COUNT that of its words that are not normal. A digest is 0 at first, and each byte b makes
-// (digest * 31 + b) mod 2^32 of it. All numbers are decimal. A case that is cut short, longer than 60,000 or neither exact nor to the nearest
-// is answered by `bad case`, and is the last; a written reel that isn't read again, by `not read`.
+// (digest * 31 + b) mod 2^32 of it. All numbers are decimal. A case that is cut short, longer than 210,000 or neither exact nor to the
+// nearest is answered by `bad case`, and is the last; a written reel that isn't read again, by `not read`.
 use libc::STDIN_FILENO;
 use libc::STDOUT_FILENO;
 use record::Answer;
@@ -168,9 +168,9 @@ fn run_case() -> bool {
     let mut head = [0u8; 10];
     let n = io::read_full(STDIN_FILENO, &mut head);
     if n == 10 {
-        let mut record = [0u8; 60000];
-        let mut out = [0u8; 60000];
-        let mut again = [0u8; 60000];
+        let mut record = [0u8; 210000];
+        let mut out = [0u8; 210000];
+        let mut again = [0u8; 210000];
         return run_record(
             head[0],
             head[1],
