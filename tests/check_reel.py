@@ -1,4 +1,4 @@
-"""Runs the program on many reels and compares its line with document 01's rules and those of document 02's CR 2, CR 3 and CR 4.
+"""Runs the program on many reels and compares its line with document 01's rules and document 02's CR 2 to 4 and 8.
 
     python3 tests/check_reel.py PATH_OF_PROGRAM [ITS ARGUMENTS]
 
@@ -64,6 +64,11 @@ def traces(rnd, code, n, t, faults=None):
     return [trace(rnd, code, n, (faults or {}).get(i)) for i in range(1, t + 1)]
 
 
+def length_of(t, n):
+    """The record's length: a trace has 183 bytes of header, three before each field of samples, and six a sample."""
+    return 3273 + t * (183 + 3 * len(range(0, n, 6000)) + 6 * n)
+
+
 def lengths(x, rnd):
     x.put("the paper's example", example(), "taken 1 2 3471", 0)
     x.put("empty input", b"", "refused 1 0")
@@ -90,7 +95,8 @@ def lengths(x, rnd):
         x.put(f"that reel and one more trace, code {code}", reel + reel[-316:], "too long")
         x.put(f"that reel three times, code {code}", reel * 3, "too long")
     for code, n, t, needed in (
-        (1, 256, 49, 87651), (2, 3811, 4, 95481), (3, 7622, 4, 186945), (5, 256, 49, 87651), (8, 76, 196, 129105),
+        (1, 256, 49, 87651), (2, 3811, 4, 95481), (3, 7622, 4, 186957), (5, 256, 49, 87651), (8, 76, 196, 129105),
+        (1, 15424, 1, 96009), (3, 30848, 1, 188562), (8, 15244, 4, 369897), (8, 30728, 2, 372411),
     ):
         reel = random_reel(rnd, code, n, t)
         assert len(reel) == 65536
@@ -112,7 +118,7 @@ def good_reels(x, rnd):
             x.put(f"any good reel, code {code}, interval {interval}",
                   random_reel(rnd, code, 5, 4, interval))
         x.put(f"one trace of 8000 samples, code {code}", random_reel(rnd, code, 8000, 1),
-              "taken 1 8000 51459")
+              "taken 1 8000 51462")
         x.put(f"no trace, N 8000, code {code}", make_reel(1, 8000, code), "taken 0 8000 3273")
         for cards, what in ((bytes(3200), "all card bytes 00"), (b"\xFF" * 3200, "all card bytes FF"),
                             (b"\x00\x40" * 1600, "every other card byte 00"),
@@ -145,18 +151,22 @@ def codes(x, rnd):
 
 
 def counts(x, rnd):
-    for n in (0, 8001, 8002, 8192, 16384, 32767, 32768, 32769, 33000, 40768, 65534, 65535):
+    for n in (0, 32768, 32769, 33000, 38768, 40768, 65534, 65535):
         for code in CODES:
             x.put(f"N {n}, code {code}, no trace", make_reel(2000, n, code), "refused 3 3220")
         x.put(f"N {n}, 240 bytes after the headers", make_reel(2000, n, 1, [bytes(240)]), "refused 3 3220")
         x.put(f"N {n}, 248 bytes after the headers", make_reel(2000, n, 3, [bytes(248)]), "refused 3 3220")
+    for n in (32768, 40000):
+        reel = make_reel(2000, n, 8, [bytes(240 + n)])
+        x.put(f"N {n} and a whole trace of it, code 8", reel, "refused 3 3220")
     for code in CODES:
-        reel = make_reel(2000, 8001, code, [bytes(trace_size(code, 8001))])
-        x.put(f"N 8001 and a whole trace of it, code {code}", reel, "refused 3 3220")
-        for n in (1, 255, 256, 7999, 8000):
+        for n in (1, 255, 256, 5999, 6000):
             x.put(f"N {n}, code {code}, no trace", make_reel(2000, n, code), f"taken 0 {n} 3273")
             x.put(f"N {n}, code {code}, one trace", make_reel(2000, n, code, traces(rnd, code, n, 1)),
                   f"taken 1 {n} {3459 + 6 * n}")
+        for n in (8001, 8192, 12000, 12001, 16384, 32766, 32767):
+            x.put(f"N {n}, code {code}, no trace", make_reel(2000, n, code), f"taken 0 {n} 3273")
+            x.put(f"N {n}, code {code}, 240 bytes after the headers", make_reel(2000, n, code, [bytes(240)]), "refused 5 3600")
 
 
 def intervals(x, rnd):
@@ -417,7 +427,7 @@ def one_byte_samples(x, rnd):
 
 
 def output_too_short(x, rnd):
-    # A record is 3273 + 6k bytes: 65,535 is the longest that fits and 65,541 the next.
+    # A record of one field a trace is 3273 + 6k bytes: 65,535 is the longest that fits and 65,541 the next.
     for code in CODES:
         for t, n, line in (
             (3, 3428, "taken 3 3428 65535"), (9, 1122, "taken 9 1122 65535"),
@@ -426,8 +436,8 @@ def output_too_short(x, rnd):
         ):
             x.put(f"T {t}, N {n}, code {code}", random_reel(rnd, code, n, t), line)
     for t, n, line in (
-        (158, 34, "taken 158 34 64893"), (158, 35, "refused 10 65841"), (1, 8000, "taken 1 8000 51459"),
-        (2, 8000, "refused 10 99645"), (3, 8000, "refused 10 147831"), (4, 7000, "refused 10 172017"),
+        (158, 34, "taken 158 34 64893"), (158, 35, "refused 10 65841"), (1, 8000, "taken 1 8000 51462"),
+        (2, 8000, "refused 10 99651"), (3, 8000, "refused 10 147840"), (4, 7000, "refused 10 172029"),
     ):
         x.put(f"T {t}, N {n}, code 3", random_reel(rnd, 3, n, t), line)
 
@@ -444,7 +454,7 @@ def several_causes(x, rnd):
             if 8 in causes:
                 fields[hit[8]][117] = 1999
             reel = bytearray(make_reel(
-                65535 if 4 in causes else 2000, 8001 if 3 in causes else n, 6 if 2 in causes else 4,
+                65535 if 4 in causes else 2000, 32768 if 3 in causes else n, 6 if 2 in causes else 4,
                 traces(rnd, 4, n, t, fields)))
             if 9 in causes:
                 word = 1 + rnd.getrandbits(16) % n
@@ -527,7 +537,7 @@ def not_normal(x, rnd):
         assert by_hand in (None, count), what
         reel = make_reel(2000, n, 1, [
             make_trace(any_of(NOT_NORMAL if one else NORMAL) for one in trace) for trace in picked])
-        x.put(f"not normal: {what}, T {t}, N {n}", reel, f"taken {t} {n} {3273 + t * (186 + 6 * n)}", count)
+        x.put(f"not normal: {what}, T {t}, N {n}", reel, f"taken {t} {n} {length_of(t, n)}", count)
 
     # every kind: alone, behind a zero, all in one trace, each in its own
     for words, count in ((NOT_NORMAL, 1), (NORMAL, 0)):
@@ -586,7 +596,7 @@ def not_normal(x, rnd):
 
     refused("code 0", "refused 2 3224", code=0)
     refused("code 6", "refused 2 3224", code=6)
-    refused("N 8001", "refused 3 3220", n=8001, samples=2)
+    refused("N 32768", "refused 3 3220", n=32768, samples=2)
     refused("interval 0", "refused 4 3216", interval=0)
     refused("a byte too many", "refused 5 4344", more=b"\x00")
     refused("a word too many", "refused 5 4344", more=NOT_NORMAL[0])
@@ -600,12 +610,60 @@ def not_normal(x, rnd):
     x.put("no trace left of words that aren't normal", make_reel(2000, 2, 1, [make_trace(NOT_NORMAL[:2])])[:-1], "refused 5 3600")
 
 
+def long_traces(x, rnd):
+    """Traces of several fields, under every code that has them in 65,536 bytes."""
+    # of one trace the longest record that fits has 65,532 bytes, the next 65,538
+    for code in CODES:
+        for n, line in (
+            (6001, "taken 1 6001 39468"), (7999, "taken 1 7999 51456"), (8001, "taken 1 8001 51468"),
+            (10000, "taken 1 10000 63462"), (10345, "taken 1 10345 65532"), (10346, "refused 10 65538"),
+            (12000, "refused 10 75462"), (12001, "refused 10 75471"), (15424, "refused 10 96009"),
+        ):
+            x.put(f"one trace of {n} samples, code {code}", random_reel(rnd, code, n, 1), line)
+    for code, t, n, line in (
+        (8, 1, 18000, "refused 10 111465"), (8, 1, 18001, "refused 10 111474"), (8, 1, 24001, "refused 10 147477"),
+        (8, 1, 30000, "refused 10 183471"), (8, 1, 30001, "refused 10 183480"), (8, 1, 32767, "refused 10 200076"),
+        (3, 1, 18001, "refused 10 111474"), (3, 1, 30848, "refused 10 188562"), (8, 2, 6000, "refused 10 75645"),
+        (8, 2, 6001, "refused 10 75663"), (8, 5, 12001, "refused 10 364263"), (3, 2, 15304, "refused 10 187305"),
+        (3, 1, 32767, "too long"), (1, 1, 15425, "too long"),
+    ):
+        x.put(f"T {t}, N {n}, code {code}", random_reel(rnd, code, n, t), line)
+    # number 5: a trace that is cut short, or with bytes behind it
+    for code in CODES:
+        reel = random_reel(rnd, code, 10000, 1)
+        x.put(f"10000 samples of code {code}, a byte short", reel[:-1], "refused 5 3600")
+        x.put(f"10000 samples of code {code}, a byte more", reel + b"\x00", f"refused 5 {len(reel)}")
+        # fields 115 and 117; 10000 is 2710, 8000 was the most once
+        for field in (0, 10000, 8000, 9999, 0x1027, -10000):
+            reel = make_reel(2000, 10000, code, traces(rnd, code, 10000, 1, {1: {115: field}}))
+            x.put(f"field 115 {field}, N 10000, code {code}", reel,
+                  "taken 1 10000 63462" if field in (0, 10000) else "refused 7 3714")
+        reel = make_reel(2000, 10000, code, traces(rnd, code, 10000, 1, {1: {115: 10000, 117: 10000}}))
+        x.put(f"field 117 is N, N 10000, code {code}", reel, "refused 8 3716")
+    # 9 and 19 at samples on either side of 6,000 and 12,000, before 10
+    for code, word, number in ((4, gain(1, 2, 0x01), 9), (5, NO_VALUES[1], 19)):
+        for n in (6001, 10000, 12001, 15424):
+            for k in sorted({1, 5999, 6000, 6001, 8000, 8001, 12000, 12001, n}):
+                if k <= n:
+                    reel = bytearray(make_reel(2000, n, code, traces(rnd, code, n, 1)))
+                    reel[3836 + 4 * k : 3840 + 4 * k] = word
+                    x.put(f"sample {k} of {n}, code {code}", reel, f"refused {number} {3836 + 4 * k}")
+    # the count, where the words that aren't normal stand in either field
+    for some in ((1,), (6000,), (6001,), (10000,), (5999, 6000, 6001, 6002), range(5000, 7001), range(1, 10001)):
+        words = [NORMAL[k % 21] for k in range(1, 10001)]
+        for k in some:
+            words[k - 1] = NOT_NORMAL[k % 27]
+        x.put(f"10000 words, {len(some)} not normal from {some[0]} on", make_reel(2000, 10000, 1, [make_trace(words)]),
+              "taken 1 10000 63462", len(some))
+
+
 def pieces(x, rnd):
     """Input that arrives bit by bit is the same input."""
     for what, data in (
         ("empty input", b""), ("the example", example()), ("the example and a byte", example() + b"\x00"),
         ("65536 bytes, taken", random_reel(rnd, 1, 19, 196)),
         ("65537 bytes", random_reel(rnd, 1, 19, 196) + b"\x00"), ("200000 bytes", bytes(200000)),
+        ("10000 samples, taken", random_reel(rnd, 1, 10000, 1)),
     ):
         x.put(f"{what}, in pieces", data, pause=0.02)
 
@@ -615,7 +673,7 @@ def all_inputs():
     for seed, part in enumerate((
         lengths, good_reels, codes, counts, intervals, leftovers, trace_counts, trace_intervals,
         gain_bytes, output_too_short, several_causes, small_changes, pieces, scalars, not_normal, no_values,
-        one_byte_samples,
+        one_byte_samples, long_traces,
     )):
         part(x, random.Random(1975 + seed))
     return x.all
