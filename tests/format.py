@@ -4,8 +4,9 @@
 
 The record that the command makes of the sample reel, and the reel itself, are decoded by tests/format_reader.py, which was written from
 the page alone, and compared with the numbers and values that tests/make_sample_reel.py made the reel of. So are records and reels in
-every code, and Eagle reels, and so are listings and the count of words that aren't normal. The page's examples are held to the command's
-bytes, its way to find the power of a group to its rule, and its tables to the layout and to code page 037.
+every code, Eagle reels, long traces and records of the earlier form, and so are listings and the count of words that aren't normal. The
+page's examples are held to the command's bytes, its way to find the power of a group to its rule, and its tables to the layout and to
+code page 037.
 """
 
 import random
@@ -23,6 +24,7 @@ sys.path[:0] = [str(TOP / "tools" / "vectors"), str(TOP / "tests")]
 
 import eagle  # noqa: E402
 import make_sample_reel as sample  # noqa: E402
+import records  # noqa: E402
 import reels  # noqa: E402
 from format_reader import (  # noqa: E402
     GROUPS, POWERS, TRAILER, WIDTHS, is_normal, listing, not_normal, read_eagle, read_record, read_reel, word_value,
@@ -152,6 +154,41 @@ def check_eagle(command, folder, rnd):
         assert (len(read(both)[2]), len(record), read(both)[2][-1][1][-1]) == (traces, length, value)
 
 
+def check_long(command, folder, rnd):
+    """Long traces: the command's record of a reel; and the same record with some traces of the earlier form, written, read and listed."""
+    for code, n, t in ((8, 5999, 1), (3, 6000, 2), (2, 6001, 2), (4, 8001, 1), (5, 12001, 1), (8, 32767, 1)):
+        reel = reels.random_reel(rnd, code, n, t)
+        assert read_record(record_of(command, folder, reel)) == read_reel(reel), (code, n, t)
+        check_count(command, reel)
+    reel = eagle.random_eagle(rnd, 12001, 1)
+    assert read_record(record_of(command, folder, reel, "--eagle")) == read_eagle(reel)
+    for n, t, earlier in ((6001, 2, (1,)), (6001, 2, (2,)), (8000, 1, (1,)), (7000, 3, (1, 2, 3))):
+        traces = records.some_long(rnd, n, t)
+        new, held = (records.make_record(2000, n, traces, earlier=some) for some in ((), earlier))
+        assert len(held) == len(new) - 3 * len(earlier) and read_record(held) == read_record(new)
+        (folder / "held").write_bytes(held)
+        run(command, "write", "--force", folder / "held", 8, folder / "reel")
+        reel = (folder / "reel").read_bytes()
+        assert read_reel(reel) == read_record(held)
+        assert record_of(command, folder, reel) == new
+        check_listing(command, folder, held)
+    # What is neither form is no record, for the reader and for the command.
+    for n, samples, good in (
+        (6001, (6001,), True), (6001, (6000, 1), True), (6001, (6000,), False), (6001, (1, 6000), False), (6001, (6001, 1), False),
+        (6000, (3000, 3000), False), (8001, (6000, 2001), True), (8001, (8001,), False),
+    ):
+        fields = records.make_fields(2000, n, [[bytes(6)]])
+        fields[3:4] = [records.tagged(4, bytes(6 * some)) for some in samples]
+        (folder / "held").write_bytes(b"".join(fields))
+        done = subprocess.run([command, "cards", str(folder / "held")], stdout=subprocess.DEVNULL, stderr=subprocess.DEVNULL, timeout=600)
+        try:
+            read_record(b"".join(fields))
+        except ValueError:
+            assert not good and done.returncode != 0, (n, samples)
+        else:
+            assert good and done.returncode == 0, (n, samples)
+
+
 def check_page(command, folder):
     reel, record = map(example_bytes, PAGE.split("## An example")[1].split("Its record, of"))
     assert len(reel) == 3848 and reel == reels.example()
@@ -202,6 +239,7 @@ def main():
         check_page(command, folder)
         check_scalars(command, folder, random.Random(69))
         check_eagle(command, folder, random.Random(960))
+        check_long(command, folder, random.Random(6000))
         reel = sample.SAMPLE.read_bytes()
         meant = sample_meaning()
         assert read_record(record_of(command, folder, reel)) == meant
@@ -222,8 +260,8 @@ def main():
                 others += not_normal(reel)
                 count += n * t
     assert others > 50
-    said = (f"the page's examples and tables, its way to find a power, the sample's record, Eagle reels, two listings and {count} further "
-            f"samples, {others} of them in words that aren't normal, agree")
+    said = (f"the page's examples and tables, its way to find a power, the sample's record, Eagle reels, long traces, listings and {count} "
+            f"further samples, {others} of them in words that aren't normal, agree")
     print(f"format: {said}, {time.monotonic() - begun:.0f} s")
 
 

@@ -19,6 +19,7 @@ WIDTHS = {
 }
 INTERVAL, COUNT, CODE, TRACE_COUNT, TRACE_INTERVAL = 3217, 3221, 3225, 115, 117
 TRAILER = 960  # of an Eagle reel's trace
+IN_FIELD = 6000  # samples in a field of a record; the last of a trace has what remains
 
 # Elevations and depths, and coordinates, by the number that is their scalar; the power of ten that a scalar stands for.
 GROUPS = {69: (41, 45, 49, 53, 57, 61, 65), 71: (73, 77, 81, 85)}
@@ -74,19 +75,28 @@ def read_record(data):
     cards = field(1, 3200)
     check(0 not in cards, "a card byte 00")
     binary = numbers("binary", field(2, 60))
-    n, t = binary[COUNT], int.from_bytes(data[-4:], "big")
-    check(1 <= n <= 8000 and 1 <= binary[INTERVAL] <= 32767 and binary.pop(CODE) == 0, "the binary header")
+    n, t, earlier = binary[COUNT], int.from_bytes(data[-4:], "big"), 0
+    check(n >= 1 and binary[INTERVAL] >= 1 and binary.pop(CODE) == 0, "the binary header")
     traces = []
     for _ in range(t):
         header = numbers("trace", field(3, 180))
         check((header[TRACE_COUNT], header[TRACE_INTERVAL]) == (n, binary[INTERVAL]), "a trace header")
         for scalar, group in GROUPS.items():
             check(header[scalar] == -10000 or any(abs(header[b]) > 214_748_364 for b in group), "a power that isn't the smallest")
-        pairs = field(4, 6 * n)
+        if is_single(n, data[place + 1 : place + 3]):
+            earlier, pairs = earlier + 1, field(4, 6 * n)
+        else:
+            pairs = b"".join([field(4, 6 * min(IN_FIELD, n - k)) for k in range(0, n, IN_FIELD)])
         traces.append((scaled(header, POWERS), [pair_value(pairs[i : i + 6]) for i in range(0, 6 * n, 6)]))
     field(5, 4)
-    check(place == len(data) == 3273 + t * (186 + 6 * n), "bytes after the record")
+    fields = (n + IN_FIELD - 1) // IN_FIELD
+    check(place == len(data) == 3273 + t * (183 + 3 * fields + 6 * n) - 3 * earlier, "bytes after the record")
     return card_text(cards), binary, traces
+
+
+def is_single(n, length):
+    """Does the length of a trace's first field of samples tell the earlier form, in which it is the only one?"""
+    return 6001 <= n <= 8000 and int.from_bytes(length, "big") == 6 * n
 
 
 def pair_value(pair):
@@ -101,7 +111,7 @@ def read_reel(data, trailer=0):
     """What a reel whose traces have trailers of that length means, in the same form."""
     binary = numbers("binary", data[3200:3260])
     interval, n, code = binary[INTERVAL], binary[COUNT], binary.pop(CODE)
-    check(len(data) >= 3600 and code in ((1,) if trailer else (1, 2, 3, 4, 5, 8)) and 1 <= n <= 8000 and interval >= 1, "the headers")
+    check(len(data) >= 3600 and code in ((1,) if trailer else (1, 2, 3, 4, 5, 8)) and n >= 1 and interval >= 1, "the headers")
     width = {8: 1, 3: 2}.get(code, 4)
     end = 240 + n * width
     check((len(data) - 3600) % (end + trailer) == 0, "bytes after the last trace")
