@@ -1,13 +1,14 @@
 //! A record on disk against the record of its reel.
 
 use crate::cards;
-use crate::layout::{number, Shape, BINARY, FIRST_PAIR, FIRST_TRACE, PAIR, SAMPLES, TAG};
+use crate::forms::{in_earlier, trace_at, traces, with_earlier, Form, SINGLE};
+use crate::layout::{number, BINARY, END, FIRST_PAIR, FIRST_TRACE, PAIR, SAMPLES, TAG};
 use crate::refusals::{field, pair_value};
 use crate::scalars;
 use crate::sha256::Sum;
 use crate::trouble::Trouble;
 use std::fmt::Display;
-use std::io::Read;
+use std::io::{BufReader, Read};
 use std::ops::Range;
 
 /// What is read at a time.
@@ -25,70 +26,144 @@ pub struct Compared {
     pub differing: u64,
     /// The first place that differs, or at which one of the two has ended, and the file's bytes from there on.
     pub first: Option<(usize, Vec<u8>)>,
+    /// The numbers of the traces that have the earlier form in the file. All of the above go by the forms that it has.
+    pub earlier: Vec<usize>,
 }
 
-/// Reads a file to its end and compares it.
+/// Reads a file to its end and compares it with a record in the new form. A trace that has the earlier form in the file should have the same
+/// samples in that form.
 pub fn compare(
     file: &mut impl Read,
     expected: &[u8],
     name: impl Display,
 ) -> Result<Compared, Trouble> {
-    let mut sum = Sum::new();
-    let mut piece = Vec::with_capacity(PIECE);
+    let mut beside = Beside::new(file, name);
+    let mut earlier = Vec::new();
     let mut place = 0;
-    let mut differing = 0;
-    let mut first: Option<(usize, Vec<u8>)> = None;
-    loop {
-        piece.clear();
-        file.by_ref()
-            .take(PIECE as u64)
-            .read_to_end(&mut piece)
-            .map_err(|e| Trouble::file(format!("{name}: can't be read: {e}")))?;
-        if piece.is_empty() {
-            break;
+    for trace in traces(expected).filter(|trace| SINGLE.contains(&trace.samples)) {
+        let (length, pairs) = (trace.start + SAMPLES + 1, trace.start + FIRST_PAIR);
+        beside.take(&expected[place..length])?;
+        beside.read(pairs - length)?;
+        place = pairs;
+        let single = trace.in_form(Form::Earlier).field_at(length).head();
+        if beside.piece != single[1..] {
+            beside.compare(&expected[length..pairs]);
+            continue;
         }
-        sum.add(&piece);
-        let rest = expected.get(place..).unwrap_or(&[]);
-        if let Some((_, found)) = &mut first {
-            found.extend(piece.iter().take(KEPT.saturating_sub(found.len())));
+        beside.compare(&single[1..]);
+        for field in trace.fields() {
+            beside.take(&expected[field.pairs()])?;
         }
-        if !rest.starts_with(&piece) {
-            differing += piece.iter().zip(rest).filter(|(a, b)| a != b).count() as u64;
-            if first.is_none() {
-                let same = piece.iter().zip(rest).take_while(|(a, b)| a == b).count();
-                first = Some((
-                    place + same,
-                    piece[same..].iter().take(KEPT).copied().collect(),
-                ));
-            }
-        }
-        place += piece.len();
+        place = trace.end();
+        earlier.push(trace.number);
     }
-    if first.is_none() && place < expected.len() {
-        first = Some((place, Vec::new()));
-    }
+    beside.take(&expected[place..])?;
+    beside.end()?;
     Ok(Compared {
-        sum: sum.finish(),
-        length: place as u64,
-        differing,
-        first,
+        sum: beside.sum.finish(),
+        length: beside.length as u64,
+        differing: beside.differing,
+        first: beside.first,
+        earlier,
     })
 }
 
-/// The first difference in words: where it stands, what the reel's record has there and what the file has.
-pub fn difference(record: &[u8], compared: &Compared) -> Option<String> {
+/// A file that is read beside the bytes that it should have: a piece that was read, and what was found so far.
+struct Beside<R, N> {
+    file: BufReader<R>,
+    name: N,
+    piece: Vec<u8>,
+    ended: bool,
+    sum: Sum,
+    length: usize,
+    differing: u64,
+    first: Option<(usize, Vec<u8>)>,
+}
+
+impl<R: Read, N: Display> Beside<R, N> {
+    fn new(file: R, name: N) -> Beside<R, N> {
+        Beside {
+            file: BufReader::with_capacity(PIECE, file),
+            name,
+            piece: Vec::with_capacity(PIECE),
+            ended: false,
+            sum: Sum::new(),
+            length: 0,
+            differing: 0,
+            first: None,
+        }
+    }
+
+    /// Reads as many bytes, or what there are.
+    fn read(&mut self, count: usize) -> Result<(), Trouble> {
+        self.piece.clear();
+        if !self.ended {
+            self.file
+                .by_ref()
+                .take(count as u64)
+                .read_to_end(&mut self.piece)
+                .map_err(|e| Trouble::file(format!("{}: can't be read: {e}", self.name)))?;
+        }
+        self.ended = self.piece.len() < count;
+        Ok(())
+    }
+
+    /// Compares what was read with what it should be.
+    fn compare(&mut self, expected: &[u8]) {
+        let piece = &self.piece;
+        self.sum.add(piece);
+        if let Some((_, found)) = &mut self.first {
+            found.extend(piece.iter().take(KEPT.saturating_sub(found.len())));
+        }
+        if piece != expected {
+            let both = || piece.iter().zip(expected);
+            self.differing += both().filter(|(a, b)| a != b).count() as u64;
+            if self.first.is_none() {
+                let same = both().take_while(|(a, b)| a == b).count();
+                let found = piece[same..].iter().take(KEPT).copied().collect();
+                self.first = Some((self.length + same, found));
+            }
+        }
+        self.length += piece.len();
+    }
+
+    /// Reads as many bytes as there should be, and compares them.
+    fn take(&mut self, expected: &[u8]) -> Result<(), Trouble> {
+        for expected in expected.chunks(PIECE) {
+            self.read(expected.len())?;
+            self.compare(expected);
+        }
+        Ok(())
+    }
+
+    /// Reads to the end, where there should be nothing.
+    fn end(&mut self) -> Result<(), Trouble> {
+        while !self.ended {
+            self.read(PIECE)?;
+            self.compare(&[]);
+        }
+        Ok(())
+    }
+}
+
+/// The first difference in words: where it stands, what the reel's record has there and what the file has. All goes by the forms that the
+/// file has, which the record is given.
+pub fn difference(record: Vec<u8>, compared: &Compared) -> Option<String> {
     let (place, found) = compared.first.as_ref()?;
     let place = *place;
+    let form = in_earlier(compared.earlier.len(), traces(&record).count());
+    let form = form.map_or(String::new(), |form| format!(", {form}"));
+    let record = &with_earlier(record, &compared.earlier)[..];
     if place == record.len() {
         let more = compared.length - place as u64;
         return Some(format!(
-            "{more} bytes follow the record's end (place {place})"
+            "{more} bytes follow the record's end (place {place}{form})"
         ));
     }
     let part = part_at(record, place);
     if found.is_empty() {
         return Some(format!(
-            "it has {} bytes of {}, and {} is missing or cut short (place {place})",
+            "it has {} bytes of {}, and {} is missing or cut short (place {place}{form})",
             compared.length,
             record.len(),
             part.name
@@ -117,7 +192,7 @@ pub fn difference(record: &[u8], compared: &Compared) -> Option<String> {
         String::new()
     };
     Some(format!(
-        "{} is {} by the reel's record and {} in the file{remark} (place {place}; {} of {} bytes differ{short})",
+        "{} is {} by the reel's record and {} in the file{remark} (place {place}; {} of {} bytes differ{form}{short})",
         part.name,
         shown(part.shown(record_byte)),
         shown(part.shown(file_byte)),
@@ -133,9 +208,7 @@ fn unlike_value(
     place: usize,
     file_byte: impl Fn(usize) -> Option<u8>,
 ) -> Option<Option<Part>> {
-    let length = Shape::of_record(record).trace_length;
-    let behind = place.checked_sub(FIRST_TRACE)?;
-    let header = FIRST_TRACE + behind / length * length + TAG;
+    let header = trace_at(record, place).start + TAG;
     let groups = header + scalars::GROUPS.start..header + scalars::GROUPS.end;
     if !groups.contains(&place) {
         return None;
@@ -219,13 +292,9 @@ fn part_at(record: &[u8], place: usize) -> Part {
     if place < FIRST_TRACE {
         return header_field(0, BINARY + TAG, place, "binary header".to_string());
     }
-    let length = Shape::of_record(record).trace_length;
-    let (i, rest) = (
-        (place - FIRST_TRACE) / length,
-        (place - FIRST_TRACE) % length,
-    );
-    let (trace, start) = (i + 1, FIRST_TRACE + i * length);
-    if start + TAG + 4 == record.len() {
+    let at = trace_at(record, place);
+    let (trace, start, rest) = (at.number, at.start, place - at.start);
+    if start + END == record.len() {
         return if rest < TAG {
             tag(
                 start,
@@ -249,16 +318,17 @@ fn part_at(record: &[u8], place: usize) -> Part {
     if rest < SAMPLES {
         return header_field(trace, start + TAG, place, format!("trace {trace}"));
     }
-    if rest < FIRST_PAIR {
+    let field = at.field_at(place);
+    if place < field.pairs().start {
         return tag(
-            start + SAMPLES,
-            format!("the tag and length of trace {trace}'s samples"),
+            field.place,
+            format!("the tag and length of trace {trace}'s {}", at.named(field)),
         );
     }
-    let sample = (rest - FIRST_PAIR) / PAIR;
-    let first = start + FIRST_PAIR + sample * PAIR;
+    let sample = at.sample_at(place);
+    let first = at.pair(sample);
     Part {
-        name: format!("trace {trace}, sample {}", sample + 1),
+        name: format!("trace {trace}, sample {sample}"),
         bytes: first..first + PAIR,
         in_words: |pair| pair_value(pair, 0),
         scalar: None,
@@ -312,27 +382,69 @@ fn whole(bytes: &[u8]) -> String {
 #[cfg(test)]
 mod tests {
     use super::*;
+    use crate::forms::tests::long;
     use crate::layout::CARDS;
-    use aukpocket::record_length;
 
     /// The part of every place of a record: each begins where the one before ends, and all have a name of their own.
     #[test]
     fn parts_make_up_a_record() {
-        let mut record = vec![0; record_length(2, 3).unwrap() as usize];
-        record[crate::layout::binary_place(3221) + 1] = 3;
-        let mut names = std::collections::HashSet::new();
-        let mut place = 0;
-        while place < record.len() {
-            let part = part_at(&record, place);
-            assert_eq!(part.bytes.start, place, "{}", part.name);
-            for within in part.bytes.clone() {
-                assert_eq!(part_at(&record, within).bytes, part.bytes);
+        for (samples, earlier, heads) in [
+            (3, &[][..], [1, 1]),
+            (6001, &[], [2, 2]),
+            (6001, &[1], [1, 2]),
+            (6002, &[2], [2, 1]),
+            (6001, &[1, 2], [1, 1]),
+            (12_001, &[], [3, 3]),
+        ] {
+            let record = with_earlier(long(2, samples), earlier);
+            let mut names = std::collections::HashSet::new();
+            let mut place = 0;
+            while place < record.len() {
+                let part = part_at(&record, place);
+                assert_eq!(part.bytes.start, place, "{}", part.name);
+                for within in part.bytes.clone() {
+                    assert_eq!(part_at(&record, within).bytes, part.bytes);
+                }
+                place = part.bytes.end;
+                assert!(names.insert(part.name));
             }
-            place = part.bytes.end;
-            assert!(names.insert(part.name));
+            assert_eq!(place, record.len());
+            let of_traces: usize = heads.map(|heads| 1 + 71 + heads + samples).iter().sum();
+            assert_eq!(names.len(), 1 + CARDS + 1 + 27 + of_traces + 2);
         }
-        assert_eq!(place, record.len());
-        assert_eq!(names.len(), 1 + CARDS + 1 + 27 + 2 * (1 + 71 + 1 + 3) + 2);
+    }
+
+    /// A file in any mixture of forms is as the record where it holds the same; what differs is found at its place in the file.
+    #[test]
+    fn forms() {
+        let new = long(3, 6100);
+        for earlier in [&[][..], &[1], &[2], &[3], &[1, 3], &[1, 2, 3]] {
+            let file = with_earlier(new.clone(), earlier);
+            let compared = compare(&mut &file[..], &new, "").ok().unwrap();
+            assert_eq!((compared.first.is_none(), compared.differing), (true, 0));
+            assert_eq!(compared.earlier, earlier);
+            assert_eq!(compared.length, file.len() as u64);
+            for (i, sample) in [(1, 1), (1, 6000), (2, 6001), (3, 6000), (3, 6100)] {
+                let trace = traces(&file).nth(i - 1).unwrap();
+                let place = trace.pair(sample) + 5;
+                let mut other = file.clone();
+                other[place] ^= 0x10;
+                let compared = compare(&mut &other[..], &new, "").ok().unwrap();
+                assert_eq!(compared.differing, 1);
+                let said = difference(new.clone(), &compared).unwrap();
+                let of = format!("trace {i}, sample {sample} is ");
+                let at = format!("(place {place}; 1 of {} bytes differ", file.len());
+                assert!(said.starts_with(&of) && said.contains(&at), "{said}");
+            }
+            let cut = &file[..file.len() - END - 1];
+            let compared = compare(&mut &cut[..], &new, "").ok().unwrap();
+            let said = difference(new.clone(), &compared).unwrap();
+            let of = format!("it has {} bytes of {}, and ", cut.len(), file.len());
+            assert!(
+                said.starts_with(&format!("{of}trace 3, sample 6100 ")),
+                "{said}"
+            );
+        }
     }
 
     /// A difference is found wherever it stands, also where a piece that is read ends within it.

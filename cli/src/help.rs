@@ -97,6 +97,12 @@ field 71) count by their scaled values: the record has for each trace the smalle
 or minus 10, 100, 1000 and 10000 are refused by 18.
 ";
 
+const FORM: &str = "
+In a record the samples of a trace stand in fields of 6000, the last with the rest. Versions before 0.8.0 put
+6001 to 8000 in a single field: that is the earlier form. Every command that takes a record takes it, each
+trace by itself, and it gives the same reel.
+";
+
 const STATUS: &str = "
 Exit status: 0 fine, 1 wrong words or trouble with a file or memory, 2 refused.
 ";
@@ -107,7 +113,8 @@ pub fn read() -> String {
 aukpocket read REEL RECORD [--eagle] [--force]
 
 Reads the reel and writes its canonical record: the cards, every header number and the exact value of
-every sample. Two reels have the same record exactly when they mean the same.
+every sample. Two reels have the same record exactly when they mean the same. A reel has 1 to 32767 samples
+a trace and at most 100000 traces.
 {EAGLE}{BOTH}{SCALARS}{NO_VALUE}{NOT_NORMAL}{LEFT_OUT}{OUTPUT}{STATUS}"
     )
 }
@@ -121,10 +128,10 @@ Writes the record as a plain reel in a format code:
 
 {}
 A code that can't hold some sample exactly is refused by 14: without --nearest nothing is rounded. Reading
-the written reel gives the record again, byte for byte. Elevations and coordinates, and their scalars, are
-written as they stand in the record: the same values as on the reel that it was made of, perhaps by other
-numbers. Nearly every record made before scalars counted is refused by 13; see EARLIER RECORDS in
-aukpocket(1), or README.md.
+the written reel gives the record again, byte for byte, one in the earlier form (below) in the new form.
+Elevations and coordinates, and their scalars, are written as they stand in the record: the same values as on
+the reel that it was made of, perhaps by other numbers. Nearly every record made before scalars counted is
+refused by 13; see EARLIER RECORDS in aukpocket(1), or README.md.
 
   --nearest   write each sample as the nearest value of the code: of two equally near the one nearer zero;
               beyond the code's range its end, in code 5 the largest finite number
@@ -134,7 +141,7 @@ is and how large the largest sample is. A warning says how many samples lie beyo
 its end. Where a sample changed, the written reel gives another record, and nothing on it says so: keep the
 record, which alone is exact. To tell what changed, the written reel is read again before it gets its name: the
 record, the reel and a second record have to fit in memory.
-{OUTPUT}
+{FORM}{OUTPUT}
 Exit status: 0 fine, 1 wrong words or trouble with a file or memory, 2 refused, 3 what was read again isn't
 what nearest writing counted, which must never happen.
 ",
@@ -177,6 +184,9 @@ it. A reel that is taken as both is shown as a plain one, and a line that begins
 as an Eagle reel: each layout gives the bytes its own meaning.
 
   --cards COUNT   how many cards, 0 to 40; 5 unless given
+{FORM}
+So of a record with 6001 to 8000 samples a trace the line `form` says which it has: new, earlier, or mixed and
+how many traces of each. Where there are more samples it says how many fields a trace has.
 {NOT_NORMAL}
 Words are counted while the reel is read into memory, so its record has to fit there too; where it doesn't,
 a warning says that they weren't counted. A record has values and no words: nothing is said of it.
@@ -195,8 +205,8 @@ the locale (LC_ALL, LC_CTYPE or LANG) says so. Elsewhere it is printable ASCII, 
 character and a warning that says how many.
 
 With a listing that was edited: writes NEWRECORD, which has the cards of LISTING and all else as in RECORD,
-and says which cards differ. Any listing goes with any record. A record with other cards is no longer that
-of its reel, as verify says: keep both.
+its form too, and says which cards differ. Any listing goes with any record. A record with other cards is no
+longer that of its reel, as verify says: keep both.
 
   --utf8     the listing is UTF-8, whatever the locale
   --latin1   the listing is ISO 8859-1, a byte a character, 3240 bytes; it is never printed on a terminal
@@ -229,13 +239,15 @@ byte for byte. The file is read from the disk itself, where the system allows th
 named by trace and field or sample; elevations and coordinates stand there as in a record, with their
 scalar. What it prints can be kept and handed to `sha256sum -c`: the SHA-256 of both files, and a line that
 begins with # and says whether the file is the reel's record. The reel and its record have to fit in memory.
+A file in the earlier form, in all traces or in some, is compared in that form. Where it holds the same it is
+the reel's record: the line says in which form, and a warning that `read` gives the new one.
 
 Without one: reads the reel, writes its record in each format code, as a plain reel, reads each written reel
 again and compares the records byte for byte. Says which codes hold the reel's samples exactly. The record,
 one written reel and a second record have to fit in memory.
 
 Neither writes a file.
-{EAGLE}{BOTH}{NOT_NORMAL}
+{FORM}{EAGLE}{BOTH}{NOT_NORMAL}
 So a reel written in the reel's own code may have other bytes than the reel, and the same record: where a
 word wasn't normal (in code 4: a gain wasn't the smallest; in code 5: a zero had a minus sign), a card byte
 was 00, trace field 115 or 117 was 0, elevations or coordinates had another scalar than the record's, or a

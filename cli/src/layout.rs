@@ -1,9 +1,14 @@
 //! Where things stand on a reel and in a record. Only sizes and the sentences of refusals are worked out from here: what a reel holds is
 //! for the library to say.
 
+use crate::forms;
 use aukpocket::{
     blank_eight, read_eagle, read_reel, record_length, reel_length, Code, ReelRead, Refusal,
 };
+
+/// The most traces that a reel or record has, and the most samples of a trace.
+pub const MOST_TRACES: usize = 100_000;
+pub const MOST_SAMPLES: u16 = 32_767;
 
 /// A reel's cards, and its cards and binary header.
 pub const CARDS: usize = 3200;
@@ -31,6 +36,9 @@ pub const FIRST_PAIR: usize = SAMPLES + TAG;
 
 /// The bytes of a pair, which is a sample of a record.
 pub const PAIR: usize = 6;
+
+/// The bytes of a record's last field, with its tag and length: the count of its traces.
+pub const END: usize = TAG + 4;
 
 /// The layouts of reels that are read. A reel doesn't say which it has.
 #[derive(Clone, Copy, PartialEq, Eq, Debug)]
@@ -94,7 +102,7 @@ pub fn number(bytes: &[u8], place: usize) -> u16 {
     }
 }
 
-/// The numbers of a reel's or record's header as they stand, and the count of whole traces that its length gives.
+/// The numbers of a reel's header as they stand, and the count of whole traces that its length gives.
 pub struct Shape {
     pub interval: u16,
     pub samples: u16,
@@ -105,7 +113,7 @@ pub struct Shape {
     pub trailer: usize,
     pub traces: usize,
     /// Whether nothing follows the last whole trace.
-    pub whole: bool,
+    whole: bool,
 }
 
 impl Shape {
@@ -129,39 +137,51 @@ impl Shape {
         }
     }
 
-    /// Of a record, which ends with seven bytes for the count of its traces.
-    pub fn of_record(record: &[u8]) -> Shape {
-        let samples = number(record, binary_place(3221));
-        let sample_length = PAIR;
-        let trace_length = FIRST_PAIR + sample_length * usize::from(samples);
-        let traces = record.len().saturating_sub(FIRST_TRACE + 7) / trace_length;
-        Shape {
-            interval: number(record, binary_place(3217)),
-            samples,
-            code: number(record, binary_place(3225)),
-            sample_length,
-            trace_length,
-            trailer: 0,
-            traces,
-            whole: FIRST_TRACE + 7 + traces * trace_length == record.len(),
-        }
-    }
-
-    /// The length of the record or reel to be made, where the headers tell it: 0 for a shape that is sure to be refused.
+    /// The length of the record, where the headers tell it: 0 for a shape that is sure to be refused.
     pub fn record_length(&self) -> u64 {
-        self.made(record_length(self.traces as u64, self.samples.into()))
+        let length = record_length(self.traces as u64, self.samples.into());
+        made(self.whole, self.traces, self.samples, length)
     }
+}
 
-    pub fn reel_length(&self, code: u32) -> u64 {
-        self.made(reel_length(self.traces as u64, self.samples.into(), code))
-    }
+/// The same of a record.
+pub struct RecordShape {
+    pub interval: u16,
+    pub samples: u16,
+    pub traces: usize,
+    whole: bool,
+}
 
-    fn made(&self, length: Option<u64>) -> u64 {
-        if self.whole && self.traces <= 100_000 && (1..=8000).contains(&self.samples) {
-            length.unwrap_or(0)
-        } else {
-            0
+impl RecordShape {
+    pub fn of(record: &[u8]) -> RecordShape {
+        let mut shape = RecordShape {
+            interval: number(record, binary_place(3217)),
+            samples: number(record, binary_place(3221)),
+            traces: 0,
+            whole: false,
+        };
+        let mut end = FIRST_TRACE;
+        for trace in forms::traces(record) {
+            shape.traces = trace.number;
+            end = trace.end();
         }
+        shape.whole = end + END == record.len();
+        shape
+    }
+
+    /// The length of the reel under a code, as above.
+    pub fn reel_length(&self, code: u32) -> u64 {
+        let length = reel_length(self.traces as u64, self.samples.into(), code);
+        made(self.whole, self.traces, self.samples, length)
+    }
+}
+
+/// A length that was worked out for so many traces and samples a trace, where nothing follows the traces and they are within their limits.
+fn made(whole: bool, traces: usize, samples: u16, length: Option<u64>) -> u64 {
+    if whole && traces <= MOST_TRACES && (1..=MOST_SAMPLES).contains(&samples) {
+        length.unwrap_or(0)
+    } else {
+        0
     }
 }
 

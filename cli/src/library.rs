@@ -183,9 +183,11 @@ impl Code {
 /// The bytes of a listing: 40 lines of 80 characters, each closed by 0A.
 pub const LISTING_LENGTH: usize = 3240;
 
-/// The bytes of a record of that many traces and samples a trace.
+/// The bytes of a record of that many traces and samples a trace, which stand in fields of 6,000. A trace of 6,001 to 8,000 samples in the
+/// earlier form, a single field, has three bytes less.
 pub fn record_length(traces: u64, samples: u64) -> Option<u64> {
-    let trace = samples.checked_mul(6)?.checked_add(186)?;
+    let heads = 183 + 3 * samples.div_ceil(6000);
+    let trace = samples.checked_mul(6)?.checked_add(heads)?;
     traces.checked_mul(trace)?.checked_add(3273)
 }
 
@@ -507,6 +509,52 @@ mod tests {
             assert_eq!(back, record[..3471]);
         }
         assert_eq!(reel_length(0, 1, 6), None);
+    }
+
+    /// A trace's samples stand in fields of 6,000. Of 6,001 to 8,000 a single field is taken too, and comes back as two.
+    #[test]
+    fn long_traces() {
+        for (samples, fields) in [(6000, 1), (6001, 2), (8000, 2), (8001, 2), (32_767, 6)] {
+            let length = 3273 + 183 + 3 * fields + 6 * u64::from(samples);
+            assert_eq!(record_length(1, samples.into()), Some(length));
+            let mut reel = example();
+            reel[3220..3222].copy_from_slice(&u16::to_be_bytes(samples));
+            reel.resize(3840 + 4 * usize::from(samples), 0);
+            let mut record = vec![0; length as usize];
+            let refused = read_reel(&reel, &mut record[1..]).unwrap_err();
+            assert_eq!((refused.number, refused.beside), (10, length));
+            let read = read_reel(&reel, &mut record).unwrap();
+            assert_eq!((read.samples, read.length), (samples.into(), record.len()));
+            let mut again = vec![0; reel.len()];
+            write_reel(&record, 1, &mut again).unwrap();
+            assert_eq!(again[3840..], reel[3840..]);
+            if fields == 1 {
+                continue;
+            }
+            let mut earlier = record.clone();
+            earlier.drain(3452 + 36_000..3452 + 36_003);
+            earlier[3450..3452].copy_from_slice(&(6 * u32::from(samples)).to_be_bytes()[2..]);
+            let mut written = vec![0; reel.len()];
+            let answer = write_reel(&earlier, 1, &mut written);
+            if samples > 8000 {
+                assert_eq!(answer.map_err(|refused| refused.beside), Err(3449));
+                continue;
+            }
+            assert_eq!(answer.unwrap().length, reel.len());
+            assert_eq!(written, again);
+            let mut back = vec![0; record.len()];
+            read_reel(&written, &mut back).unwrap();
+            assert_eq!(back, record);
+            let listing = list_cards(&earlier).unwrap();
+            let mut taken = vec![0; earlier.len()];
+            take_cards(&earlier, &listing, &mut taken).unwrap();
+            assert_eq!(taken, earlier);
+        }
+        assert_eq!(record_length(100_000, 32_767), Some(19_680_303_273));
+        let mut reel = example();
+        reel[3220..3222].copy_from_slice(&32_768u16.to_be_bytes());
+        let refused = read_reel(&reel, &mut []).unwrap_err();
+        assert_eq!((refused.number, refused.beside), (3, 3220));
     }
 
     #[test]

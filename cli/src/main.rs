@@ -5,6 +5,7 @@ mod codes;
 mod compare;
 mod fields;
 mod files;
+mod forms;
 mod help;
 mod kinds;
 mod layout;
@@ -19,12 +20,12 @@ mod system;
 mod trouble;
 
 use aukpocket::{
-    list_cards, look_up, read_reel, take_cards, write_nearest, write_reel, NearestWritten,
-    ReelRead, Refusal, Taken, CODES,
+    list_cards, look_up, read_reel, record_length, take_cards, write_nearest, write_reel,
+    NearestWritten, ReelRead, Refusal, Taken, CODES,
 };
 use files::{step, Target};
 use kinds::{is_record, is_reel, record_fault, reel_fault};
-use layout::{Layout, Shape};
+use layout::{Layout, RecordShape, Shape};
 use listing::Encoding;
 use not_normal::NotNormal;
 use rounding::Rounding;
@@ -391,7 +392,7 @@ fn reel_of(
     writing: Writing,
     name: &str,
 ) -> Result<Result<(Vec<u8>, NearestWritten), Refusal>, Trouble> {
-    let mut room = Shape::of_record(record).reel_length(code);
+    let mut room = RecordShape::of(record).reel_length(code);
     loop {
         step(
             format_args!("making the reel of {name} in code {code}"),
@@ -409,14 +410,16 @@ fn reel_of(
     }
 }
 
-/// The record of a reel that was written from one of that length, and what reading answers; or the refusal, in the inner result.
+/// The record of a reel that was written from one of so many traces and samples a trace, and what reading answers; or the refusal, in the
+/// inner result. It has the new form, and so is longer than one that hadn't.
 fn read_again(
     reel: &[u8],
     code: u32,
-    length: usize,
+    (traces, samples): (u64, u64),
     name: &str,
 ) -> Result<Result<(Vec<u8>, ReelRead), Refusal>, Trouble> {
-    let mut back = files::buffer(length as u64, format_args!("{name}: a second record"))?;
+    let length = record_length(traces, samples).unwrap_or(0);
+    let mut back = files::buffer(length, format_args!("{name}: a second record"))?;
     step(
         format_args!("reading the reel in code {code} again"),
         reel.len() as u64,
@@ -490,7 +493,7 @@ fn rounding_of(
             "{name}: came back otherwise in code {code}: {what}; nothing was written; report this"
         ))
     };
-    let (back, read) = read_again(reel, code, record.len(), name)?
+    let (back, read) = read_again(reel, code, (written.traces, written.samples), name)?
         .map_err(|refusal| differs(refusals::of_reel(reel, Layout::Plain, refusal)))?;
     if read.not_normal != 0 {
         let count = read.not_normal;
@@ -635,9 +638,12 @@ fn info_of_record(record: &[u8], name: &str, cards: usize) -> Result<(), Trouble
         record.len()
     );
     if record.len() >= layout::FIRST_TRACE {
-        let shape = Shape::of_record(record);
+        let shape = RecordShape::of(record);
         let _ = writeln!(text, "traces    {}", shape.traces);
         let _ = writeln!(text, "samples   {} a trace", shape.samples as i16);
+        if let (None, Some(form)) = (refusal, forms::told(record)) {
+            let _ = writeln!(text, "form      {form}");
+        }
         let _ = writeln!(text, "interval  {} microseconds", shape.interval as i16);
         if refusal.is_none() {
             text.push_str("code      none: a record has exact values\n");
@@ -811,24 +817,28 @@ fn verify_record(reel_path: &Path, layout: Layout, record_path: &Path) -> Result
     step(format_args!("comparing {record_name}"), length);
     system::forget(&file);
     let compared = compare::compare(&mut file, &record, &record_name)?;
-    let difference = compare::difference(&record, &compared)
-        .map(|difference| with_kind(record_path, difference));
-    let said = match difference {
-        None => "is the record, byte for byte, of",
-        Some(_) => "is NOT the record of",
+    let difference =
+        compare::difference(record, &compared).map(|difference| with_kind(record_path, difference));
+    let earlier = forms::in_earlier(compared.earlier.len(), read.traces as usize);
+    let said = match (&difference, &earlier) {
+        (Some(_), _) => "is NOT the record of".to_string(),
+        (None, None) => "is the record, byte for byte, of".to_string(),
+        (None, Some(form)) => {
+            let same = format!("it holds what the reel's record holds, {form}");
+            let new = format!("`read` gives the new form, {} bytes", read.length);
+            warn(&record_name, &format!("{same}; {new}"));
+            format!("is the record, {form}, of")
+        }
+    };
+    let length = match difference {
+        None => compared.length,
+        Some(_) => read.length as u64,
     };
     let mut text = b"# ".to_vec();
     text.extend(listed(record_path).1);
     text.extend(format!(" {said} ").as_bytes());
     text.extend(listed(reel_path).1);
-    text.extend(
-        format!(
-            ": {}, {} bytes{counted}\n",
-            extent_of(read, layout),
-            record.len()
-        )
-        .as_bytes(),
-    );
+    text.extend(format!(": {}, {length} bytes{counted}\n", extent_of(read, layout)).as_bytes());
     for (sum, path) in [(reel_sum, reel_path), (compared.sum, record_path)] {
         let (escaped, name) = listed(path);
         text.extend(format!("{}{sum}  ", if escaped { "\\" } else { "" }).as_bytes());
@@ -956,7 +966,8 @@ fn again(record: &[u8], read: ReelRead, code: u32, name: &str) -> Result<Again, 
             return Ok(Again::Differs(refusals::of_record(record, code, refusal)));
         }
     };
-    Ok(match read_again(&reel, code, record.len(), name)? {
+    let back = read_again(&reel, code, (read.traces, read.samples), name)?;
+    Ok(match back {
         Err(refusal) => Again::Differs(refusals::of_reel(&reel, Layout::Plain, refusal)),
         Ok((_, ReelRead { not_normal, .. })) if not_normal != 0 => Again::Differs(format!(
             "{not_normal} words of the written reel aren't normal"

@@ -66,7 +66,7 @@ pub fn share(some: u64, all: u64) -> String {
 mod tests {
     use super::*;
 
-    /// Shares where they begin to round otherwise, up to the most words that a reel has, 100,000 traces of 8,000 samples.
+    /// Shares where they begin to round otherwise, up to the most words that a reel has, 100,000 traces of 32,767 samples.
     #[test]
     fn shares() {
         for (some, all, text) in [
@@ -78,15 +78,15 @@ mod tests {
             (1, 10_000, "0.01 %"),
             (1, 20_000, "0.01 %"),
             (1, 20_001, "under 0.01 %"),
-            (1, 800_000_000, "under 0.01 %"),
-            (39_999, 800_000_000, "under 0.01 %"),
-            (40_000, 800_000_000, "0.01 %"),
+            (1, 3_276_700_000, "under 0.01 %"),
+            (163_834, 3_276_700_000, "under 0.01 %"),
+            (163_835, 3_276_700_000, "0.01 %"),
             (9_999, 10_000, "99.99 %"),
             (19_999, 20_000, "over 99.99 %"),
-            (799_959_999, 800_000_000, "99.99 %"),
-            (799_960_000, 800_000_000, "over 99.99 %"),
-            (799_999_999, 800_000_000, "over 99.99 %"),
-            (800_000_000, 800_000_000, "100 %"),
+            (3_276_536_164, 3_276_700_000, "99.99 %"),
+            (3_276_536_165, 3_276_700_000, "over 99.99 %"),
+            (3_276_699_999, 3_276_700_000, "over 99.99 %"),
+            (3_276_700_000, 3_276_700_000, "100 %"),
         ] {
             assert_eq!(share(some, all), text, "{some} of {all}");
         }

@@ -3,17 +3,15 @@
 use crate::cards::{COLUMNS, COUNT};
 use crate::codes;
 use crate::fields::{header, meaning};
+use crate::forms::{trace_at, Trace, SINGLE};
 use crate::kinds::{is_record, is_reel, reel_fault};
 use crate::layout::{
-    binary_place, number, Layout, Shape, BINARY, CARDS, FIRST_PAIR, FIRST_TRACE, HEADERS, SAMPLES,
-    TAG, TRACE_HEADER,
+    binary_place, number, Layout, RecordShape, Shape, BINARY, CARDS, FIRST_TRACE, HEADERS,
+    MOST_SAMPLES, MOST_TRACES, PAIR, SAMPLES, TAG, TRACE_HEADER,
 };
 use crate::listing::{exact, quoted, Edited};
 use crate::scalars::{self, COORDINATES, ELEVATIONS};
 use aukpocket::{Refusal, LISTING_LENGTH};
-
-/// The most traces that a reel or record has.
-const MOST_TRACES: usize = 100_000;
 
 /// The scalars that a reel may have.
 const ALLOWED: &str = "0, 1, -1, or plus or minus 10, 100, 1000 or 10000";
@@ -58,7 +56,7 @@ fn as_reel(reel: &[u8], layout: Layout, refusal: Refusal) -> String {
             binary_at(place)
         ),
         3 => format!(
-            "the samples a trace are {signed}, not 1 to 8000 ({})",
+            "the samples a trace are {signed}, not 1 to {MOST_SAMPLES} ({})",
             binary_at(place)
         ),
         4 => format!(
@@ -268,11 +266,9 @@ fn reel_at(shape: &Shape, place: usize) -> String {
     format!("place {place}: trace {trace}, {part}")
 }
 
-/// A place in a trace of a record: the trace, from 1, and the bytes from its tag 03.
-fn trace_at(record: &[u8], place: usize) -> (usize, usize) {
-    let from = place.saturating_sub(FIRST_TRACE);
-    let length = Shape::of_record(record).trace_length;
-    (from / length + 1, from % length)
+/// The bytes from the tag 03 of a trace to a place in it.
+fn rest_at(record: &[u8], place: usize) -> usize {
+    place.saturating_sub(trace_at(record, place).start)
 }
 
 /// The number in a record at a place, by what it belongs to.
@@ -284,20 +280,12 @@ fn record_at(record: &[u8], place: usize) -> String {
         let byte_number = (place + 3201).saturating_sub(BINARY + TAG);
         format!("binary header, {}", field(0, byte_number))
     } else {
-        match trace_at(record, place) {
-            (trace, rest) if rest < SAMPLES => {
-                format!(
-                    "trace {trace}, {}",
-                    field(trace, (rest + 1).saturating_sub(TAG))
-                )
-            }
-            (trace, rest) => {
-                format!(
-                    "trace {trace}, sample {}",
-                    rest.saturating_sub(FIRST_PAIR) / 6 + 1
-                )
-            }
-        }
+        let trace = trace_at(record, place);
+        let part = match rest_at(record, place) {
+            rest if rest < SAMPLES => field(trace.number, (rest + 1).saturating_sub(TAG)),
+            _ => format!("sample {}", trace.sample_at(place)),
+        };
+        format!("trace {}, {part}", trace.number)
     };
     format!("place {place}: {part}")
 }
@@ -312,7 +300,7 @@ fn scalar_at(record: &[u8], place: usize) -> Option<usize> {
     if place < FIRST_TRACE {
         return None;
     }
-    let rest = trace_at(record, place).1;
+    let rest = rest_at(record, place);
     [ELEVATIONS, COORDINATES]
         .into_iter()
         .find(|scalar| rest == TAG + scalar - 1)
@@ -322,7 +310,7 @@ fn scalar_at(record: &[u8], place: usize) -> Option<usize> {
 fn wrong_number(record: &[u8], place: usize) -> String {
     let at = record_at(record, place);
     let signed = number(record, place) as i16;
-    let shape = Shape::of_record(record);
+    let shape = RecordShape::of(record);
     if place < BINARY {
         return format!("a card byte is 00 ({at})");
     }
@@ -330,7 +318,7 @@ fn wrong_number(record: &[u8], place: usize) -> String {
         return if place == binary_place(3217) {
             format!("the sample interval is {signed}, not 1 to 32767 ({at})")
         } else if place == binary_place(3221) {
-            format!("the samples a trace are {signed}, not 1 to 8000 ({at})")
+            format!("the samples a trace are {signed}, not 1 to {MOST_SAMPLES} ({at})")
         } else {
             format!("the format code is {signed}, where a record has 0 ({at})")
         };
@@ -348,7 +336,7 @@ fn wrong_number(record: &[u8], place: usize) -> String {
             meaning(scalar)
         );
     }
-    match trace_at(record, place).1 {
+    match rest_at(record, place) {
         rest if rest == TAG + 114 => format!(
             "the sample count of a trace is {signed}, not the reel's {} ({at})",
             shape.samples
@@ -366,7 +354,6 @@ fn wrong_number(record: &[u8], place: usize) -> String {
 
 /// Number 12: what is wrong with the field whose tag stands, or should stand, at a place.
 fn wrong_form(record: &[u8], place: usize) -> String {
-    let samples = usize::from(Shape::of_record(record).samples);
     let tag = record.get(place).copied();
     if place == 0 {
         return wrong_field(record, place, 0x01, CARDS, "the cards");
@@ -374,54 +361,62 @@ fn wrong_form(record: &[u8], place: usize) -> String {
     if place == BINARY {
         return wrong_field(record, place, 0x02, 60, "the binary header");
     }
-    match trace_at(record, place) {
-        (trace, SAMPLES) => wrong_field(
-            record,
-            place,
-            0x04,
-            6 * samples,
-            &format!("the samples of trace {trace}"),
-        ),
-        (trace, 0) if tag == Some(0x03) && trace > MOST_TRACES => {
-            format!("trace {trace} begins, and a record has at most {MOST_TRACES} (place {place})")
+    let trace = trace_at(record, place);
+    let i = trace.number;
+    match rest_at(record, place) {
+        0 if tag == Some(0x03) && i > MOST_TRACES => {
+            format!("trace {i} begins, and a record has at most {MOST_TRACES} (place {place})")
         }
-        (trace, 0) if tag == Some(0x03) => wrong_field(
+        0 if tag == Some(0x03) => wrong_field(
             record,
             place,
             0x03,
             180,
-            &format!("the header of trace {trace}"),
+            &format!("the header of trace {i}"),
         ),
-        (trace, 0) if tag == Some(0x05) => {
+        0 if tag == Some(0x05) => {
             let whole = number(record, place + 1) == 4 && record.len() >= place + TAG + 4;
             if whole {
                 let count = u32::from(number(record, place + 3)) << 16
                     | u32::from(number(record, place + 5));
                 format!(
                     "the count of traces is {count}, and {} stand before it (place {place}: tag 05)",
-                    trace - 1
+                    i - 1
                 )
             } else {
                 wrong_field(record, place, 0x05, 4, "the count of traces")
             }
         }
-        (trace, 0) => {
+        0 => {
             let found = match tag {
                 Some(tag) => format!("tag {tag:02X} stands"),
                 None => "the record ends".to_string(),
             };
-            let wanted = if trace > MOST_TRACES {
+            let wanted = if i > MOST_TRACES {
                 String::new()
             } else {
-                format!("tag 03 of trace {trace} or ")
+                format!("tag 03 of trace {i} or ")
             };
             format!("{found} where {wanted}tag 05 should stand (place {place})")
         }
-        _ => format!(
+        rest if rest < SAMPLES => format!(
             "{} bytes follow the record's end (place {place})",
             record.len().saturating_sub(place)
         ),
+        _ => wrong_samples(record, place, trace),
     }
+}
+
+/// What is wrong with a field of samples.
+fn wrong_samples(record: &[u8], place: usize, trace: Trace) -> String {
+    let field = trace.field_at(place);
+    let the = if field.count == trace.samples {
+        "the "
+    } else {
+        ""
+    };
+    let what = format!("{the}{} of trace {}", trace.named(field), trace.number);
+    wrong_field(record, place, 0x04, field.content(), &what)
 }
 
 /// What is wrong with a field that should have that tag and length.
@@ -434,10 +429,20 @@ fn wrong_field(record: &[u8], place: usize, tag: u8, length: usize, what: &str) 
         }
         _ if record.len() < place + TAG => format!("the record ends within a field ({at})"),
         _ if usize::from(number(record, place + 1)) != length => format!(
-            "a field's length is {}, not {length} ({at})",
-            number(record, place + 1)
+            "a field's length is {}, not {length}{} ({at})",
+            number(record, place + 1),
+            or_earlier(record, place)
         ),
         _ => format!("the record ends within a field ({at})"),
+    }
+}
+
+/// The other length that a trace's first field of samples may have, in words, where the field at a place is such a one.
+fn or_earlier(record: &[u8], place: usize) -> String {
+    let trace = trace_at(record, place);
+    match place == trace.start + SAMPLES && SINGLE.contains(&trace.samples) {
+        true => format!(", nor {} as in the earlier form", PAIR * trace.samples),
+        false => String::new(),
     }
 }
 

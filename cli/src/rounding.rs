@@ -1,10 +1,12 @@
 //! What nearest writing did to the samples of a record, for people: how many changed, the largest change, and those beyond the code's range.
 
+use crate::forms::{traces, Form};
 use crate::layout::{
-    Shape, CODE_PLACE, COUNT_PLACE, FIRST_PAIR, FIRST_TRACE, HEADERS, INTERVAL_PLACE, PAIR, TAG,
+    RecordShape, CODE_PLACE, COUNT_PLACE, END, FIRST_PAIR, FIRST_TRACE, HEADERS, INTERVAL_PLACE,
+    PAIR, SAMPLES, TAG,
 };
 use crate::not_normal::share;
-use aukpocket::{read_reel, write_nearest};
+use aukpocket::{read_reel, record_length, write_nearest};
 use std::fmt;
 
 /// The significant digits of a number that is shown; and the most that the two values of a sample get, so that they can be told apart. A
@@ -33,19 +35,20 @@ pub struct Rounding {
 
 impl Rounding {
     /// What a record became, by the record of the reel that nearest writing made of it under a code. None where the two differ in anything
-    /// but samples.
+    /// but samples. The second has the new form, whatever the first has.
     pub fn of(record: &[u8], back: &[u8], code: u32) -> Option<Rounding> {
-        let shape = Shape::of_record(record);
-        let end = FIRST_TRACE + shape.traces * shape.trace_length;
-        if record.len() != back.len()
+        let RecordShape {
+            samples, traces: t, ..
+        } = RecordShape::of(record);
+        if record_length(t as u64, samples.into()) != Some(back.len() as u64)
             || record[..FIRST_TRACE] != back[..FIRST_TRACE]
-            || record[end..] != back[end..]
+            || record[record.len() - END..] != back[back.len() - END..]
         {
             return None;
         }
         let mut found = Rounding {
             code,
-            samples: shape.traces as u64 * u64::from(shape.samples),
+            samples: t as u64 * u64::from(samples),
             changed: 0,
             largest: None,
             largest_sample: 0.0,
@@ -53,26 +56,31 @@ impl Rounding {
             first_beyond: None,
             ends: ends(code)?,
         };
-        let traces = record[FIRST_TRACE..end].chunks_exact(shape.trace_length);
-        let traces_after = back[FIRST_TRACE..end].chunks_exact(shape.trace_length);
-        for (i, (trace, trace_after)) in traces.zip(traces_after).enumerate() {
-            if trace[..FIRST_PAIR] != trace_after[..FIRST_PAIR] {
+        for (trace, after) in traces(record).zip(traces(back)) {
+            let header = &record[trace.start..][..SAMPLES];
+            if after.form != Form::New || header != &back[after.start..][..SAMPLES] {
                 return None;
             }
-            let pairs = trace[FIRST_PAIR..].chunks_exact(PAIR);
-            let pairs_after = trace_after[FIRST_PAIR..].chunks_exact(PAIR);
-            for (k, (pair, pair_after)) in pairs.zip(pairs_after).enumerate() {
-                let before = value(pair);
-                if before.abs() > found.largest_sample.abs() {
-                    found.largest_sample = before;
+            for field in after.fields() {
+                if back[field.place..][..TAG] != field.head() {
+                    return None;
                 }
-                if pair != pair_after {
-                    found.add(Change {
-                        trace: i + 1,
-                        sample: k + 1,
-                        before,
-                        after: value(pair_after),
-                    });
+                // They stand side by side in either form.
+                let pairs = record[trace.pair(field.first)..][..field.content()].chunks_exact(PAIR);
+                let pairs_after = back[field.pairs()].chunks_exact(PAIR);
+                for (sample, (pair, pair_after)) in (field.first..).zip(pairs.zip(pairs_after)) {
+                    let before = value(pair);
+                    if before.abs() > found.largest_sample.abs() {
+                        found.largest_sample = before;
+                    }
+                    if pair != pair_after {
+                        found.add(Change {
+                            trace: trace.number,
+                            sample,
+                            before,
+                            after: value(pair_after),
+                        });
+                    }
                 }
             }
         }
@@ -260,6 +268,7 @@ fn scientific(value: f64, digits: i32) -> (String, i32) {
 #[cfg(test)]
 mod tests {
     use super::*;
+    use crate::forms::{tests::long, with_earlier};
     use aukpocket::{record_length, write_reel};
 
     /// A record of traces of samples, each an exponent and a mantissa, and of as many samples a trace.
@@ -441,6 +450,39 @@ mod tests {
         assert_eq!(shown(1_234.499_908_447_265_6, 10), "1234.499908");
         assert_eq!(shown(9_999_999_999.75, 11), "9999999999.8");
         assert_eq!(shown(2f64.powi(31), 11), "2147483648");
+    }
+
+    /// A record is rounded alike in either form, and what it became is told by its own samples.
+    #[test]
+    fn forms() {
+        let mut new = long(3, 6100);
+        let halves = [(1, 1, 5), (1, 6000, -7), (2, 6001, 9), (3, 6100, -1)];
+        for (i, sample, m) in halves {
+            let place = traces(&new).nth(i - 1).unwrap().pair(sample);
+            new[place..place + 2].copy_from_slice(&(-1i16).to_be_bytes());
+            new[place + 2..place + 6].copy_from_slice(&i32::to_be_bytes(m));
+        }
+        for earlier in [&[][..], &[1], &[2, 3], &[1, 2, 3]] {
+            let record = with_earlier(new.clone(), earlier);
+            let mut reel = vec![0; HEADERS + 3 * (240 + 2 * 6100)];
+            let written = write_nearest(&record, 3, &mut reel).unwrap();
+            let mut back = vec![0; new.len()];
+            read_reel(&reel, &mut back).unwrap();
+            let found = Rounding::of(&record, &back, 3).unwrap();
+            assert_eq!((found.changed(), written.changed), (4, 4));
+            let largest = found.largest.unwrap();
+            assert_eq!((largest.trace, largest.sample, largest.before), (1, 1, 2.5));
+            // What was read back is in the new form, and in no other.
+            let other = with_earlier(back.clone(), &[2]);
+            assert!(Rounding::of(&record, &other, 3).is_none());
+            for trace in traces(&back) {
+                for field in trace.fields() {
+                    let mut other = back.clone();
+                    other[field.place + 2] ^= 0x01;
+                    assert!(Rounding::of(&record, &other, 3).is_none());
+                }
+            }
+        }
     }
 
     /// Whatever else differs isn't the work of nearest writing.
