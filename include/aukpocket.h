@@ -16,7 +16,7 @@
  *    1      the reel has under 3,600 bytes                            its length
  *    2      the format code is not 1, 2, 3, 4, 5 or 8, or that of     place 3224
  *           an Eagle reel is not 1
- *    3      the count of samples N is not 1 to 8,000                  place 3220
+ *    3      the count of samples N is not 1 to 32,767                 place 3220
  *    4      the interval is not 1 to 32,767                           place 3216
  *    5      bytes after the last whole trace                          place of the first
  *    6      more than 100,000 traces                                  place of trace 100,001
@@ -85,6 +85,15 @@
  * one it has the meaning: a card byte 00 is a blank (40), a 0 in trace fields 115 and 117 is the reel's number, a sample is its exact
  * value, and so are elevations and coordinates. docs/FORMAT.md has both byte by byte.
  *
+ * In a record the samples of a trace stand in fields of 6,000 (tag 04, length 36,000), the last with the remaining 1 to 6,000: in one field
+ * up to N 6,000, in two up to 12,000, in six for 32,767. Where N is 6,001 to 8,000 a trace may also have all of them in a single field, of
+ * length 6 * N, as every record had before 0.8.0: that is the earlier form. Every call that takes a record takes it, each trace judged by
+ * itself, so that one record may have traces of both forms; all give the same reel. The length of a trace's first field of samples tells
+ * its form. Any other length is refused by 12 at its tag, and so is a single field of more than 8,000 samples. The fields of a trace are
+ * judged one after another, each by 12 and then by 13. Reading always gives the new form: wherever a written record comes back, an earlier
+ * one comes back in that form, with three bytes more for each trace that had a single field, and the output has to be long enough for it.
+ * aukpocket_take_cards keeps the form of the record that it is lent.
+ *
  * Elevations and depths (trace fields 41 to 65) have the scalar in field 69, coordinates (73 to 85) that in field 71: a positive one
  * multiplies, a negative one divides, 0 is taken as 1. Two reels count as equal by the scaled values of these fields, exactly, and not by
  * 69 and 71 themselves. A record has, for each of the two groups of each trace, the smallest power of ten from -4 to 4 at which all the
@@ -124,7 +133,9 @@ extern "C" {
  *      compiled again
  *
  * aukpocket_blank_eight is there since 0.6.0, aukpocket_read_eagle and number 20, which that call alone answers, since 0.7.0, and the
- * number stayed 4: all else is as it was, and what was compiled under 4 can be linked as it is. */
+ * number stayed 4: all else is as it was, and what was compiled under 4 can be linked as it is. So it can with 0.8.0, in which no
+ * declaration changed. But N runs to 32,767 since then, before to 8,000, and where it is above 6,000 a trace has several fields of samples
+ * in the record: a caller who works out a record's length, or takes its bytes apart, has to follow. */
 #define AUKPOCKET_VERSION 4
 
 /* What a call on a whole reel or record answers: the traces, the samples of each, and the length of what was written. Beside a listing
@@ -157,8 +168,8 @@ struct aukpocket_sample_answer {
 };
 
 /* Reads a reel, writes its record to the front of `record`, and counts its words that aren't normal. A record of T traces of N samples is
- * 3273 + T * (186 + 6 * N) bytes. Refuses by 1 to 6 in that order, then trace by trace 7, 8, 18 by field 69, 18 by field 71, and 9 or 19,
- * first such word first, then 10. */
+ * 3273 + T * (183 + 3 * F + 6 * N) bytes, F being N / 6,000 rounded up. Refuses by 1 to 6 in that order, then trace by trace 7, 8, 18 by
+ * field 69, 18 by field 71, and 9 or 19, first such word first, then 10. */
 struct aukpocket_reel_answer aukpocket_read_reel(const uint8_t *reel, size_t reel_length, uint8_t *record, size_t record_length);
 
 /* Reads an Eagle reel, writes its record to the front of `record`, and counts its words that aren't normal, all as aukpocket_read_reel does
@@ -188,8 +199,8 @@ struct aukpocket_field_answer aukpocket_look_up(const uint8_t *reel, size_t reel
 struct aukpocket_reel_answer aukpocket_list_cards(const uint8_t *record, size_t record_length, uint8_t *listing, size_t listing_length);
 
 /* Writes a record with the text of a listing to the front of `out`: each card byte is the one that has the listing's character, a card
- * byte 00 becomes a blank (40), and all else is as in `record`, its length too. Any listing goes with any record. Refuses by 12 and 13 as
- * aukpocket_write_reel does, then 17 by the length, then 17 by the place, then 10. */
+ * byte 00 becomes a blank (40), and all else is as in `record`, its form and its length too. Any listing goes with any record. Refuses by 12
+ * and 13 as aukpocket_write_reel does, then 17 by the length, then 17 by the place, then 10. */
 struct aukpocket_reel_answer aukpocket_take_cards(const uint8_t *record, size_t record_length, const uint8_t *listing,
                                                   size_t listing_length, uint8_t *out, size_t out_length);
 
