@@ -371,7 +371,8 @@ class Refusals(Case):
         for code in (*NO_CODES, -5, -8):
             self.reel_refused(with_bytes(good, 3224, (code % 65536).to_bytes(2, "big")), 2, 3224,
                               f"the format code is {code}, not 1, 2, 3, 4, 5 or 8", "place 3224: binary header, field 3225, code")
-        self.reel_refused(with_bytes(good, 3220, b"\x1f\x41"), 3, 3220, "are 8001, not", "place 3220: binary header, field 3221, samples")
+        self.reel_refused(with_bytes(good, 3220, b"\x80\x00"), 3, 3220,
+                          "are -32768, not 1 to 32767", "place 3220: binary header, field 3221, samples")
         self.reel_refused(with_bytes(good, 3216, b"\x80\x00"), 4, 3216, "is -32768, not", "place 3216: binary header, field 3217, interval")
         self.reel_refused(good + b"\0" * 7, 5, len(good), "7 bytes follow", f"place {len(good)}: trace 3 would take 252 bytes")
         self.reel_refused(good[:-1], 5, 3852, "251 bytes follow", "place 3852: trace 2 would")
@@ -505,7 +506,7 @@ class Refusals(Case):
             (place_of_card(0), b"\0", "a card byte is 00", "card 1, column 1"),
             (place_of_card(3199), b"\0", "a card byte is 00", "card 40, column 80"),
             (place_of_binary(3217), b"\0\0", "interval is 0, not 1 to 32767", "field 3217, interval"),
-            (place_of_binary(3221), b"\xff\xff", "are -1, not 1 to 8000", "field 3221, samples"),
+            (place_of_binary(3221), b"\xff\xff", "are -1, not 1 to 32767", "field 3221, samples"),
             (place_of_binary(3225), b"\0\x01", "code is 1, where a record has 0", "field 3225, code"),
             (place_of_field(3, 2, 69), b"\0\x01", f"the scalar of elevations and depths is 1, {smallest}",
              "trace 3, field 69, elevation-scalar", EARLIER),
@@ -756,7 +757,7 @@ class Codes(Case):
         odd = make_reel(1000, 1, 2, [make_trace([whole32(2**31 - 1)])])
         tiny = make_reel(1000, 1, 1, [make_trace([bytes.fromhex("00000001")])])
         short = make_reel(1000, 2, 3, [make_trace([whole16(-32768), whole16(32767)])])
-        empty = make_reel(1000, 8000, 4)
+        empty = make_reel(1000, 32767, 4)
 
         def of_whole(number):
             return make_reel(1000, 1, 2, [make_trace([whole32(number)])])
@@ -1642,7 +1643,7 @@ class Eagle(Case):
     def test_any_bytes(self):
         """Trailers, checks, headers, unassigned bytes and words of any content."""
         rnd = random.Random(1992)
-        for n, t in ((1, 1), (1, 5), (2, 3), (3, 2), (7, 1), (100, 4), (239, 2), (8000, 2)):
+        for n, t in ((1, 1), (1, 5), (2, 3), (3, 2), (7, 1), (100, 4), (239, 2), (8000, 2), (8001, 1), (32_767, 1)):
             reel = eagle.random_eagle(rnd, n, t, rnd.randint(1, 32767))
             self.assertEqual(self.taken(reel), reels.record_of(eagle.without_trailers(reel)))
         for rest in (bytes(958), b"\xff" * 958, b"\xff\xff" + bytes(956), self.plain[3600:4558]):
@@ -1656,8 +1657,8 @@ class Eagle(Case):
         for code in (2, 3, 4, 5, 8, *NO_CODES, -1):
             self.refused(with_bytes(good, 3224, (code % 65536).to_bytes(2, "big")), 2, 3224, (
                 f"the format code is {code}, not 1, which every Eagle reel has (place 3224: binary header, field 3225, code)"))
-        for n in (0, 8001, -1):
-            self.refused(with_bytes(good, 3220, (n % 65536).to_bytes(2, "big")), 3, 3220, f"are {n}, not 1 to 8000 (place 3220: ")
+        for n in (0, -32768, -1):
+            self.refused(with_bytes(good, 3220, (n % 65536).to_bytes(2, "big")), 3, 3220, f"are {n}, not 1 to 32767 (place 3220: ")
         for interval in (0, -1, -32768):
             self.refused(with_bytes(good, 3216, (interval % 65536).to_bytes(2, "big")), 4, 3216, f"is {interval}, not 1 to 32767 (place 3216: ")
         # Cut in a trailer, at its start and before its end, in the samples, in a header; and bytes behind the last trailer.
@@ -1997,6 +1998,445 @@ class Eagle(Case):
             (r"^\| (\d+) \| [^|]+ \| [^|]+ \|$", readme.split("| number | cause | beside it |")[1].split("\n\n")[0]),
             (r"^ \* {3,4}(\d+) {6}\S", header.split("number  cause")[1].split("For a single word")[0]))]
         self.assertEqual(causes, [list(range(1, 21))] * 2)
+
+
+def long_reel(code, n, t):
+    """A reel of traces whose neighbouring samples differ, and are others in each trace."""
+    words = {
+        1: lambda k: (NORMAL + NOT_NORMAL)[k % (len(NORMAL) + len(NOT_NORMAL))], 2: lambda k: whole32(k * 40_503 % 2**32 - 2**31),
+        3: lambda k: whole16(k * 7919 % 2**16 - 2**15), 4: lambda k: gain(k % 16, k * 7919 % 2**16 - 2**15),
+        5: lambda k: IEEE[k % len(IEEE)], 8: lambda k: bytes([k % 251]),
+    }[code]
+    return make_reel(2000, n, code, [make_trace([words(11 * i + k) for k in range(n)], {1: i, 41: 10 * i}) for i in range(1, t + 1)])
+
+
+class Held:
+    """The record of a reel: its bytes, put together here, and where the parts of each trace stand in it, by the trace's number from 1: its
+    header, the tags of its samples' fields, and its pairs. These of the traces have the earlier form, a single field of samples."""
+
+    def __init__(self, reel, earlier=()):
+        n, code = signed(reel, 3220, 2), signed(reel, 3224, 2)
+        size, parts, place = sample_size(code), [reels.record_of(reel[:3600])[:3266]], 3266
+        self.n, self.header, self.tags, self.pairs = n, {}, {}, {}
+
+        def put(tag, content):
+            nonlocal place
+            parts.append(reels.tagged(tag, content))
+            place += len(parts[-1])
+            return place - len(parts[-1])
+
+        for i, start in enumerate(range(3600, len(reel), trace_size(code, n)), 1):
+            numbers = reels.trace_numbers(reel, start)
+            self.header[i] = put(0x03, b"".join(numbers[b].to_bytes(width, "big", signed=True) for b, width in reels.TRACE_FIELDS.items()))
+            places = range(start + 240, start + 240 + n * size, size)
+            pairs = [reels.pair_of_word(code, reel[at : at + size]) for at in places]
+            share = n if i in earlier else 6000
+            self.tags[i] = [put(0x04, b"".join(pairs[k : k + share])) for k in range(0, n, share)]
+            self.pairs[i] = [tag + 3 + 6 * k for tag, first in zip(self.tags[i], range(0, n, share)) for k in range(min(share, n - first))]
+        self.end = put(0x05, len(self.header).to_bytes(4, "big"))
+        self.bytes = b"".join(parts)
+
+
+# Every mixture of forms that three traces may have, by the traces with the earlier one.
+MIXTURES = [tuple(i for i in (1, 2, 3) if bits >> i & 1) for bits in range(0, 16, 2)]
+
+
+class LongTraces(Case):
+    """Up to 32,767 samples a trace, in fields of 6,000; and records that have 6,001 to 8,000 in a single field, the earlier form."""
+
+    def form(self, n, earlier, t):
+        """The line of `info` that says how the samples of a record's traces stand."""
+        if n <= 6000 or t == 0:
+            return ""
+        fields = f"{-(-n // 6000)} fields of samples a trace"
+        if n > 8000:
+            return f"form      {fields}\n"
+        if len(earlier) in (0, t):
+            return f"form      new: {fields}\n" if not earlier else "form      earlier: a single field of samples a trace\n"
+        return f"form      mixed: {t - len(earlier)} of {t} traces new, {len(earlier)} earlier\n"
+
+    def same(self, reel, record, n, t, words, earlier=(), *option):
+        """`verify` says that a record is that of its reel, and in which form; what it prints is what sha256sum takes."""
+        form, warned, length = "byte for byte", "", record.stat().st_size
+        if earlier:
+            form = "in the earlier form" if len(earlier) == t else f"{len(earlier)} of {t} traces in the earlier form"
+            warned = (f"aukpocket: warning: {record}: it holds what the reel's record holds, {form}; `read` gives the new form, "
+                      f"{length + 3 * len(earlier)} bytes\n")
+        said = self.fine("verify", reel, record, *option, warned=warned)
+        extent = f"{'an Eagle reel, ' if option else ''}{t} trace{'s' * (t != 1)} of {n} samples"
+        self.assertEqual(said.splitlines()[0], (
+            f"# {record} is the record, {form}, of {reel}: {extent}, {length} bytes{words and '; on the reel ' + words}"))
+        run = subprocess.run(["sha256sum", "-c", "--strict"], input=said.encode(), capture_output=True, timeout=SECONDS)
+        self.assertEqual((run.returncode, run.stdout.decode()), (0, f"{reel}: OK\n{record}: OK\n"))
+
+    def test_there_and_back(self):
+        """At and beside each count of fields, in every code: all that is said, and each byte of the record and of a written reel."""
+        for code, n, t, fields in (
+            (3, 5999, 1, 1), (8, 6000, 3, 1), (3, 6001, 3, 2), (1, 7000, 2, 2), (2, 8000, 1, 2), (4, 8001, 2, 2), (5, 12_000, 1, 2),
+            (3, 12_001, 2, 3), (8, 30_000, 1, 5), (8, 30_001, 1, 6), (1, 32_767, 2, 6), (3, 32_767, 1, 6),
+        ):
+            reel = long_reel(code, n, t)
+            held = Held(reel)
+            length, s, count = 3273 + t * (183 + 3 * fields + 6 * n), "s" * (t != 1), count_of(reel)
+            self.assertEqual((len(held.bytes), [len(tags) for tags in held.tags.values()]), (length, [fields] * t))
+            self.assertEqual(held.bytes, reels.record_of(reel))
+            path, record, again = self.file("a.sgy", reel), self.folder / "a.record", self.folder / "b.sgy"
+            words = f"{count} of {t * n} words not normal ({share(count, t * n)})" if code == 1 else ""
+            self.assertEqual(self.fine("read", path, record, "--force"), (
+                f"{path}: {t} trace{s} of {n} samples{words and ', ' + words}; {record}: its record, {length} bytes\n"))
+            self.assertEqual(record.read_bytes(), held.bytes)
+            self.assertEqual(self.fine("check", stdin=reel), f"taken {t} {n} {length} {count}\n")
+            self.assertIn(f"\nrecord    {length} bytes\n", self.fine("info", path))
+            said = self.fine("info", record, "--cards", 0)
+            self.assertTrue(said.startswith(
+                f"file      {record}, {length} bytes\nkind      record\ntraces    {t}\nsamples   {n} a trace\n{self.form(n, (), t)}interval  2000 "
+                "microseconds\ncode      none: "), said)
+            self.assertIn(f"\ncode {code}    holds it, as a reel of {len(reel)} bytes\n", said)
+            self.same(path, record, n, t, words)
+            said = self.fine("verify", path)
+            self.assertIn(f"; its record, {length} bytes\n", said)
+            self.assertIn(f"\ncode {code}: holds it; written ({len(reel)} bytes) and read again, the record is the same", said)
+            self.assertEqual(self.fine("look", path, t, 115), f"{n}\n")
+            for nearest in ((), ("--nearest",)):
+                said = self.fine("write", record, code, again, "--force", *nearest)
+                self.assertTrue(said.startswith(f"{record}: {t} trace{s} of {n} samples; {again}: its reel in code {code}"), said)
+                self.assertEqual(again.read_bytes(), records.reel_of(held.bytes, code))
+            self.fine("verify", again, record)
+            if code == 1:
+                trailers = self.file("e.sgy", eagle.with_trailers(reel, [eagle.trailer()] * t))
+                self.fine("read", "--eagle", trailers, record, "--force")
+                self.assertEqual(record.read_bytes(), held.bytes)
+                self.same(trailers, record, n, t, words, (), "--eagle")
+                self.assertEqual(self.fine("check", "--eagle", stdin=trailers.read_bytes()), f"taken {t} {n} {length} {count}\n")
+
+    def test_the_limit(self):
+        """N from 1 to 32,767, on a reel of either layout and in a record; without traces there are no fields and no form."""
+        for n in (1, 6000, 6001, 8000, 8001, 32_767):
+            reel = make_reel(2000, n, 1)
+            self.assertEqual(self.fine("check", stdin=reel), f"taken 0 {n} 3273 0\n")
+            self.assertEqual(self.fine("check", "--eagle", stdin=reel), f"taken 0 {n} 3273 0\n")
+            record = self.file("a.record", reels.record_of(reel))
+            self.assertNotIn("form", self.fine("info", record))
+            self.fine("write", record, 1, self.folder / "b.sgy", "--force")
+        for n in (0, -1, -32_768, -32_767):
+            other = (n % 65_536).to_bytes(2, "big")
+            for option in ((), ("--eagle",)):
+                said = self.trouble(2, "check", *option, stdin=with_bytes(reel, 3220, other), stdout="refused 3 3220\n")
+                self.assertIn(f"refused by 3: the samples a trace are {n}, not 1 to 32767 (place 3220: binary header, field 3221, samples)", said)
+            bad = self.file("bad.record", with_bytes(record.read_bytes(), place_of_binary(3221), other))
+            self.assertEqual(self.trouble(2, "cards", bad), (
+                f"{bad}: refused by 13: the samples a trace are {n}, not 1 to 32767 (place 3226: binary header, field 3221, samples)"))
+
+    def test_earlier_records(self):
+        """In every mixture of forms: the same reel, exactly and by nearest values, the same cards, and a corrected record of the same form."""
+        for n, mixtures in ((6001, MIXTURES), (7000, [(1, 2, 3), (2,)]), (8000, [(1, 2, 3), (1,), (3,), (1, 3)])):
+            reel = long_reel(4, n, 3)
+            new = Held(reel)
+            path, kept = self.file("a.sgy", reel), self.file("new.record", new.bytes)
+            written, other, again = (self.folder / name for name in ("b.sgy", "c.sgy", "again.record"))
+            reels_of_new = {}
+            for code, nearest in ((1, ()), (4, ()), (3, ("--nearest",)), (8, ("--nearest",))):
+                run = self.run_command("write", kept, code, written, "--force", *nearest)
+                self.assertEqual(run.returncode, 0)
+                reels_of_new[code, nearest] = written.read_bytes(), run.stdout.decode(), run.stderr.decode()
+            self.assertEqual(reels_of_new[4, ()][0], records.reel_of(new.bytes, 4))
+            listing = self.fine("cards", kept, "--utf8")
+            for earlier in mixtures:
+                held = Held(reel, earlier)
+                self.assertEqual(len(held.bytes), len(new.bytes) - 3 * len(earlier))
+                record = self.file("a.record", held.bytes)
+                said = self.fine("info", record, "--cards", 0)
+                self.assertTrue(said.startswith(
+                    f"file      {record}, {len(held.bytes)} bytes\nkind      record\ntraces    3\nsamples   {n} a trace\n{self.form(n, earlier, 3)}"
+                    "interval  2000 microseconds\ncode      none: "), said)
+                self.assertIn(f"\ncode 4    holds it, as a reel of {len(reel)} bytes\n", said)
+                for (code, nearest), (content, text, warned) in reels_of_new.items():
+                    text, warned = (part.replace(str(kept), str(record)).replace(str(written), str(other)) for part in (text, warned))
+                    self.assertEqual(self.fine("write", record, code, other, "--force", *nearest, warned=warned), text)
+                    self.assertEqual(other.read_bytes(), content)
+                other.write_bytes(reels_of_new[4, ()][0])
+                self.assertEqual(self.fine("read", other, again, "--force"), (
+                    f"{other}: 3 traces of {n} samples; {again}: its record, {len(new.bytes)} bytes\n"))
+                self.assertEqual(again.read_bytes(), new.bytes)
+                self.assertEqual(self.fine("cards", record, "--utf8"), listing)
+                corrected = self.file("a.txt", listing.replace(" " * 80, "C 1 CORRECTED".ljust(80), 1).encode())
+                said = self.fine("cards", record, corrected, again, "--utf8", "--force")
+                self.assertEqual(said, (
+                    f"{record}: 3 traces of {n} samples; {again}: the record with the cards of {corrected}, {len(held.bytes)} bytes; "
+                    "card 1 differs\n"))
+                self.assertEqual(again.read_bytes(), with_lines(held.bytes, ["C 1 CORRECTED", *[""] * 39]))
+                self.same(path, record, n, 3, "", earlier)
+
+    def test_verify_reads_it_once(self):
+        """The form is told as the file is read, from a pipe too."""
+        reel = long_reel(3, 6001, 2)
+        path = self.file("a.sgy", reel)
+        for earlier, form in (((), "byte for byte"), ((1, 2), "in the earlier form"), ((2,), "1 of 2 traces in the earlier form")):
+            run = self.run_command("verify", path, "/dev/stdin", stdin=Held(reel, earlier).bytes)
+            self.assertEqual(run.returncode, 0)
+            self.assertTrue(run.stdout.decode().startswith(f"# /dev/stdin is the record, {form}, of {path}: "), run.stdout)
+        run = self.run_command("verify", path, "/dev/stdin", stdin=Held(reel, (1, 2)).bytes[:-1])
+        self.assertEqual(run.returncode, 3)
+
+    def different(self, path, new, record, *parts):
+        """`verify` finds a difference and names it."""
+        t, kept = len(new.header), self.file("a.record", record)
+        s = "s" * (t != 1)
+        said = self.trouble(3, "verify", path, kept, stdout=(
+            f"# {kept} is NOT the record of {path}: {t} trace{s} of {new.n} samples, {len(new.bytes)} bytes\n"
+            + "".join(f"{hashlib.sha256(file.read_bytes()).hexdigest()}  {file}\n" for file in (path, kept))))
+        self.assertTrue(said.startswith(f"{kept}: isn't the record of {path}: ") and said.endswith("; keep the tape"), said)
+        for part in parts:
+            self.assertIn(part, said)
+
+    def test_differences(self):
+        """A flipped bit in a record of any mixture of forms is named by its trace and sample, at its place in the file."""
+        n = 6100
+        reel = long_reel(3, n, 3)
+        path, new = self.file("a.sgy", reel), Held(reel)
+        for earlier in ((), (1,), (2, 3), (1, 2, 3)):
+            held = Held(reel, earlier)
+            form = {0: "", 3: ", in the earlier form"}.get(len(earlier), f", {len(earlier)} of 3 traces in the earlier form")
+            differ = f"; 1 of {len(held.bytes)} bytes differ{form}); keep"
+
+            def flipped(place, name, bit=0x10):
+                self.different(path, new, with_bytes(held.bytes, place, bytes([held.bytes[place] ^ bit])), f"record of {path}: {name}", (
+                    f"(place {place}{differ}"))
+
+            flipped(3 + 81, "card 2, column 2 is 40 by")
+            flipped(place_of_binary(3221), f"binary header, field 3221, samples is {n} by")
+            for i in (1, 2, 3):
+                flipped(held.header[i], f"the tag and length of trace {i}'s header is tag 03, length 180 by")
+                flipped(held.header[i] + 3 + 3, f"trace {i}, field 1, line-trace is {i} by")
+                flipped(held.header[i] + 3 + 43, f"trace {i}, field 41, group-elevation is {100_000 * i} under scalar -10000 by")
+                flipped(held.header[i] + 3 + 180 - 1, f"trace {i}, field 179, overtravel is 0 by")
+                for k in (1, 2, 5999, 6000, 6001, 6002, n):
+                    for byte in (0, 5):
+                        flipped(held.pairs[i][k - 1] + byte, f"trace {i}, sample {k} is ", 0x01)
+                names = [("samples", 6 * n)] if i in earlier else [("samples 1 to 6000", 36_000), (f"samples 6001 to {n}", 6 * n - 36_000)]
+                for tag, (name, length) in zip(held.tags[i], names):
+                    flipped(tag, f"the tag and length of trace {i}'s {name} is tag 04, length {length} by")
+                # A bit of a length: the first field then has neither form's, and is taken to be one of the new form.
+                if i not in earlier:
+                    flipped(held.tags[i][0] + 1, f"the tag and length of trace {i}'s samples 1 to 6000 is tag 04, length 36000 by")
+                    flipped(held.tags[i][1] + 2, f"the tag and length of trace {i}'s samples 6001 to {n} is tag 04, length {6 * n - 36_000} by")
+            flipped(held.end, "the tag and length of the count of traces is tag 05, length 4 by")
+            flipped(held.end + 6, "the count of traces is 3 by")
+            self.different(path, new, held.bytes + b"xy", f"2 bytes follow the record's end (place {len(held.bytes)}{form}); keep")
+            end = len(held.bytes) - 1
+            self.different(path, new, held.bytes[:-1], (
+                f"it has {end} bytes of {end + 1}, and the count of traces is missing or cut short (place {end}{form})"))
+            for i, k in ((3, 6000), (3, 6001), (3, n)):
+                place = held.pairs[i][k - 1] + 2
+                self.different(path, new, held.bytes[:place], (
+                    f"it has {place} bytes of {len(held.bytes)}, and trace {i}, sample {k} is missing or cut short (place {place}{form})"))
+        # A trace without its last field, and one field twice.
+        first, second = new.tags[2]
+        by_the_reel = f"the tag and length of trace 2's samples 6001 to {n} is tag 04, length 600 by the reel's record and"
+        self.different(path, new, new.bytes[:second] + new.bytes[new.header[3] :], f"{by_the_reel} tag 03, length 180 in the file (place {second}; ")
+        self.different(path, new, new.bytes[:second] + new.bytes[first:], f"{by_the_reel} tag 04, length 36000 in the file (place {second + 1}; ")
+
+    def refused(self, record, number, place, *parts, code=1):
+        """A record that every command refuses, in one sentence; and the rules of tools/vectors too."""
+        path, listing, none = self.file("bad.record", record), self.file("a.txt", b"\n" * 40), self.folder / "none"
+        names = self.names()
+        said = self.trouble(2, "write", path, code, none)
+        if number in (12, 13):
+            self.assertEqual(records.write_reel(record, code, 0), ("refused", number, place))
+            for words in (("write", path, 3, none, "--nearest"), ("cards", path), ("cards", path, listing, none, "--utf8"), ("info", path)):
+                self.assertEqual(self.trouble(2, *words, stdout=None), said)
+            run = self.run_command("info", path)
+            self.assertIn(b"\nkind      record, refused; its headers as they stand:\n", run.stdout)
+            self.assertNotIn(b"\nform ", run.stdout)
+        self.assertEqual(self.names(), names)
+        self.assertTrue(said.startswith(f"{path}: refused by {number}: "), said)
+        self.assertIn(f"(place {place}", said)
+        for part in parts:
+            self.assertIn(part, said)
+
+    def test_12(self):
+        """Tags and lengths of fields in each form, behind traces of either; what is missing, cut short or too much."""
+        n = 6100
+        reel = long_reel(3, n, 3)
+        for earlier in ((), (1,), (2,), (1, 2, 3)):
+            held = Held(reel, earlier)
+            good, none = held.bytes, "tag 00 stands where a field should begin"
+            for i in (1, 2, 3):
+                first, *rest = held.tags[i]
+                name = f"the samples of trace {i}" if i in earlier else f"samples 1 to 6000 of trace {i}"
+                self.refused(with_bytes(good, first, b"\0"), 12, first, f"{none} (place {first}: tag 04, {name})")
+                self.refused(good[: first + 2], 12, first, f"the record ends within a field (place {first}: tag 04, samples 1 to 6000 of trace {i})")
+                self.refused(good[: first + 40], 12, first, f"the record ends within a field (place {first}: tag 04, {name})")
+                for length in (0, 6, 600, 35_994, 36_006, 36_594, 36_606, 48_000, 65_535):
+                    self.refused(with_bytes(good, first + 1, length.to_bytes(2, "big")), 12, first, (
+                        f"a field's length is {length}, not 36000, nor 36600 as in the earlier form (place {first}: tag 04, samples 1 to 6000 of "
+                        f"trace {i})"))
+                for second in rest:
+                    name = f"samples 6001 to {n} of trace {i}"
+                    self.refused(with_bytes(good, second, b"\0"), 12, second, f"{none} (place {second}: tag 04, {name})")
+                    for length in (0, 594, 606, 36_000, 36_600):
+                        self.refused(with_bytes(good, second + 1, length.to_bytes(2, "big")), 12, second, (
+                            f"a field's length is {length}, not 600 (place {second}: tag 04, {name})"))
+                    self.refused(good[:second], 12, second, f"the record ends where a field should begin (place {second}: tag 04, {name})")
+                    for cut in (second + 1, second + 3, second + 602):
+                        self.refused(good[:cut], 12, second, f"the record ends within a field (place {second}: tag 04, {name})")
+                    self.refused(good[:second] + good[second + 603 :], 12, second, (
+                        f"tag 0{5 if i == 3 else 3} stands where a field should begin (place {second}: tag 04, {name})"))
+                # The other form's length alone: a second field is missing then, or its tag and length are taken for a pair.
+                behind = first + 36_003
+                if i in earlier:
+                    self.refused(with_bytes(good, first + 1, b"\x8c\xa0"), 12, behind, (
+                        f" stands where a field should begin (place {behind}: tag 04, samples 6001 to {n} of trace {i})"))
+                else:
+                    self.refused(with_bytes(good, first + 1, b"\x8e\xf8"), 13, behind, f"isn't canonical (place {behind}: trace {i}, sample 6001)")
+                header = held.header[i]
+                wanted = f"where tag 03 of trace {i} or tag 05 should stand (place {header})"
+                self.refused(with_bytes(good, header, b"\x06"), 12, header, f"tag 06 stands {wanted}")
+                self.refused(good[:header], 12, header, f"the record ends {wanted}")
+                self.refused(with_bytes(good, header + 2, b"\xb3"), 12, header, (
+                    f"a field's length is 179, not 180 (place {header}: tag 03, the header of trace {i})"))
+            end = held.end
+            self.refused(with_bytes(good, end + 6, b"\2"), 12, end, f"the count of traces is 2, and 3 stand before it (place {end}: tag 05)")
+            self.refused(good + b"xyz", 12, end + 7, f"3 bytes follow the record's end (place {end + 7})")
+            self.refused(good[:-1], 12, end, f"the record ends within a field (place {end}: tag 05, the count of traces)")
+
+    def test_no_other_form(self):
+        """A single field has 6,001 to 8,000 samples, each field of the new form but the last 6,000, and none is empty."""
+        def of(n, *counts):
+            """A record of one trace of so many samples in fields of these counts."""
+            one = make_record(2000, n)
+            header = make_record(2000, n, [[]])[3266:3449]
+            fields = b"".join(reels.tagged(0x04, pair_bytes(0, 1) * count) for count in counts)
+            return one[:3266] + header + fields + bytes.fromhex("050004 00000001")
+
+        for n, *counts in ((6000, 6000), (6001, 6000, 1), (6001, 6001), (8000, 6000, 2000), (8000, 8000), (8001, 6000, 2001), (10_922, 6000, 4922),
+                           (12_000, 6000, 6000), (18_001, 6000, 6000, 6000, 1)):
+            self.fine("cards", self.file("a.record", of(n, *counts)), "--utf8")
+        for n, wrong, length, *counts in (
+            (8001, 1, 36_000, 8001), (8200, 1, 36_000, 8200), (10_922, 1, 36_000, 10_922), (6000, 1, 36_000, 5999, 1), (6000, 1, 36_000, 3000, 3000),
+            (12_000, 1, 36_000, 8000, 4000), (12_000, 1, 36_000, 10_922, 1078), (12_001, 2, 36_000, 6000, 6001), (12_001, 3, 6, 6000, 6000),
+            (12_001, 2, 36_000, 6000, 1, 6000), (18_000, 3, 36_000, 6000, 6000, 5999, 1), (8001, 2, 12_006, 6000, 2000, 1),
+            (32_767, 6, 16_602, 6000, 6000, 6000, 6000, 6000, 2766, 1), (32_767, 6, 16_602, 6000, 6000, 6000, 6000, 6000),
+        ):
+            place = 3449 + sum(3 + 6 * count for count in counts[: wrong - 1])
+            record = of(n, *counts)
+            found = int.from_bytes(record[place + 1 : place + 3], "big")
+            # What should be the last field of samples and isn't there is tag 05.
+            part = f"a field's length is {found}, not {length} (place " if record[place] == 4 else "tag 05 stands where a field should begin (place "
+            self.refused(record, 12, place, part)
+        for n, *counts in ((6001, 1, 6000), (7000, 3500, 3500), (8000, 2000, 6000)):
+            self.refused(of(n, *counts), 12, 3449, f"a field's length is {6 * counts[0]}, not 36000, nor {6 * n} as in the earlier form")
+        # Behind the last field there is no more of the trace.
+        for n, *counts in ((6000, 6000, 1), (6001, 6000, 1, 1), (7000, 7000, 1000), (12_000, 6000, 6000, 6000)):
+            place = 3449 + sum(3 + 6 * count for count in counts[:-1])
+            self.refused(of(n, *counts), 12, place, f"tag 04 stands where tag 03 of trace 2 or tag 05 should stand (place {place})")
+
+    def test_13_and_14(self):
+        """A number that no record has, and a sample that doesn't fit, in any field of either form; 13 in one before 12 in the next."""
+        n, bad, half = 6100, pair_bytes(1, 6), pair_bytes(-1, 1)
+        reel = long_reel(3, n, 3)
+        for earlier in ((), (1,), (2, 3), (1, 2, 3)):
+            held = Held(reel, earlier)
+            good = held.bytes
+            for i in (1, 2, 3):
+                for k in (1, 5999, 6000, 6001, 6002, n):
+                    place = held.pairs[i][k - 1]
+                    damaged = with_bytes(good, place, bad)
+                    at = f"(place {place}: trace {i}, sample {k})"
+                    self.refused(damaged, 13, place, f"a pair, 6 * 2^1, isn't canonical {at}")
+                    self.refused(with_bytes(good, place, half), 14, place, f"a sample, 1 * 2^-1, doesn't fit code 3 {at}; --nearest", code=3)
+                for byte_number, other, part in (
+                    (69, b"\0\1", "the scalar of elevations and depths is 1, where a record has these values under -10"),
+                    (71, b"\0\7", "the scalar of coordinates is 7, which isn't allowed"), (115, b"\0\7", f"is 7, not the reel's {n}"),
+                    (117, b"\0\7", "is 7, not the reel's 2000"),
+                ):
+                    place = held.header[i] + 3 + byte_number - 1
+                    self.refused(with_bytes(good, place, other), 13, place, part, f"(place {place}: trace {i}, field {byte_number}, ")
+            # In one field 12 comes first; a field before it comes before both.
+            for i in (1, 2, 3):
+                first, *rest = held.tags[i]
+                damaged = with_bytes(with_bytes(good, held.pairs[i][5999], bad), held.pairs[i][6000], bad)
+                for second in rest:
+                    self.refused(with_bytes(damaged, second, b"\0"), 13, held.pairs[i][5999], f"trace {i}, sample 6000)")
+                    self.refused(with_bytes(with_bytes(good, held.pairs[i][6000], bad), second, b"\0"), 12, second)
+                self.refused(with_bytes(damaged, first, b"\0"), 12, first)
+                self.refused(with_bytes(with_bytes(damaged, held.end + 6, b"\0"), held.pairs[i][0], half), 13, held.pairs[i][5999], code=3)
+            # 14 comes behind all of these.
+            unfit = with_bytes(good, held.pairs[1][0], half)
+            self.refused(with_bytes(unfit, held.tags[3][-1], b"\0"), 12, held.tags[3][-1], code=3)
+            self.refused(with_bytes(unfit, held.pairs[3][n - 1], bad), 13, held.pairs[3][n - 1], f"trace 3, sample {n})", code=3)
+            self.refused(good + b"x", 12, len(good), code=3)
+
+    def test_many_fields(self):
+        """Of six fields a trace, each has its place."""
+        n, bad = 32_767, pair_bytes(1, 6)
+        reel = long_reel(8, n, 2)
+        path, held = self.file("a.sgy", reel), Held(reel)
+        for i in (1, 2):
+            for j, tag in enumerate(held.tags[i]):
+                name, length = f"samples {6000 * j + 1} to {min(6000 * j + 6000, n)}", 36_000 if j < 5 else 16_602
+                at = f"(place {tag}: tag 04, {name} of trace {i})"
+                self.refused(with_bytes(held.bytes, tag, b"\5"), 12, tag, f"tag 05 stands where a field should begin {at}")
+                self.refused(with_bytes(held.bytes, tag + 1, b"\0\6"), 12, tag, f"a field's length is 6, not {length} {at}")
+                self.different(path, held, with_bytes(held.bytes, tag + 2, b"\1"), (
+                    f"the tag and length of trace {i}'s {name} is tag 04, length {length} by"))
+                for k in (6000 * j + 1, min(6000 * j + 6000, n)):
+                    place = held.pairs[i][k - 1]
+                    self.refused(with_bytes(held.bytes, place, bad), 13, place, f"(place {place}: trace {i}, sample {k})")
+                    flipped = with_bytes(held.bytes, place + 5, bytes([held.bytes[place + 5] ^ 2]))
+                    self.different(path, held, flipped, f"trace {i}, sample {k} is ", f"(place {place + 5}; 1 of {len(held.bytes)} bytes differ); ")
+
+    def test_damaged(self):
+        """Whatever was done to a record of any forms, number and place are the rules', and so are the trace and the sample that are named."""
+        rnd, seen = random.Random(8000), set()
+        for _ in range(60):
+            n, t = rnd.choice((6001, 6002, 6500, 8000, 8001, 12_001)), rnd.randint(1, 3)
+            earlier = [i for i in range(1, t + 1) if n <= 8000 and rnd.random() < 0.5]
+            held = Held(long_reel(8, n, t), earlier)
+            damaged = held.bytes
+            places = [*held.header.values(), held.end, *(tag + rnd.randrange(3) for tags in held.tags.values() for tag in tags),
+                      *(pairs[k] + rnd.randrange(6) for pairs in held.pairs.values() for k in (0, 5999, 6000, n - 1, rnd.randrange(n)))]
+            for _ in range(rnd.randint(1, 2)):
+                place = rnd.choice(places)
+                damaged = with_bytes(damaged, place, bytes([rnd.choice((0, 3, 4, 5, damaged[place] ^ 1, rnd.randrange(256)))]))
+            damaged = damaged[: rnd.choice((len(damaged), len(damaged), rnd.randrange(3266, len(damaged))))]
+            path, cause = self.file("a.record", damaged), records.first_cause(damaged)
+            seen.add(cause and cause[1])
+            if cause is None:
+                self.fine("cards", path, "--utf8")
+                continue
+            said = self.trouble(2, "cards", path)
+            self.assertIn(f": refused by {cause[1]}: ", said)
+            self.assertIn(f"place {cause[2]}", said)
+            named = re.search(r"trace (\d+), sample (\d+)\)$", said)
+            self.assertEqual(named is not None, any(cause[2] in pairs for pairs in held.pairs.values()) and cause[1] == 13, said)
+            if named:
+                i, k = map(int, named.groups())
+                self.assertEqual(held.pairs[i][k - 1], cause[2])
+        self.assertEqual(seen, {None, 12, 13})
+
+    def test_where_it_is_explained(self):
+        for command in ("write", "info", "verify"):
+            self.assertIn("In a record the samples of a trace stand in fields of 6000", self.fine(command, "--help"))
+        texts = {path: (TOP / path).read_text(encoding="utf-8") for path in (
+            "README.md", "docs/aukpocket.1", "docs/FORMAT.md", "include/aukpocket.h", "examples/README.md")}
+        for path, part in (
+            ("README.md", "\n## Long traces\n"), ("docs/aukpocket.1", "\n.SH LONG TRACES\n"), ("docs/FORMAT.md", "*The earlier form*"),
+            ("README.md", "| 3 | the count of samples N is not 1 to 32,767 |"), ("include/aukpocket.h", "the count of samples N is not 1 to 32,767 "),
+            ("docs/FORMAT.md", "an N other than 1 to 32,767 "), ("docs/aukpocket.1", "A reel has 1 to 32,767 samples a trace."),
+            ("README.md", "in code 1: 1 to 32,767 samples a trace, at most 100,000 traces."),
+        ):
+            self.assertIn(part, texts[path], path)
+        for path in ("docs/FORMAT.md", "examples/README.md"):
+            self.assertIn("3273 + T × (183 + 3F + 6N)", texts[path], path)
+        self.assertIn("3273 + T * (183 + 3 * F + 6 * N)", texts["include/aukpocket.h"])
+        for path, text in texts.items():
+            self.assertNotIn("T × (186", text, path)
+        most = "{:,}".format(3273 + 100_000 * (183 + 3 * 6 + 6 * 32_767))
+        self.assertIn(f"up to {most} bytes in all", texts["README.md"])
+        self.assertIn(f"The longest has {most} bytes", texts["docs/FORMAT.md"])
+        plain, other = (3600 + 100_000 * (header + 4 * 32_767) for header in (240, 1200))
+        self.assertIn(f"a plain reel has up to {plain:,}, an Eagle reel {other - plain:,} more", texts["README.md"])
 
 
 # Locales of both kinds, by the variable that names them last.
@@ -2634,10 +3074,17 @@ class Large(Case):
         self.assertTrue(self.terminal("verify", "--eagle", longer, new).endswith(f"aukpocket: comparing {new}, 48 MB\n"))
         longer.unlink()
         new.unlink()
-        self.assertEqual(self.terminal("write", output, 3, new, "--nearest"), "".join(f"aukpocket: {what}\n" for what in (
-            f"loading {output}, 48 MB", f"making the reel of {output} in code 3, 16 MB", "reading the reel in code 3 again, 16 MB",
-            f"writing {new}, 16 MB")))
-        new.unlink()
+        # And where some traces of the record, or all, have the earlier form. What is read again has the new one.
+        bytes_of_new, stride = output.read_bytes(), 189 + 6 * self.N
+        traces = [bytes_of_new[place : place + stride] for place in range(3266, self.length - 7, stride)]
+        joined = [trace[:184] + (6 * self.N).to_bytes(2, "big") + trace[186:36_186] + trace[36_189:] for trace in traces]
+        for kept in (traces, joined, joined[:400] + traces[400:]):
+            path = self.file("kept", bytes_of_new[:3266] + b"".join(kept) + bytes_of_new[-7:])
+            self.assertEqual(self.terminal("write", path, 3, new, "--nearest"), "".join(f"aukpocket: {what}\n" for what in (
+                f"loading {path}, 48 MB", f"making the reel of {path} in code 3, 16 MB", "reading the reel in code 3 again, 16 MB",
+                f"writing {new}, 16 MB")))
+            new.unlink()
+        path.unlink()
         said = self.terminal("verify", self.reel, output)
         self.assertTrue(said.endswith(f"aukpocket: summing {self.reel}, 32 MB\naukpocket: comparing {output}, 48 MB\n"), said)
         listing, new = self.file("listing", b"\n" * 40), self.folder / "new"
@@ -3050,6 +3497,52 @@ class Synced(Built):
 EVERY_CALL = r"""
 #include <string.h>
 static unsigned char reel[3848], eagle[4808], record[3471], again[3848], listing[3241], out[3472];
+static unsigned char long_reel[9841], long_record[39469], earlier[39465], long_again[9841], taken_back[39466];
+/* One trace of 6,001 samples of a byte each: two fields in the record, or the earlier single one, which gives the same reel. */
+static int long_trace(void)
+{
+    struct aukpocket_reel_answer answer;
+    size_t k;
+    memset(long_reel, 0x40, 3200);
+    long_reel[3217] = 1, long_reel[3220] = 0x17, long_reel[3221] = 0x71, long_reel[3225] = 8;
+    for (k = 0; k < 6001; k++)
+        long_reel[3840 + k] = (unsigned char)(k % 251);
+    answer = aukpocket_read_reel(long_reel, 9841, long_record, 39467);
+    if (answer.number != 10 || answer.beside != 39468)
+        return 49;
+    long_record[39468] = 0xEE;
+    answer = aukpocket_read_reel(long_reel, 9841, long_record, 39469);
+    if (answer.number != 0 || answer.traces != 1 || answer.samples != 6001 || answer.length != 39468 || long_record[39468] != 0xEE)
+        return 50;
+    if (memcmp("\4\214\240", long_record + 3449, 3) != 0 || memcmp("\4\0\6", long_record + 39452, 3) != 0)
+        return 51;
+    memcpy(earlier, long_record, 39452);
+    memcpy(earlier + 39452, long_record + 39455, 13);
+    earlier[3451] = 0xA6;
+    answer = aukpocket_write_reel(earlier, 39465, 8, long_again, 9841);
+    if (answer.number != 0 || answer.samples != 6001 || answer.length != 9841 || memcmp(long_reel + 3840, long_again + 3840, 6001) != 0)
+        return 52;
+    answer = aukpocket_write_nearest(earlier, 39465, 3, long_again, 0);
+    if (answer.number != 10 || answer.beside != 15842)
+        return 53;
+    memset(taken_back, 0xEE, 39466);
+    answer = aukpocket_read_reel(long_again, 9841, long_record, 39468);
+    if (answer.number != 0 || answer.length != 39468 || long_record[39452] != 4 || long_record[39460] != 0xE3)
+        return 54; /* the last sample, E3, is -29 */
+    answer = aukpocket_list_cards(earlier, 39465, listing, 3240);
+    if (answer.number != 0)
+        return 55;
+    answer = aukpocket_take_cards(earlier, 39465, listing, 3240, taken_back, 39466);
+    if (answer.number != 0 || answer.length != 39465 || memcmp(earlier, taken_back, 39465) != 0 || taken_back[39465] != 0xEE)
+        return 56;
+    earlier[3451] = 0xA7;
+    answer = aukpocket_write_reel(earlier, 39465, 8, long_again, 9841);
+    if (answer.number != 12 || answer.beside != 3449)
+        return 57;
+    long_reel[3220] = 0x80;
+    answer = aukpocket_read_reel(long_reel, 9841, long_record, 39469);
+    return answer.number == 3 && answer.beside == 3220 ? 0 : 58;
+}
 int main(void)
 {
     const unsigned char word[4] = {0xC2, 0x76, 0xA0, 0x00}, pair[6] = {0xFF, 0xFD, 0xFF, 0xFF, 0xFC, 0x4B};
@@ -3223,7 +3716,9 @@ int main(void)
     sample = aukpocket_read_word(6, words, pair_out);
     if (sample.number != 2)
         return 33;
-    return aukpocket_blank_eight(0x00C1C2000040FF00) == 0x40C1C2404040FF40 ? 0 : 42;
+    if (aukpocket_blank_eight(0x00C1C2000040FF00) != 0x40C1C2404040FF40)
+        return 42;
+    return long_trace();
 }
 """
 
@@ -3292,6 +3787,10 @@ class Examples(Built):
         one_byte = self.file("one-byte", make_reel(2000, 3, 8, [make_trace([b"\x7f\x80\xff"])]))
         record.unlink()
         self.assertEqual(self.example(*program, one_byte, record), (0, "taken 1 3 3477 0\n"))
+        record.unlink()
+        long = self.file("long", long_reel(8, 32_767, 1))
+        self.assertEqual(self.example(*program, long, record), (0, "taken 1 32767 200076 0\n"))
+        self.assertEqual(record.read_bytes(), Held(long.read_bytes()).bytes)
         infinite = make_reel(2000, 1, 5, [make_trace([INFINITY])])
         for reel, said in ((b"", "refused 1 0\n"), (example()[:-1], "refused 5 3600\n"), (infinite, "refused 19 3840\n")):
             self.assertEqual(self.example(*program, self.file("bad", reel), self.folder / "none"), (2, said))
