@@ -2295,6 +2295,10 @@ class LongTraces(Case):
                 self.refused(good[:header], 12, header, f"the record ends {wanted}")
                 self.refused(with_bytes(good, header + 2, b"\xb3"), 12, header, (
                     f"a field's length is 179, not 180 (place {header}: tag 03, the header of trace {i})"))
+            # What is left of a record that was cut has as many traces as are whole.
+            for place, t in ((len(good) - 1, 3), (held.end, 3), (held.end - 1, 2), (held.header[3], 2), (held.header[2] - 1, 0)):
+                run = self.run_command("info", self.file("cut.record", good[:place]))
+                self.assertIn(f"\ntraces    {t}\nsamples   {n} a trace\ninterval ", run.stdout.decode())
             end = held.end
             self.refused(with_bytes(good, end + 6, b"\2"), 12, end, f"the count of traces is 2, and 3 stand before it (place {end}: tag 05)")
             self.refused(good + b"xyz", 12, end + 7, f"3 bytes follow the record's end (place {end + 7})")

@@ -2,7 +2,7 @@
 //! as every record had them before; that is the earlier form. Each trace has a form of its own, which the length of its first field of
 //! samples tells, and so a length of its own: places are found by going from trace to trace.
 
-use crate::layout::{binary_place, number, END, FIRST_PAIR, FIRST_TRACE, PAIR, SAMPLES, TAG};
+use crate::layout::{binary_place, number, FIRST_PAIR, FIRST_TRACE, PAIR, SAMPLES, TAG};
 use std::iter;
 use std::ops::{Range, RangeInclusive};
 
@@ -149,11 +149,11 @@ fn samples_of(record: &[u8]) -> usize {
     number(record, binary_place(3221)).into()
 }
 
-/// The traces of a record that are whole before the bytes of its end.
+/// The traces of a record, as far as they are whole.
 pub fn traces(record: &[u8]) -> impl Iterator<Item = Trace> + '_ {
     let first = Trace::at(record, 1, FIRST_TRACE);
     iter::successors(Some(first), |trace| Some(trace.next(record)))
-        .take_while(|trace| trace.end() + END <= record.len())
+        .take_while(|trace| trace.end() <= record.len())
 }
 
 /// The trace in which a place falls behind the headers of a record. At its end, and behind that, there is none: it is the one that would
@@ -234,7 +234,7 @@ pub fn with_earlier(mut record: Vec<u8>, earlier: &[usize]) -> Vec<u8> {
 #[cfg(test)]
 pub mod tests {
     use super::*;
-    use crate::layout::{RecordShape, CODE_PLACE, COUNT_PLACE, HEADERS, INTERVAL_PLACE};
+    use crate::layout::{RecordShape, CODE_PLACE, COUNT_PLACE, END, HEADERS, INTERVAL_PLACE};
     use aukpocket::{read_reel, record_length, write_reel};
 
     /// A record of so many traces and samples, whose neighbours all differ.
