@@ -193,7 +193,7 @@ MADE = (
     (some_32, 2, 2501, 3, (2,)),
     (short_32, 2, 999, 5, (1, 2, 5)),
     (some_16, 3, 1, 37, (1, 2, 3, 5)),
-    (some_16, 3, 8000, 1, (1, 2, 3, 5)),
+    (some_16, 3, 32767, 1, (1, 2, 3, 5)),
     (some_gain, 4, 777, 7, (1, 5)),
     (whole_gain, 4, 333, 6, (1, 2, 3, 5)),
     (some_ieee, 5, 1501, 7, (5,)),
@@ -201,7 +201,7 @@ MADE = (
     (small_ieee, 5, 383, 8, (1, 2, 3, 5, 8)),
     (some_8, 8, 1, 35, (1, 2, 3, 5, 8)),
     (some_8, 8, 1003, 3, (1, 2, 3, 5, 8)),
-    (some_8, 8, 8000, 1, (1, 2, 3, 5, 8)),
+    (some_8, 8, 6001, 2, (1, 2, 3, 5, 8)),
 )
 SMALL = (small_gain, 4, 5, 2, (1, 2, 3, 5, 8))
 
@@ -348,7 +348,7 @@ def written(command, folder, name, data, targets):
 INTERVAL_BY_SEGYIO = 2000
 # What the samples are, code, N and T. Of a trace whose samples don't fill words of four bytes segyio 1.8.3 leaves out the last bytes, and
 # of field 61 it writes two.
-BY_SEGYIO = ((some_ieee, 5, 1201, 5), (small_ieee, 5, 1, 33), (some_ieee, 5, 8000, 1), (some_8, 8, 1200, 4), (some_8, 8, 8000, 1))
+BY_SEGYIO = ((some_ieee, 5, 1201, 5), (small_ieee, 5, 1, 33), (some_ieee, 5, 12001, 2), (some_8, 8, 1200, 4), (some_8, 8, 32764, 1))
 NO_VALUES = tuple(bytes.fromhex(word) for word in ("7F800000", "FF800000", "7FC00000", "7F800001", "FFFFFFFF"))
 
 
@@ -372,18 +372,26 @@ def written_by_segyio(rnd, path, word, code, n, t):
     return traces
 
 
+FIELD_SAMPLES = 6000
+
+
+def trace_length(n):
+    """The bytes of a trace of n samples in a record: its header, and its samples in fields of 6,000."""
+    return 183 + 3 * -(-n // FIELD_SAMPLES) + 6 * n
+
+
 def held(record, n, i):
     """The header and the exact sample values of trace i, from 0, in a record."""
-    start = 3266 + i * (186 + 6 * n)
-    pairs = record[start + 186 : start + 186 + 6 * n]
-    values = [number(pairs, place + 2, 4) * Fraction(2) ** number(pairs, place, 2) for place in range(0, 6 * n, 6)]
+    start = 3266 + i * trace_length(n)
+    places = [start + 186 + 6 * k + 3 * (k // FIELD_SAMPLES) for k in range(n)]
+    values = [number(record, place + 2, 4) * Fraction(2) ** number(record, place, 2) for place in places]
     return record[start + 3 : start + 183], values
 
 
 def differences_by_segyio(record, code, n, traces):
     """How a record differs from what segyio was given."""
     t = len(traces)
-    if len(record) != 3273 + t * (186 + 6 * n):
+    if len(record) != 3273 + t * trace_length(n):
         return [f"its record has {len(record)} bytes"]
     found = []
     for i, (words, fields) in enumerate(traces):
