@@ -1,10 +1,12 @@
 //! SEG-Y revision 0 reels and their canonical records: the five calls of document 01, the two of
 //! document 02's CR 1, and the one of each of its CR 5, CR 6 and CR 7, with the scalars of CR 2, the
-//! count of CR 3 and the codes of CR 4, in plain Rust, written from the papers alone. The differential
-//! test compares the library with them.
+//! count of CR 3, the codes of CR 4 and the sample fields of CR 8, in plain Rust, written from the papers
+//! alone. The differential test compares the library with them.
 //!
 //! A refused call changes no byte of its output. So each call on a whole reel or record makes two
 //! passes: the first looks for causes to refuse, the second writes.
+
+use std::ops::Range;
 
 mod nearest;
 mod page;
@@ -36,7 +38,7 @@ const CODE: usize = 24;
 const TRACE_COUNT: usize = 114;
 const TRACE_INTERVAL: usize = 116;
 
-const MOST_SAMPLES: u16 = 8_000;
+const MOST_SAMPLES: u16 = 32_767;
 const MOST_INTERVAL: u16 = 32_767;
 const MOST_TRACES: usize = 100_000;
 
@@ -49,6 +51,11 @@ const TAG_SAMPLES: u8 = 0x04;
 const TAG_COUNT: u8 = 0x05;
 const COUNT_BYTES: usize = 4;
 const PAIR_BYTES: usize = 6;
+
+/// The samples in each sample field of a trace; the last has the remaining ones.
+const FIELD_SAMPLES: usize = 6_000;
+/// The most samples that an earlier record has in the single field of a trace.
+const MOST_IN_SINGLE_FIELD: usize = 8_000;
 
 const EBCDIC_BLANK: u8 = 0x40;
 
@@ -193,20 +200,23 @@ fn read(layout: Layout, reel: &[u8], out: &mut [u8]) -> Result<ReelRead, Refused
         put_number(fields, TRACE_COUNT, shape.samples);
         put_number(fields, TRACE_INTERVAL, shape.interval);
 
-        let pairs = put_field(&mut room, TAG_SAMPLES, PAIR_BYTES * shape.samples as usize);
-        match code {
-            Code::Ibm => {
-                put_pairs(words, pairs, Pair::of_ibm);
-                not_normal += words
-                    .chunks_exact(4)
-                    .filter(|word| !is_normal(array(word)))
-                    .count();
+        for words in words.chunks(FIELD_SAMPLES * code.width()) {
+            let samples = words.len() / code.width();
+            let pairs = put_field(&mut room, TAG_SAMPLES, PAIR_BYTES * samples);
+            match code {
+                Code::Ibm => {
+                    put_pairs(words, pairs, Pair::of_ibm);
+                    not_normal += words
+                        .chunks_exact(4)
+                        .filter(|word| !is_normal(array(word)))
+                        .count();
+                }
+                Code::Whole32 => put_pairs(words, pairs, Pair::of_whole32),
+                Code::Whole16 => put_pairs(words, pairs, Pair::of_whole16),
+                Code::Gain => put_pairs(words, pairs, Pair::of_gain),
+                Code::Ieee => put_pairs(words, pairs, Pair::of_ieee),
+                Code::Whole8 => put_pairs(words, pairs, Pair::of_whole8),
             }
-            Code::Whole32 => put_pairs(words, pairs, Pair::of_whole32),
-            Code::Whole16 => put_pairs(words, pairs, Pair::of_whole16),
-            Code::Gain => put_pairs(words, pairs, Pair::of_gain),
-            Code::Ieee => put_pairs(words, pairs, Pair::of_ieee),
-            Code::Whole8 => put_pairs(words, pairs, Pair::of_whole8),
         }
     }
 
@@ -225,7 +235,7 @@ pub fn write_reel(record: &[u8], code: u32, out: &mut [u8]) -> Result<Taken, Ref
     let Some(code) = Code::numbered(code) else {
         return refused(11, 0);
     };
-    let shape = check_record(record, Some(code))?;
+    let (shape, held) = check_record(record, Some(code))?;
     let length = shape.reel_length(code);
     let Some(reel) = out.get_mut(..length) else {
         return refused(10, length);
@@ -239,21 +249,25 @@ pub fn write_reel(record: &[u8], code: u32, out: &mut [u8]) -> Result<Taken, Ref
     put_number(fields, CODE, code as u16);
     unassigned.fill(0);
 
-    let held = record[TRACES_PLACE..].chunks_exact(shape.held_length());
     for (trace, held) in traces.chunks_exact_mut(shape.trace_length(code)).zip(held) {
-        let (header, words) = trace.split_at_mut(TRACE_HEADER);
+        let (header, mut words) = trace.split_at_mut(TRACE_HEADER);
         let (fields, unassigned) = header.split_at_mut(TRACE_FIELDS);
-        fields.copy_from_slice(&held[FIELD_HEAD..][..TRACE_FIELDS]);
+        fields.copy_from_slice(&record[held.header]);
         unassigned.fill(0);
 
-        let pairs = &held[2 * FIELD_HEAD + TRACE_FIELDS..];
-        match code {
-            Code::Ibm => put_words(pairs, words, Pair::ibm),
-            Code::Whole32 => put_words(pairs, words, Pair::whole32),
-            Code::Whole16 => put_words(pairs, words, Pair::whole16),
-            Code::Gain => put_words(pairs, words, Pair::gain),
-            Code::Ieee => put_words(pairs, words, Pair::ieee),
-            Code::Whole8 => put_words(pairs, words, Pair::whole8),
+        for pairs in held.samples {
+            let pairs = &record[pairs];
+            let room = pairs.len() / PAIR_BYTES * code.width();
+            let (room, rest) = words.split_at_mut(room);
+            words = rest;
+            match code {
+                Code::Ibm => put_words(pairs, room, Pair::ibm),
+                Code::Whole32 => put_words(pairs, room, Pair::whole32),
+                Code::Whole16 => put_words(pairs, room, Pair::whole16),
+                Code::Gain => put_words(pairs, room, Pair::gain),
+                Code::Ieee => put_words(pairs, room, Pair::ieee),
+                Code::Whole8 => put_words(pairs, room, Pair::whole8),
+            }
         }
     }
     Ok(shape.taken(length))
@@ -266,7 +280,7 @@ pub fn write_nearest(record: &[u8], code: u32, out: &mut [u8]) -> Result<Nearest
     let Some(target) = Code::numbered(code) else {
         return refused(11, 0);
     };
-    let shape = check_record(record, None)?;
+    let (shape, held) = check_record(record, None)?;
     let length = shape.reel_length(target);
     if out.len() < length {
         return refused(10, length);
@@ -275,9 +289,8 @@ pub fn write_nearest(record: &[u8], code: u32, out: &mut [u8]) -> Result<Nearest
     let rows = nearest::rows(target);
     let mut rounded = record.to_vec();
     let mut changed = 0;
-    for held in rounded[TRACES_PLACE..].chunks_exact_mut(shape.held_length()) {
-        let pairs = &mut held[2 * FIELD_HEAD + TRACE_FIELDS..];
-        for pair in pairs.chunks_exact_mut(PAIR_BYTES) {
+    for pairs in held.into_iter().flat_map(|trace| trace.samples) {
+        for pair in rounded[pairs].chunks_exact_mut(PAIR_BYTES) {
             let near = nearest::nearest(Pair::of_bytes(pair), &rows).bytes();
             changed += u64::from(pair != near);
             pair.copy_from_slice(&near);
@@ -337,7 +350,7 @@ pub fn list_cards(record: &[u8], out: &mut [u8]) -> Result<u64, Refused> {
 
 /// Writes the record with the text of the listing to the front of the output.
 pub fn take_cards(record: &[u8], listing: &[u8], out: &mut [u8]) -> Result<Taken, Refused> {
-    let shape = check_record(record, None)?;
+    let (shape, _) = check_record(record, None)?;
     if listing.len() != LISTING_BYTES {
         return refused(17, listing.len());
     }
@@ -474,17 +487,16 @@ impl Shape {
         TRACE_HEADER + self.samples as usize * code.width()
     }
 
-    /// The bytes of a trace in a record.
-    fn held_length(&self) -> usize {
-        2 * FIELD_HEAD + TRACE_FIELDS + PAIR_BYTES * self.samples as usize
-    }
-
     fn reel_length(&self, code: Code) -> usize {
         REEL_HEADERS + self.traces * self.trace_length(code)
     }
 
+    /// The bytes of the record that reading gives.
     fn record_length(&self) -> usize {
-        TRACES_PLACE + self.traces * self.held_length() + FIELD_HEAD + COUNT_BYTES
+        let samples = self.samples as usize;
+        let fields = samples.div_ceil(FIELD_SAMPLES);
+        let trace = FIELD_HEAD + TRACE_FIELDS + FIELD_HEAD * fields + PAIR_BYTES * samples;
+        TRACES_PLACE + self.traces * trace + FIELD_HEAD + COUNT_BYTES
     }
 
     fn taken(&self, length: usize) -> Taken {
@@ -568,9 +580,15 @@ fn check_reel(layout: Layout, reel: &[u8]) -> Result<(Code, Shape), Refused> {
 const BINARY_PLACE: usize = FIELD_HEAD + CARD_BYTES;
 const TRACES_PLACE: usize = BINARY_PLACE + FIELD_HEAD + BINARY_FIELDS;
 
+/// Where the content of a trace's fields stands in a record.
+struct HeldTrace {
+    header: Range<usize>,
+    samples: Vec<Range<usize>>,
+}
+
 /// Looks for the causes 12 and 13, front to back, and for 14 where there is neither. Without a target
 /// code there is no 14.
-fn check_record(record: &[u8], code: Option<Code>) -> Result<Shape, Refused> {
+fn check_record(record: &[u8], code: Option<Code>) -> Result<(Shape, Vec<HeldTrace>), Refused> {
     let cards = field(record, 0, TAG_CARDS, CARD_BYTES)?;
     if let Some(card) = cards.iter().position(|&byte| byte == 0) {
         return refused(13, FIELD_HEAD + card);
@@ -595,8 +613,9 @@ fn check_record(record: &[u8], code: Option<Code>) -> Result<Shape, Refused> {
         traces: 0,
     };
     let mut place = TRACES_PLACE;
+    let mut traces = Vec::new();
     let mut misfit = None;
-    while shape.traces < MOST_TRACES && record.get(place) == Some(&TAG_TRACE) {
+    while traces.len() < MOST_TRACES && record.get(place) == Some(&TAG_TRACE) {
         let header = field(record, place, TAG_TRACE, TRACE_FIELDS)?;
         for group in scalars::GROUPS {
             if !group.is_smallest(header) {
@@ -609,33 +628,38 @@ fn check_record(record: &[u8], code: Option<Code>) -> Result<Shape, Refused> {
         if number_at(header, TRACE_INTERVAL) != interval {
             return refused(13, place + FIELD_HEAD + TRACE_INTERVAL);
         }
+        let header = content_at(place, TRACE_FIELDS);
+        place = header.end;
 
-        let samples_place = place + FIELD_HEAD + TRACE_FIELDS;
-        let pairs = field(
-            record,
-            samples_place,
-            TAG_SAMPLES,
-            PAIR_BYTES * samples as usize,
-        )?;
-        let found = match code {
-            None => check_pairs(pairs, |pair| Some(pair.bytes())),
-            Some(Code::Ibm) => check_pairs(pairs, Pair::ibm),
-            Some(Code::Whole32) => check_pairs(pairs, Pair::whole32),
-            Some(Code::Whole16) => check_pairs(pairs, Pair::whole16),
-            Some(Code::Gain) => check_pairs(pairs, Pair::gain),
-            Some(Code::Ieee) => check_pairs(pairs, Pair::ieee),
-            Some(Code::Whole8) => check_pairs(pairs, Pair::whole8),
-        };
-        let pair_place = |pair| samples_place + FIELD_HEAD + PAIR_BYTES * pair;
-        match found {
-            Pairs::NotCanonical(pair) => return refused(13, pair_place(pair)),
-            Pairs::Misfit(pair) => misfit = misfit.or(Some(pair_place(pair))),
-            Pairs::Fit => {}
+        let mut fields = Vec::new();
+        for share in shares(record, place, samples as usize) {
+            let pairs = field(record, place, TAG_SAMPLES, PAIR_BYTES * share)?;
+            let found = match code {
+                None => check_pairs(pairs, |pair| Some(pair.bytes())),
+                Some(Code::Ibm) => check_pairs(pairs, Pair::ibm),
+                Some(Code::Whole32) => check_pairs(pairs, Pair::whole32),
+                Some(Code::Whole16) => check_pairs(pairs, Pair::whole16),
+                Some(Code::Gain) => check_pairs(pairs, Pair::gain),
+                Some(Code::Ieee) => check_pairs(pairs, Pair::ieee),
+                Some(Code::Whole8) => check_pairs(pairs, Pair::whole8),
+            };
+            let content = content_at(place, pairs.len());
+            let pair_place = |pair| content.start + PAIR_BYTES * pair;
+            match found {
+                Pairs::NotCanonical(pair) => return refused(13, pair_place(pair)),
+                Pairs::Misfit(pair) => misfit = misfit.or(Some(pair_place(pair))),
+                Pairs::Fit => {}
+            }
+            place = content.end;
+            fields.push(content);
         }
-        place += shape.held_length();
-        shape.traces += 1;
+        traces.push(HeldTrace {
+            header,
+            samples: fields,
+        });
     }
 
+    shape.traces = traces.len();
     let count = field(record, place, TAG_COUNT, COUNT_BYTES)?;
     if u32::from_be_bytes(array(count)) as usize != shape.traces {
         return refused(12, place);
@@ -644,7 +668,27 @@ fn check_record(record: &[u8], code: Option<Code>) -> Result<Shape, Refused> {
     if record.len() > end {
         return refused(12, end);
     }
-    misfit.map_or(Ok(shape), |place| refused(14, place))
+    misfit.map_or(Ok((shape, traces)), |place| refused(14, place))
+}
+
+/// The samples in each sample field of the trace whose first one should stand at a place of the record:
+/// all in one where the length there is that of the earlier single field, and by CR 8 otherwise.
+fn shares(record: &[u8], place: usize, samples: usize) -> Vec<usize> {
+    let may_be_single = (FIELD_SAMPLES + 1..=MOST_IN_SINGLE_FIELD).contains(&samples);
+    let length = record.get(place + 1..place + FIELD_HEAD);
+    let length = length.map(|bytes| number_at(bytes, 0) as usize);
+    if may_be_single && length == Some(PAIR_BYTES * samples) {
+        return vec![samples];
+    }
+    let firsts = (0..samples).step_by(FIELD_SAMPLES);
+    firsts
+        .map(|first| FIELD_SAMPLES.min(samples - first))
+        .collect()
+}
+
+/// Where the content of a field stands whose tag stands at a place.
+fn content_at(place: usize, length: usize) -> Range<usize> {
+    place + FIELD_HEAD..place + FIELD_HEAD + length
 }
 
 /// The content of the field whose tag should stand at a place of the record.

@@ -1,8 +1,9 @@
-//! Document 01's samples at the edges and its example, and what document 02's CR 1 to CR 7 make of it.
+//! Document 01's samples at the edges and its example, and what document 02's CR 1 to CR 8 make of it.
 
 use super::*;
 
 mod eagle;
+mod long;
 
 const CODES: [u32; 6] = [1, 2, 3, 4, 5, 8];
 
@@ -825,9 +826,15 @@ fn reel_of(code: u16, traces: &[&[u32]]) -> Vec<u8> {
     reel
 }
 
+/// The length of the record that reading gives: a trace has a sample field for each 6,000 of its samples
+/// that are begun.
+fn length_read(traces: u64, samples: u64) -> u64 {
+    3273 + traces * (183 + 3 * samples.div_ceil(6_000) + 6 * samples)
+}
+
 /// What reading a reel answers where it is taken, and where the output is one byte too short.
 fn counted(reel: &[u8], traces: u64, samples: u64, not_normal: u64) {
-    let length = 3273 + traces * (186 + 6 * samples);
+    let length = length_read(traces, samples);
     let mut out = vec![0xA5; length as usize];
     let read = ReelRead {
         traces,
@@ -877,7 +884,7 @@ fn words_of_every_kind_are_counted() {
     counted(&reel_of(2, &alone), 55, 1, 0);
     counted(&reel_of(3, &alone), 55, 2, 0);
     counted(&reel_of(8, &alone), 55, 4, 0);
-    counted(&reel_of(1, &[&[0x4201_0000; 8_000]]), 1, 8_000, 8_000);
+    counted(&reel_of(1, &[&[0x4201_0000; 32_767]]), 1, 32_767, 32_767);
 }
 
 /// The listing of the example, whose cards are all blanks.
@@ -1491,19 +1498,31 @@ fn causes_of_scalars_in_a_record_in_order() {
     assert_eq!(write_reel(&record, 0, &mut []), refused(11, 0));
 }
 
-/// A record of these pairs, trace by trace, its headers the example's.
+/// A record of these pairs, trace by trace, its headers the example's: 6,000 pairs to a field.
 fn record_of(traces: &[&[[u8; 6]]]) -> Vec<u8> {
-    let samples = (traces[0].len() as u16).to_be_bytes();
+    let fields: Vec<Vec<&[[u8; 6]]>> = traces
+        .iter()
+        .map(|pairs| pairs.chunks(6_000).collect())
+        .collect();
+    record_of_fields(traces[0].len(), &fields)
+}
+
+/// A record whose traces have these sample fields, each of these pairs; its headers are the example's,
+/// but for this N.
+fn record_of_fields(samples: usize, traces: &[Vec<&[[u8; 6]]>]) -> Vec<u8> {
+    let samples = (samples as u16).to_be_bytes();
     let mut record = example_record();
     let mut header = record.split_off(3266);
     header.truncate(183);
     header[3 + 114..3 + 116].copy_from_slice(&samples);
     record[3206 + 20..3206 + 22].copy_from_slice(&samples);
-    for pairs in traces {
+    for fields in traces {
         record.extend(&header);
-        record.push(0x04);
-        record.extend((6 * pairs.len() as u16).to_be_bytes());
-        record.extend(pairs.concat());
+        for pairs in fields {
+            record.push(0x04);
+            record.extend((6 * pairs.len() as u16).to_be_bytes());
+            record.extend(pairs.concat());
+        }
     }
     record.extend([0x05, 0x00, 0x04]);
     record.extend((traces.len() as u32).to_be_bytes());
@@ -1519,7 +1538,7 @@ fn width(code: u32) -> usize {
     }
 }
 
-/// Nearest writing of these samples, at most 8,000: their words, with 00 behind them under codes 3 and
+/// Nearest writing of these samples, at most 32,767: their words, with 00 behind them under codes 3 and
 /// 8, and how many values changed. The output is just long enough.
 fn near_words(code: u32, pairs: &[[u8; 6]]) -> (Vec<u32>, u64) {
     let mut out = vec![0xA5; 3840 + pairs.len() * width(code)];
