@@ -208,7 +208,7 @@ fn trailers(compare: &mut Comparison, random: &mut Random) {
     }
 
     compare.stage("every byte at the end of each trailer");
-    for (samples, traces) in [(2, 3), (20, 2), (8_000, 2)] {
+    for (samples, traces) in [(2, 3), (20, 2), (32_767, 2)] {
         let shape = Shape::new(1, samples, traces);
         let mut made = eagle(random, shape, Words::Random);
         for index in 0..traces {
@@ -296,7 +296,7 @@ fn header_numbers(compare: &mut Comparison, random: &mut Random) {
             put(&mut made, 3220, samples);
             let length = 1200 + 4 * usize::from(samples);
             let (number, beside) = match samples {
-                0 | 8001.. => (3, 3220),
+                0 | 32_768.. => (3, 3220),
                 _ if (made.len() - 3600) % length == 0 => (0, 0),
                 _ => (5, 3600 + (made.len() - 3600) / length * length),
             };
@@ -435,10 +435,10 @@ fn faults(compare: &mut Comparison, random: &mut Random) {
     }
 }
 
-/// One trace of each N, and some of several.
+/// One trace of each N up to 8,000 and of some above, and some of several.
 fn every_count_of_samples(compare: &mut Comparison, random: &mut Random) {
     compare.stage("an Eagle reel of every N");
-    for samples in 1..=8_000 {
+    for samples in (1..=8_000).chain((8_001..32_767).step_by(97)) {
         let traces = if samples % 16 == 0 { 3 } else { 1 };
         let shape = Shape::new(1, samples, traces);
         let mut made = vec![0; trace(shape, traces)];
@@ -533,7 +533,7 @@ fn damage(random: &mut Random, kind: usize, shape: Shape, made: &mut Vec<u8>) {
             let bad = bad_code(random) as u16;
             put(made, 3224, random.pick(&[2, 3, 4, 5, 8, 0x0101, bad]));
         }
-        2 => put(made, 3220, random.pick(&[0, 8001, 32_768, 65_535])),
+        2 => put(made, 3220, random.pick(&[0, 32_768, 32_769, 65_535])),
         3 => put(made, 3216, random.pick(&[0, 32_768, 65_535])),
         4 => {
             let cut = 1 + random.below(made.len() - 3600 + 1);
@@ -553,7 +553,7 @@ fn damage(random: &mut Random, kind: usize, shape: Shape, made: &mut Vec<u8>) {
         8 if traces => damage_scalar(random, &mut made[place..]),
         9 if traces => made[behind - 1 - random.below(2)] ^= 1 << random.below(8),
         10 => {
-            let most = random.pick(&[2, 20, 8000]);
+            let most = random.pick(&[2, 20, 8_000, 32_767]);
             put(made, 3220, 1 + random.below(most) as u16);
         }
         11 if traces => random.fill(&mut made[behind - TRAILER..behind - 2]),
@@ -566,7 +566,7 @@ fn any_reels(compare: &mut Comparison, random: &mut Random) {
     compare.stage("Eagle reels, valid and damaged");
     let mut valid = 0;
     for turn in 0..90_000 {
-        let most = if turn % 500 == 0 { 8_000 } else { 200 };
+        let most = if turn % 500 == 0 { 32_767 } else { 200 };
         let shape = Shape {
             code: 1,
             ..Shape::any(random, most)
@@ -627,7 +627,7 @@ fn any_reels(compare: &mut Comparison, random: &mut Random) {
 fn both_layouts(compare: &mut Comparison, random: &mut Random) {
     compare.stage("bytes of Eagle traces that are plain traces as well");
     let mut both = 0;
-    for samples in 1..=8_000 {
+    for samples in 1..=32_767 {
         let shape = Shape::new(1, samples, 0);
         let (plain_length, eagle_length) = (shape.trace_length(), whole_length(shape));
         let common = greatest_divisor(plain_length, eagle_length);

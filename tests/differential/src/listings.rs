@@ -323,11 +323,11 @@ pub fn causes_of_listings(compare: &mut Comparison) {
     }
 }
 
-/// Records of 8,000 samples, of the most traces, and of one more.
+/// Records of 32,767 samples, of the most traces, and of one more.
 pub fn long_listings(compare: &mut Comparison) {
     let mut random = Random::seeded(11);
-    compare.stage("records of 8,000 samples, listed and taken");
-    let record = valid_record(&mut random, 8000, 3);
+    compare.stage("records of 32,767 samples, listed and taken");
+    let record = valid_record(&mut random, 32_767, 3);
     let listing = any_listing(&mut random);
     list_and_take_again(compare, &record, LISTING + 1);
     take_and_list_again(compare, &record, &listing, record.len());

@@ -245,25 +245,24 @@ fn misfit(random: &mut Random, code: u32) -> [u8; 6] {
     }
 }
 
-/// The places of a record's pairs, in their order.
+/// The places of the pairs of a record that was read, in their order: 3 bytes of tag and length stand
+/// before each 6,000 of a trace.
 fn pair_places(samples: usize, traces: usize) -> Vec<usize> {
+    let length = 183 + 3 * samples.div_ceil(6_000) + 6 * samples;
     let of_trace = |trace| {
-        let first = 3266 + trace * (186 + 6 * samples) + 186;
-        (0..samples).map(move |sample| first + 6 * sample)
+        let first = 3266 + trace * length + 186;
+        (0..samples).map(move |sample| first + 3 * (sample / 6_000) + 6 * sample)
     };
     (0..traces).flat_map(of_trace).collect()
 }
 
 /// A valid record with these pairs, as many as the shape has.
 fn record_of(random: &mut Random, shape: Shape, pairs: &[[u8; 6]]) -> Vec<u8> {
-    let mut record = Record::valid(random, shape, true).bytes;
-    for (place, pair) in pair_places(shape.samples, shape.traces)
-        .into_iter()
-        .zip(pairs)
-    {
-        record[place..place + 6].copy_from_slice(pair);
+    let mut record = Record::valid(random, shape, true);
+    for (place, pair) in record.pairs.into_iter().zip(pairs) {
+        record.bytes[place..place + 6].copy_from_slice(pair);
     }
-    record
+    record.bytes
 }
 
 /// The length of a record's reel under a code.
@@ -360,7 +359,7 @@ fn there_and_back(compare: &mut Comparison, record: &[u8], code: u32, room: usiz
     nearest
 }
 
-/// Records of up to 8,000 samples.
+/// All but the records of the most traces.
 pub fn nearest(compare: &mut Comparison) {
     let mut random = Random::seeded(15);
     edges(compare, &mut random);
@@ -667,11 +666,15 @@ fn causes_in_order(compare: &mut Comparison, random: &mut Random) {
     }
 }
 
-/// The most samples of a trace.
+/// The most samples of a trace, but fewer under the codes of which every step is tried.
 fn many_samples(compare: &mut Comparison, random: &mut Random) {
-    compare.stage("nearest writing of 8,000 samples");
+    compare.stage("nearest writing of 8,000 and of 32,767 samples");
     for code in CODES {
-        let shape = Shape::new(code, 8000 - random.below(2), 1 + random.below(2));
+        let most = match code {
+            1 | 4 | 5 => 8_000,
+            _ => 32_767,
+        };
+        let shape = Shape::new(code, most - random.below(2), 1 + random.below(2));
         let pairs: Vec<[u8; 6]> = (0..shape.samples * shape.traces)
             .map(|_| any_pair(random, code))
             .collect();

@@ -213,7 +213,7 @@ fn there_and_back(
     counted(compare, &other, shape, 0);
     for (code, in_a_word) in [(3, 2), (8, 4)] {
         let samples = in_a_word * shape.samples;
-        if samples > 8_000 {
+        if samples > 32_767 {
             continue;
         }
         let mut parts = reel.to_vec();
@@ -265,7 +265,8 @@ fn several_words(compare: &mut Comparison, random: &mut Random) {
                 let (made, count) = reel_of(random, shape, traces, samples);
                 there_and_back(compare, random, &made, shape, count);
             }
-            let shape = Shape::new(1, 8_000 - random.below(2), 1 + random.below(3));
+            let most = random.pick(&[8_000, 32_767]);
+            let shape = Shape::new(1, most - random.below(2), 1 + random.below(3));
             let (made, count) = reel_of(random, shape, traces, samples);
             there_and_back(compare, random, &made, shape, count);
         }

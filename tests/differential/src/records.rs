@@ -8,10 +8,22 @@ use crate::samples::{
 };
 use crate::scalars::{damage_group, put_in_record};
 
-/// A record made field by field. The places of its tags are kept, for damage.
+/// The samples in each sample field of a trace: 6,000, and the remaining 1 to 6,000 in the last.
+pub fn new_form(samples: usize) -> Vec<usize> {
+    let mut fields = vec![6_000; (samples - 1) / 6_000];
+    fields.push(samples - 6_000 * fields.len());
+    fields
+}
+
+/// A record made field by field. The places of its tags are kept, for damage; beside them those of the
+/// traces' headers and, trace by trace, of their sample fields, and the places of all pairs.
+#[derive(Clone)]
 pub struct Record {
     pub bytes: Vec<u8>,
-    tags: Vec<usize>,
+    pub tags: Vec<usize>,
+    pub headers: Vec<usize>,
+    pub fields: Vec<Vec<usize>>,
+    pub pairs: Vec<usize>,
 }
 
 impl Record {
@@ -22,11 +34,26 @@ impl Record {
         self.bytes.extend(content);
     }
 
-    /// A valid record. Its pairs fit the shape's code, or are any canonical ones.
+    /// A valid record as reading gives it. Its pairs fit the shape's code, or are any canonical ones.
     pub fn valid(random: &mut Random, shape: Shape, fitting: bool) -> Record {
+        let forms = vec![new_form(shape.samples); shape.traces];
+        Record::in_forms(random, shape, fitting, &forms)
+    }
+
+    /// The same, but each trace has sample fields of so many pairs: its own, in their order, and from the
+    /// first again where they are more. What the fields hold doesn't depend on their lengths.
+    pub fn in_forms(
+        random: &mut Random,
+        shape: Shape,
+        fitting: bool,
+        forms: &[Vec<usize>],
+    ) -> Record {
         let mut record = Record {
             bytes: Vec::new(),
             tags: Vec::new(),
+            headers: Vec::new(),
+            fields: Vec::new(),
+            pairs: Vec::new(),
         };
         let mut cards = [0x40; 3200];
         if random.once_in(2) {
@@ -45,25 +72,37 @@ impl Record {
         record.field(2, &binary);
 
         let mut pairs = Vec::new();
-        for _ in 0..shape.traces {
+        for form in forms {
             let mut header = [0; 180];
             random.fill(&mut header);
             put_in_record(random, &mut header);
             put(&mut header, 114, shape.samples as u16);
             put(&mut header, 116, shape.interval);
+            record.headers.push(record.bytes.len());
             record.field(3, &header);
 
             pairs.clear();
             for _ in 0..shape.samples {
-                pairs.extend(if fitting {
+                pairs.push(if fitting {
                     fitting_pair(random, shape.code)
                 } else {
                     canonical_pair(random)
                 });
             }
-            record.field(4, &pairs);
+            let mut all = pairs.iter().copied().cycle();
+            let mut fields = Vec::new();
+            for &share in form {
+                let place = record.bytes.len();
+                fields.push(place);
+                record
+                    .pairs
+                    .extend((0..share).map(|pair| place + 3 + 6 * pair));
+                let content: Vec<[u8; 6]> = all.by_ref().take(share).collect();
+                record.field(4, content.as_flattened());
+            }
+            record.fields.push(fields);
         }
-        record.field(5, &(shape.traces as u32).to_be_bytes());
+        record.field(5, &(forms.len() as u32).to_be_bytes());
         record
     }
 
@@ -74,14 +113,11 @@ impl Record {
             .copied()
             .unwrap_or(self.bytes.len())
     }
+}
 
-    /// The place of any trace's pair, if there is one.
-    fn any_pair(&self, random: &mut Random, shape: Shape) -> Option<usize> {
-        (shape.traces > 0).then(|| {
-            let trace = random.below(shape.traces);
-            self.tags[2 + 2 * trace + 1] + 3 + 6 * random.below(shape.samples)
-        })
-    }
+/// Any of these places, if there is one.
+fn any_place(random: &mut Random, places: &[usize]) -> Option<usize> {
+    (!places.is_empty()).then(|| random.pick(places))
 }
 
 /// The pair of some word of the code.
@@ -102,8 +138,8 @@ pub const DAMAGES_IN_PLACE: usize = 14;
 
 pub fn damage_in_place(random: &mut Random, kind: usize, shape: Shape, record: &mut Record) {
     let tag = record.tags[random.below(record.tags.len())];
-    let header = (shape.traces > 0).then(|| record.tags[2 + 2 * random.below(shape.traces)]);
-    let pair_place = record.any_pair(random, shape);
+    let header = any_place(random, &record.headers);
+    let pair_place = any_place(random, &record.pairs);
     let bytes = &mut record.bytes;
     match kind {
         0 => {
@@ -131,8 +167,11 @@ pub fn damage_in_place(random: &mut Random, kind: usize, shape: Shape, record: &
             3206 + 16,
             random.pick(&[0, 32_768, 65_535, shape.interval | 0x8000]),
         ),
-        4 => put(bytes, 3206 + 20, random.pick(&[0, 8001, 32_768, 65_535])),
-        5 => put(bytes, 3206 + 20, 1 + random.below(8000) as u16),
+        4 => put(bytes, 3206 + 20, random.pick(&[0, 32_768, 32_769, 65_535])),
+        5 => {
+            let most = random.pick(&[20, 8_000, 32_767]);
+            put(bytes, 3206 + 20, 1 + random.below(most) as u16);
+        }
         6 => put(
             bytes,
             3206 + 24,
@@ -342,18 +381,16 @@ pub fn records(compare: &mut Comparison) {
         compare.write_reel(&record.bytes, shape.code, room);
     }
 
-    compare.stage("records of 8,000 samples");
+    compare.stage("records of 32,767 samples");
     for code in CODES {
-        let shape = Shape::new(code, 8000, 2);
+        let shape = Shape::new(code, 32_767, 2);
+        let room = shape.trace(2) + 100;
         let record = Record::valid(&mut random, shape, true);
-        write_into_rooms(compare, &mut random, &record.bytes, code, 70_000);
+        write_into_rooms(compare, &mut random, &record.bytes, code, room);
         for kind in 0..DAMAGES_IN_PLACE {
-            let mut damaged = Record {
-                bytes: record.bytes.clone(),
-                tags: record.tags.clone(),
-            };
+            let mut damaged = record.clone();
             damage_in_place(&mut random, kind, shape, &mut damaged);
-            compare.write_reel(&damaged.bytes, code, 70_000);
+            compare.write_reel(&damaged.bytes, code, room);
         }
     }
 }

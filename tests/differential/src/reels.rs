@@ -70,8 +70,11 @@ impl Shape {
         240 + self.samples * self.width()
     }
 
+    /// The length of the record that reading gives: a trace has a sample field for each 6,000 of its
+    /// samples that are begun.
     pub fn record_length(&self) -> usize {
-        3273 + self.traces * (186 + 6 * self.samples)
+        let fields = self.samples.div_ceil(6_000);
+        3273 + self.traces * (183 + 3 * fields + 6 * self.samples)
     }
 
     /// The place of a trace on the reel, counted from 0.
@@ -187,7 +190,7 @@ pub fn damage(random: &mut Random, kind: usize, shape: Shape, reel: &mut Vec<u8>
             put(reel, 3224, code);
         }
         2 => {
-            let samples = random.pick(&[0, 8001, 8002, 32_767, 32_768, 65_535, 256 * 255]);
+            let samples = random.pick(&[0, 32_768, 32_769, 65_535, 256 * 255]);
             put(reel, 3220, samples);
         }
         3 => {
@@ -220,7 +223,7 @@ pub fn damage(random: &mut Random, kind: usize, shape: Shape, reel: &mut Vec<u8>
             }
         }
         10 => {
-            let most = random.pick(&[2, 20, 8000]);
+            let most = random.pick(&[2, 20, 8_000, 32_767]);
             put(reel, 3220, 1 + random.below(most) as u16);
         }
         11 => put(reel, 3224, random.pick(&CODES) as u16),
@@ -386,10 +389,10 @@ pub fn reels(compare: &mut Comparison) {
 
     words_without_a_value(compare, &mut random);
 
-    compare.stage("reels of 8,000 samples");
+    compare.stage("reels of 32,767 samples");
     for code in CODES {
         for words in ALL_WORDS {
-            let shape = Shape::new(code, 8000 - random.below(2), 1 + random.below(3));
+            let shape = Shape::new(code, 32_767 - random.below(2), 1 + random.below(3));
             let mut made = reel(&mut random, shape, words);
             let read = read_into_rooms(compare, &mut random, &made, shape.record_length() + 50);
             let (_, record) = read.expect("an undamaged reel");
@@ -447,14 +450,14 @@ fn words_without_a_value(compare: &mut Comparison, random: &mut Random) {
         }
     }
 
-    compare.stage("a word of code 5 without a value among 8,000");
-    let shape = Shape::new(5, 8000, 2);
+    compare.stage("a word of code 5 without a value among 32,767");
+    let shape = Shape::new(5, 32_767, 2);
     let mut made = reel(random, shape, Words::Random);
     for turn in 0..400 {
         let sample = match turn {
             0..=15 => turn,
-            16..=31 => 8000 - 32 + turn,
-            _ => random.below(8000),
+            16..=31 => 32_767 - 32 + turn,
+            _ => random.below(32_767),
         };
         let place = shape.trace(turn % 2) + 240 + 4 * sample;
         let before = made[place..place + 4].to_vec();
