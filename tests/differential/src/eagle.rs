@@ -20,12 +20,12 @@ fn whole_length(shape: Shape) -> usize {
 }
 
 /// The place of a trace, counted from 0.
-fn trace(shape: Shape, index: usize) -> usize {
+pub fn trace(shape: Shape, index: usize) -> usize {
     3600 + index * whole_length(shape)
 }
 
 /// The place of the last two bytes of its trailer.
-fn end(shape: Shape, index: usize) -> usize {
+pub fn end(shape: Shape, index: usize) -> usize {
     trace(shape, index + 1) - 2
 }
 
@@ -68,13 +68,13 @@ fn without_trailers(made: &[u8], shape: Shape) -> Vec<u8> {
 }
 
 /// An Eagle reel that reading takes.
-fn eagle(random: &mut Random, shape: Shape, words: Words) -> Vec<u8> {
+pub fn eagle(random: &mut Random, shape: Shape, words: Words) -> Vec<u8> {
     let plain = reel(random, shape, words);
     with_trailers(random, &plain, shape)
 }
 
 /// Reads an Eagle reel, which has this answer.
-fn answered(compare: &mut Comparison, made: &[u8], room: usize, number: u64, beside: usize) {
+pub fn answered(compare: &mut Comparison, made: &[u8], room: usize, number: u64, beside: usize) {
     let answer = compare.read_eagle(made, room);
     if (answer.number, answer.beside) != (number, beside as u64) {
         compare.differs("an Eagle reel has another answer", || {
@@ -85,7 +85,7 @@ fn answered(compare: &mut Comparison, made: &[u8], room: usize, number: u64, bes
 }
 
 /// Reads an Eagle reel that is taken, and gives the answer and its record.
-fn taken(compare: &mut Comparison, made: &[u8], shape: Shape) -> (ReelAnswer, Vec<u8>) {
+pub fn taken(compare: &mut Comparison, made: &[u8], shape: Shape) -> (ReelAnswer, Vec<u8>) {
     let room = shape.record_length();
     let answer = compare.read_eagle(made, room);
     let expected = (0, shape.traces as u64, shape.samples as u64, room as u64);
@@ -489,7 +489,7 @@ fn counts(compare: &mut Comparison, random: &mut Random) {
 
 /// The plain reel without trailers and check has the same answer and the same record. The record written
 /// under code 1 is a plain reel of that record too, and so is the Eagle reel of that.
-fn as_a_plain_reel(
+pub fn as_a_plain_reel(
     compare: &mut Comparison,
     made: &[u8],
     shape: Shape,

@@ -27,7 +27,7 @@ fn listing_of(characters: &[u8]) -> Vec<u8> {
 }
 
 /// A listing of any characters.
-fn any_listing(random: &mut Random) -> Vec<u8> {
+pub fn any_listing(random: &mut Random) -> Vec<u8> {
     let mut characters = [0x20; CARDS];
     match random.below(4) {
         0 => {}

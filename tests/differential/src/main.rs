@@ -9,6 +9,7 @@ mod eagle;
 mod eights;
 mod library;
 mod listings;
+mod long;
 mod nearest;
 mod normal;
 mod random;
@@ -44,6 +45,7 @@ fn everything(compare: &mut compare::Comparison) {
     listings::causes_of_listings(compare);
     eights::eights(compare);
     eagle::eagle_reels(compare);
+    long::long_traces(compare);
     reels::long_reels(compare);
     normal::long_reels(compare);
     records::long_records(compare);

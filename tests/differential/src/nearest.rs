@@ -223,7 +223,7 @@ fn beside_a_word(random: &mut Random, code: u32) -> [u8; 6] {
 }
 
 /// A pair of one of the kinds: any, one that fits, or one beside a word of the code or of any other.
-fn any_pair(random: &mut Random, code: u32) -> [u8; 6] {
+pub fn any_pair(random: &mut Random, code: u32) -> [u8; 6] {
     match random.below(6) {
         0 => canonical_pair(random),
         1 => fitting_pair(random, code),
@@ -266,7 +266,7 @@ fn record_of(random: &mut Random, shape: Shape, pairs: &[[u8; 6]]) -> Vec<u8> {
 }
 
 /// The length of a record's reel under a code.
-fn reel_length(code: u32, shape: Shape) -> usize {
+pub fn reel_length(code: u32, shape: Shape) -> usize {
     Shape { code, ..shape }.trace(shape.traces)
 }
 
@@ -286,7 +286,12 @@ fn must(compare: &Comparison, holds: bool, what: &str, record: &[u8], answers: &
 /// exact writing gives the same reel where no sample changed, and else refuses the first that did by
 /// 14. Reading gives the record again but for the samples that changed, and so many they are. From that
 /// record both give the reel again, and no sample changes.
-fn there_and_back(compare: &mut Comparison, record: &[u8], code: u32, room: usize) -> ReelAnswer {
+pub fn there_and_back(
+    compare: &mut Comparison,
+    record: &[u8],
+    code: u32,
+    room: usize,
+) -> ReelAnswer {
     let nearest = compare.write_nearest(record, code, room);
     let reel = compare.written(nearest).to_vec();
     let exact = compare.write_reel(record, code, room);

@@ -280,7 +280,7 @@ pub fn write_and_read_again(
     Some(reel)
 }
 
-fn some_look_ups(
+pub fn some_look_ups(
     compare: &mut Comparison,
     random: &mut Random,
     reel: &[u8],
