@@ -775,8 +775,34 @@ fn any_fields(random: &mut Random, samples: usize) -> Vec<usize> {
     fields
 }
 
-/// Traces with other fields beside right ones of either form: the first field that differs is told.
+/// Traces with other fields beside right ones of either form: the first field that differs is told. A
+/// single field is right up to 8,000 samples.
 fn other_fields(compare: &mut Comparison, random: &mut Random) {
+    compare.stage("traces in a single field");
+    let about = [6_000, 8_000, 10_922, 12_000].map(|samples| samples - 4..samples + 5);
+    for samples in about.into_iter().flatten().chain([32_766, 32_767]) {
+        let (single, new) = (earlier_form(samples), new_form(samples));
+        for forms in [
+            vec![single.clone()],
+            vec![single.clone(), new.clone()],
+            vec![new, single],
+        ] {
+            let shape = Shape::new(8, samples, forms.len());
+            let record = Record::in_forms(random, shape, true, &forms);
+            if samples <= 8_000 {
+                let length = reel_length(8, shape);
+                let answer = compare.write_reel(&record.bytes, 8, length);
+                let holds = says(answer, 0, 0);
+                must(compare, holds, "a single field", &record.bytes, &[answer]);
+                every_call(compare, random, &record.bytes, 8);
+            } else {
+                let trace = forms.iter().position(|form| form.len() == 1);
+                let place = record.fields[trace.expect("one of them")][0];
+                refused(compare, random, &record.bytes, 12, place);
+            }
+        }
+    }
+
     compare.stage("traces in other fields");
     let (mut right, mut wrong) = (0, 0);
     for samples in COUNTS {

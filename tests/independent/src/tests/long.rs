@@ -886,6 +886,16 @@ fn misfits_of_every_field() {
     assert_eq!(write_reel(&record, 1, &mut []), refused(14, 75_644));
     let record = record_of_fields(6_001, &[earlier(&right), new(&pairs)]);
     assert_eq!(write_reel(&record, 1, &mut []), refused(14, 75_647));
+
+    // In the first trace, before 13 and 12 in the second.
+    let mut record = record_of_fields(6_001, &[new(&pairs), new(&right)]);
+    assert_eq!(write_reel(&record, 1, &mut []), refused(14, 39_455));
+    record[75_650..75_656].copy_from_slice(&even());
+    is_refused(&record, 13, 75_650);
+    record[75_647] = 0x05;
+    is_refused(&record, 12, 75_647);
+    put_number(&mut record, 39_461 + 3 + 116, 0);
+    is_refused(&record, 13, 39_580);
 }
 
 /// Nearest writing rounds the samples of every field, in either form: halves become 0, and count.
