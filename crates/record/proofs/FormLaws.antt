@@ -69,13 +69,16 @@ share-some k s n at = go (ltb fieldSamples n) refl (leb n (k .earlier)) (eqb (nu
     go true e false c = omega arith
     go false e b c = omega arith
 
--- where that isn't 6,000, they all stand in one field
-pub share-one : (k : Kind) (s : List ℕ) (n at : ℕ) → (shareIn k s n at ≡ fieldSamples → ⊥) → fieldsIn (shareIn k s n at) n ≡ 1
-share-one k s n at other = go (isEarlierIn k s n at) (share-some k s n at) other
+-- and at most 8,000
+pub share-high : (s : List ℕ) (n at : ℕ) → shareIn tag04 s n at ≤ 8000
+share-high s n at = go (leb n 8000) refl (ltb fieldSamples n) (eqb (number16 s (at + 1)) (n * 6))
   where
-    go : (b : Bool) → 0 < pick b n fieldSamples → (pick b n fieldSamples ≡ fieldSamples → ⊥) → fieldsIn (pick b n fieldSamples) n ≡ 1
-    go true some other = fields-one n some n some (omega arith)
-    go false some other = absurd (other refl)
+    go : (b : Bool) → leb n 8000 ≡ b → (a c : Bool) → pick ((a && b) && c) n fieldSamples ≤ 8000
+    go true e true true = leb-true n 8000 e
+    go true e true false = omega arith
+    go true e false c = omega arith
+    go false e true c = omega arith
+    go false e false c = omega arith
 
 -- samples in which nothing is found end within the record
 pub samples-room : (k : Kind) (s : List ℕ) (c : ℕ) → 0 < c → (n at : ℕ) → firstOf (inFields (fieldFormIn k s) (k .width) c n at) ≡ Fine → at ≤ length s

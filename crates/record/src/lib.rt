@@ -268,16 +268,13 @@ pub fn share_at(record: &[u8], n: u16, at: Place) -> usize
     n as usize
 }
 
-// The bytes of that trace. (No division but by 6,000, which the compiler makes a product of.)
+// The bytes of that trace.
 pub fn stride_at(record: &[u8], n: u16, at: Place) -> usize
     ensures { λ r. ⌜ r ≡ heldStrideIn tag04 (now («record» .entry)) n (placeNo at) ⌝ }
 {
     let c = share_at(record, n, at);
     let m = n as usize;
-    if c == 6000 {
-        return 183 + (3 * ((m + 5999) / 6000) + m * 6);
-    }
-    186 + m * 6
+    183 + (3 * ((m + (c - 1)) / c) + m * 6)
 }
 
 // 13 against the first of n pairs from a place on that isn't canonical; under a target code also 14 against the first that doesn't fit.
