@@ -4,6 +4,7 @@
 #
 #   sh bench/versions.sh OLD.a NEW.a
 #   sh bench/versions.sh OLD.a NEW.a --samples 100 --mb 32 --runs 41 --codes 1,2
+#   sh bench/versions.sh OLD.a NEW.a --samples 32767         long traces; with a version from before CR 8, 8000 at most
 #   sh bench/versions.sh OLD.a NEW.a --small                 all calls on one small reel and its record
 #
 # Each becomes two shared objects. In the second all functions lie 32 bytes farther.

@@ -1,12 +1,13 @@
 //! Reading an Eagle reel beside reading the plain reel of the same traces, by how many samples a trace has
 //! and by whether some words aren't normal. What counts is how many samples are read in a second.
 
+use crate::passes::MOST_SAMPLES;
 use crate::tables::{self, Call};
 use crate::{in_turns, library, record_length, reel_of, reels, same, timed, Options, Who};
 use independent::{ReelRead, Refused};
 
 /// N of the reels. The shorter the traces, the larger is the part of an Eagle reel that is trailers.
-pub const SAMPLES: [u16; 5] = [100, 500, 1_500, 3_000, 8_000];
+pub const SAMPLES: [u16; 6] = [100, 500, 1_500, 3_000, 8_000, MOST_SAMPLES];
 
 /// The sizes of the plain reels, in megabytes: one that the caches hold, and one that they don't. How many
 /// runs there are of each.

@@ -1,10 +1,11 @@
 //! Measures the library's reading and writing of whole reels, exactly and to the nearest, beside other ways
-//! to do the same; all its calls that put or judge cards, on a small reel; and its reading of Eagle reels
-//! beside that of plain ones.
+//! to do the same; all its calls that put or judge cards, on a small reel; its reading of Eagle reels beside
+//! that of plain ones; and long traces beside short ones.
 
 mod cards;
 mod eagle;
 mod library;
+mod long;
 mod nearest;
 mod passes;
 mod reels;
@@ -30,6 +31,7 @@ const USAGE: &str = "usage: bench [--mb SIZE] [--runs COUNT] [--codes 1,2,3,...]
        bench nearest [--mb SIZE] [--runs COUNT] [--codes 1,2,3,...] [--samples N]
        bench cards [--runs COUNT]
        bench eagle [--mb SIZE] [--runs COUNT]
+       bench long [--mb SIZE] [--runs COUNT] [--codes 1,2,3,...]
        bench versions OLD OLD NEW NEW [--mb SIZE] [--runs COUNT] [--codes 1,2,3,...] [--samples N]
        bench versions OLD OLD NEW NEW --small [--runs COUNT]
        bench one read|eagle|write|nearest CODE [--not-normal] [--kind fit|half|rounded|beyond]
@@ -38,8 +40,9 @@ const USAGE: &str = "usage: bench [--mb SIZE] [--runs COUNT] [--codes 1,2,3,...]
 /// N of the reels that are compared, where no other is asked for.
 const SAMPLES: u16 = 2_000;
 
-/// N of the reels that grow: a reel of 1,000 MB then has fewer than 100,000 traces.
-const SAMPLES_IN_GROWTH: u16 = 2_500;
+/// N of the reels that grow: a reel of 1,000 MB then has fewer than 100,000 traces. And the most that there
+/// may be.
+const SAMPLES_IN_GROWTH: [u16; 2] = [2_500, passes::MOST_SAMPLES];
 
 const MEGABYTE: usize = 1_000_000;
 
@@ -163,6 +166,7 @@ fn main() {
         ["nearest"] => nearest::compare(&options),
         ["cards"] => cards::compare(&options),
         ["eagle"] => eagle::compare(&options),
+        ["long"] => long::compare(&options),
         ["versions", old, old_again, new, new_again] => {
             let paths = [old, old_again, new, new_again];
             if options.small {
@@ -218,7 +222,7 @@ fn options() -> Option<Options> {
         match argument.as_str() {
             "--mb" => options.megabytes = Some(count_of(&arguments.next()?)?),
             "--runs" => options.runs = Some(count_of(&arguments.next()?)?),
-            "--samples" => options.samples = count_of(&arguments.next()?)?.try_into().ok()?,
+            "--samples" => options.samples = samples_of(&arguments.next()?)?,
             "--codes" => {
                 options.codes = arguments
                     .next()?
@@ -256,6 +260,11 @@ fn options() -> Option<Options> {
 
 fn count_of(text: &str) -> Option<usize> {
     text.parse().ok().filter(|&count| count > 0)
+}
+
+fn samples_of(text: &str) -> Option<u16> {
+    let samples = count_of(text)?.try_into().ok()?;
+    (samples <= passes::MOST_SAMPLES).then_some(samples)
 }
 
 fn code_of(text: &str) -> Option<u32> {
@@ -314,10 +323,11 @@ fn timed_copy(reel: &[u8], out: &mut [u8]) -> f64 {
     start.elapsed().as_secs_f64()
 }
 
+/// The bytes of the record that a plain reel is read into.
 fn record_length(reel: &[u8], code: u32) -> usize {
     let samples = usize::from(u16::from_be_bytes([reel[3_220], reel[3_221]]));
     let traces = (reel.len() - 3_600) / (240 + samples * passes::sample_bytes(code));
-    3_273 + traces * (186 + 6 * samples)
+    passes::record_length(samples, traces)
 }
 
 /// A reel to compare by, or to count by.
@@ -493,14 +503,22 @@ impl Drop for File {
     }
 }
 
-/// The library on reels of code 1 that grow, all in turn in each run; the best run counts.
+/// The library on reels of code 1 that grow.
 fn growth(options: &Options) {
     let most = options.megabytes.unwrap_or(usize::MAX);
-    let mut grown: Vec<Grown> = SIZES
-        .into_iter()
-        .filter(|&size| size <= most)
-        .map(|megabytes| {
-            let reel = reels::make(1, SAMPLES_IN_GROWTH, megabytes * MEGABYTE);
+    let sizes: Vec<usize> = SIZES.into_iter().filter(|&size| size <= most).collect();
+    let runs = options.runs.unwrap_or(RUNS);
+    let ns = SAMPLES_IN_GROWTH.map(|samples| grow(samples, &sizes, runs));
+    tables::growth(&sizes, &ns);
+}
+
+/// The ns for each byte of the reel, in reading and in writing, by the sizes in megabytes. All sizes in turn
+/// in each run; the best run counts.
+fn grow(samples: u16, sizes: &[usize], runs: usize) -> Vec<[f64; 2]> {
+    let mut grown: Vec<Grown> = sizes
+        .iter()
+        .map(|&megabytes| {
+            let reel = reels::make(1, samples, megabytes * MEGABYTE);
             Grown {
                 megabytes,
                 record: vec![1; record_length(&reel, 1)],
@@ -510,7 +528,7 @@ fn growth(options: &Options) {
         })
         .collect();
     let mut out = vec![1; grown.iter().map(|one| one.reel.len()).max().unwrap_or(0)];
-    for _ in 0..options.runs.unwrap_or(RUNS) {
+    for _ in 0..runs {
         for Grown {
             megabytes,
             reel,
@@ -525,7 +543,8 @@ fn growth(options: &Options) {
             }
         }
     }
-    tables::growth(&grown);
+    let ns = |one: &Grown| one.seconds.map(|s| s * 1e9 / one.reel.len() as f64);
+    grown.iter().map(ns).collect()
 }
 
 /// A reel of a size and its record, with the best seconds of reading and of writing.

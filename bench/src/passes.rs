@@ -2,13 +2,13 @@
 //! lent buffer, around what is done for each group of a trace header and for each sample.
 
 use independent::{NearestWritten, ReelRead, Refused, Taken};
-use std::ops::Range;
+use std::ops::{Range, RangeInclusive};
 
 pub const CARD_BYTES: usize = 3_200;
 pub const REEL_HEADERS: usize = 3_600;
 const TRACE_HEADER: usize = 240;
 const BINARY_FIELDS: usize = 60;
-const TRACE_FIELDS: usize = 180;
+pub const TRACE_FIELDS: usize = 180;
 
 /// The bytes of a trailer, which follows each trace of an Eagle reel, and the two at its end.
 pub const TRAILER: usize = 960;
@@ -31,14 +31,20 @@ const CODE: usize = 24;
 const TRACE_COUNT: usize = 114;
 const TRACE_INTERVAL: usize = 116;
 
-const MOST_SAMPLES: u16 = 8_000;
+pub const MOST_SAMPLES: u16 = 32_767;
 const MOST_INTERVAL: u16 = 32_767;
 pub const MOST_TRACES: usize = 100_000;
 
 pub const FIELD_HEAD: usize = 3;
 pub const PAIR_BYTES: usize = 6;
-const RECORD_HEAD: usize = 2 * FIELD_HEAD + CARD_BYTES + BINARY_FIELDS;
-const RECORD_END: usize = FIELD_HEAD + 4;
+
+/// The samples in each field of a trace but the last, which has the remaining ones; and how many a trace of
+/// the earlier form has, all in a single field.
+pub const FIELD_SAMPLES: usize = 6_000;
+pub const EARLIER: RangeInclusive<usize> = FIELD_SAMPLES + 1..=8_000;
+
+pub const RECORD_HEAD: usize = 2 * FIELD_HEAD + CARD_BYTES + BINARY_FIELDS;
+pub const RECORD_END: usize = FIELD_HEAD + 4;
 
 /// The numbers of the causes that apply to a word, and of those that apply to a pair.
 pub const BAD_GAIN: u64 = 9;
@@ -110,16 +116,41 @@ pub fn sample_bytes(code: u32) -> usize {
     }
 }
 
-/// The bytes of a trace in a record.
-fn held_stride(samples: usize) -> usize {
-    2 * FIELD_HEAD + TRACE_FIELDS + samples * PAIR_BYTES
+/// The bytes of a field of so many samples.
+pub fn field_bytes(samples: usize) -> usize {
+    FIELD_HEAD + samples * PAIR_BYTES
 }
 
-/// The pairs of each trace of a record.
+/// The bytes of a trace in a record, in the new form.
+pub fn held_stride(samples: usize) -> usize {
+    let fields = samples.div_ceil(FIELD_SAMPLES);
+    FIELD_HEAD + TRACE_FIELDS + fields * FIELD_HEAD + samples * PAIR_BYTES
+}
+
+/// How many samples stand in each field of a trace but the last, by what stands from the first field on: its
+/// length tells the form.
+fn share_of(samples: usize, fields: &[u8]) -> usize {
+    if EARLIER.contains(&samples)
+        && fields.len() >= FIELD_HEAD
+        && usize::from(be16(fields, 1)) == samples * PAIR_BYTES
+    {
+        samples
+    } else {
+        FIELD_SAMPLES
+    }
+}
+
+/// The bytes of a record in the new form.
+pub fn record_length(samples: usize, traces: usize) -> usize {
+    RECORD_HEAD + traces * held_stride(samples) + RECORD_END
+}
+
+/// The pairs of each field of samples, of a record in the new form.
 pub fn held_pairs(record: &mut [u8], samples: usize) -> impl Iterator<Item = &mut [u8]> {
     record[RECORD_HEAD..]
         .chunks_exact_mut(held_stride(samples))
-        .map(|held| &mut held[2 * FIELD_HEAD + TRACE_FIELDS..])
+        .flat_map(|held| held[FIELD_HEAD + TRACE_FIELDS..].chunks_mut(field_bytes(FIELD_SAMPLES)))
+        .map(|field| &mut field[FIELD_HEAD..])
 }
 
 // ## Reading
@@ -134,7 +165,7 @@ pub fn read_reel<S: Steps, const EAGLE: bool>(
     let ReelNumbers {
         samples, traces, ..
     } = numbers;
-    let length = RECORD_HEAD + traces * held_stride(samples) + RECORD_END;
+    let length = record_length(samples, traces);
     if out.len() < length {
         return refused(10, length);
     }
@@ -253,15 +284,19 @@ fn put_record<S: Steps, const EAGLE: bool>(
     {
         let (trace, _) = trace.split_at(trace.len() - if EAGLE { TRAILER } else { 0 });
         let (header, words) = trace.split_at(TRACE_HEADER);
-        let (header_field, samples_field) = held.split_at_mut(FIELD_HEAD + TRACE_FIELDS);
+        let (header_field, sample_fields) = held.split_at_mut(FIELD_HEAD + TRACE_FIELDS);
         let fields = put_head(header_field, 3);
         fields.copy_from_slice(&header[..TRACE_FIELDS]);
         S::put_groups(header, fields);
         fill_in(fields, TRACE_COUNT, numbers.samples as u16);
         fill_in(fields, TRACE_INTERVAL, numbers.interval);
 
-        let pairs = put_head(samples_field, 4);
-        S::put_pairs(numbers.code, words, pairs);
+        for (words, field) in words
+            .chunks(FIELD_SAMPLES * sample_bytes(numbers.code))
+            .zip(sample_fields.chunks_mut(field_bytes(FIELD_SAMPLES)))
+        {
+            S::put_pairs(numbers.code, words, put_head(field, 4));
+        }
         not_normal += S::count_words(numbers.code, words);
     }
     put_head(end, 5).copy_from_slice(&(numbers.traces as u32).to_be_bytes());
@@ -379,14 +414,18 @@ fn check_record<S: Steps>(
     let mut at = RECORD_HEAD;
     let mut traces = 0;
     while more(record, traces, at) {
-        let pairs = check_head::<S>(record, count, interval, at)?;
-        if let Err((number, k)) = check_pairs(pairs) {
-            // Any 12 or 13 behind a sample that doesn't fit comes before it.
-            check_form::<S>(record, count, interval, traces, at)?;
-            let place = at + 2 * FIELD_HEAD + TRACE_FIELDS + PAIR_BYTES * k;
-            return refused(number, place);
+        check_header::<S>(record, count, interval, at)?;
+        let trace = at;
+        at += FIELD_HEAD + TRACE_FIELDS;
+        for samples in shares(record, count, at) {
+            let pairs = check_field(record, at, 4, PAIR_BYTES * samples)?;
+            if let Err((number, k)) = check_pairs(pairs) {
+                // Any 12 or 13 behind a sample that doesn't fit comes before it.
+                check_form::<S>(record, count, interval, traces, trace)?;
+                return refused(number, at + FIELD_HEAD + PAIR_BYTES * k);
+            }
+            at += field_bytes(samples);
         }
-        at += held_stride(usize::from(count));
         traces += 1;
     }
     check_end(record, traces, at)?;
@@ -411,23 +450,27 @@ fn check_form<S: Steps>(
     mut at: usize,
 ) -> Result<(), Refused> {
     while more(record, traces, at) {
-        let pairs = check_head::<S>(record, count, interval, at)?;
-        if let Some(k) = S::uncanonical_pair(pairs) {
-            return refused(13, at + 2 * FIELD_HEAD + TRACE_FIELDS + PAIR_BYTES * k);
+        check_header::<S>(record, count, interval, at)?;
+        at += FIELD_HEAD + TRACE_FIELDS;
+        for samples in shares(record, count, at) {
+            let pairs = check_field(record, at, 4, PAIR_BYTES * samples)?;
+            if let Some(k) = S::uncanonical_pair(pairs) {
+                return refused(13, at + FIELD_HEAD + PAIR_BYTES * k);
+            }
+            at += field_bytes(samples);
         }
-        at += held_stride(usize::from(count));
         traces += 1;
     }
     check_end(record, traces, at)
 }
 
-/// 12 and 13 of a trace but for its pairs, which it gives.
-fn check_head<S: Steps>(
+/// 12 and 13 of a trace's header.
+fn check_header<S: Steps>(
     record: &[u8],
     count: u16,
     interval: u16,
     at: usize,
-) -> Result<&[u8], Refused> {
+) -> Result<(), Refused> {
     let header = check_field(record, at, 3, TRACE_FIELDS)?;
     if let Some(scalar) = S::refused_scalar(header) {
         return refused(13, at + FIELD_HEAD + scalar);
@@ -438,8 +481,16 @@ fn check_head<S: Steps>(
     if be16(header, TRACE_INTERVAL) != interval {
         return refused(13, at + FIELD_HEAD + TRACE_INTERVAL);
     }
-    let samples_place = at + FIELD_HEAD + TRACE_FIELDS;
-    check_field(record, samples_place, 4, PAIR_BYTES * usize::from(count))
+    Ok(())
+}
+
+/// How many samples each field of a trace has, the first of which stands at a place.
+fn shares(record: &[u8], count: u16, at: usize) -> impl Iterator<Item = usize> {
+    let samples = usize::from(count);
+    let share = share_of(samples, &record[at..]);
+    (0..samples)
+        .step_by(share)
+        .map(move |before| share.min(samples - before))
 }
 
 fn check_end(record: &[u8], traces: usize, at: usize) -> Result<(), Refused> {
@@ -462,7 +513,7 @@ fn check_field(record: &[u8], at: usize, tag: u8, size: usize) -> Result<&[u8], 
     Ok(&field[FIELD_HEAD..FIELD_HEAD + size])
 }
 
-/// Puts the reel, with what puts the words of a trace from its pairs.
+/// Puts the reel, with what puts the words of a field from its pairs.
 fn put_reel(
     record: &[u8],
     code: u32,
@@ -479,15 +530,23 @@ fn put_reel(
     fields[CODE..CODE + 2].copy_from_slice(&(code as u16).to_be_bytes());
     unassigned.fill(0);
 
-    for (held, trace) in record[RECORD_HEAD..]
-        .chunks_exact(held_stride(samples))
-        .zip(traces.chunks_exact_mut(stride))
-    {
+    let mut held = &record[RECORD_HEAD..];
+    for trace in traces.chunks_exact_mut(stride) {
         let (header, words) = trace.split_at_mut(TRACE_HEADER);
         let (fields, unassigned) = header.split_at_mut(TRACE_FIELDS);
-        fields.copy_from_slice(&held[FIELD_HEAD..][..TRACE_FIELDS]);
+        let (header_field, behind) = held.split_at(FIELD_HEAD + TRACE_FIELDS);
+        fields.copy_from_slice(&header_field[FIELD_HEAD..]);
         unassigned.fill(0);
 
-        put_samples(&held[2 * FIELD_HEAD + TRACE_FIELDS..], words);
+        let share = share_of(samples, behind);
+        let fields = samples.div_ceil(share) * FIELD_HEAD + samples * PAIR_BYTES;
+        let (sample_fields, behind) = behind.split_at(fields);
+        for (field, words) in sample_fields
+            .chunks(field_bytes(share))
+            .zip(words.chunks_mut(share * sample_bytes(code)))
+        {
+            put_samples(&field[FIELD_HEAD..], words);
+        }
+        held = behind;
     }
 }

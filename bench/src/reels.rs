@@ -1,8 +1,9 @@
 //! The reels that are read and written, and the records that are written to the nearest, made on the spot
 //! and the same at every run.
 
-use crate::passes::{held_pairs, sample_bytes, CARD_BYTES, MOST_TRACES, PAIR_BYTES, REEL_HEADERS};
-use crate::passes::{CHECK, TRAILER, TRAILER_END};
+use crate::passes::{field_bytes, held_pairs, held_stride, sample_bytes};
+use crate::passes::{CARD_BYTES, FIELD_HEAD, FIELD_SAMPLES, MOST_TRACES, PAIR_BYTES, REEL_HEADERS};
+use crate::passes::{CHECK, RECORD_END, RECORD_HEAD, TRACE_FIELDS, TRAILER, TRAILER_END};
 
 const TRACE_HEADER: usize = 240;
 const INTERVAL: u16 = 2_000;
@@ -266,6 +267,39 @@ pub fn make_record(code: u32, samples: u16, bytes: usize, kind: Kind) -> Vec<u8>
         }
     }
     record
+}
+
+/// A record in the new form, with the samples of each trace in fields of another share, by its number from
+/// 0 on. A length that has no room in two bytes loses what is beyond them.
+pub fn with_shares(
+    record: &[u8],
+    samples: u16,
+    mut share_of: impl FnMut(usize) -> usize,
+) -> Vec<u8> {
+    let (front, behind) = record.split_at(RECORD_HEAD);
+    let (traces, end) = behind.split_at(behind.len() - RECORD_END);
+    let mut shared = front.to_vec();
+    let stride = held_stride(usize::from(samples));
+    for (held, trace) in traces.chunks_exact(stride).zip(0..) {
+        let (header, fields) = held.split_at(FIELD_HEAD + TRACE_FIELDS);
+        shared.extend_from_slice(header);
+        let pairs: Vec<&[u8]> = fields
+            .chunks(field_bytes(FIELD_SAMPLES))
+            .map(|field| &field[FIELD_HEAD..])
+            .collect();
+        for pairs in pairs.concat().chunks(share_of(trace) * PAIR_BYTES) {
+            let [high, low] = (pairs.len() as u16).to_be_bytes();
+            shared.extend_from_slice(&[4, high, low]);
+            shared.extend_from_slice(pairs);
+        }
+    }
+    shared.extend_from_slice(end);
+    shared
+}
+
+/// A record in the new form, of 6,001 to 8,000 samples a trace, in the earlier form.
+pub fn earlier(record: &[u8], samples: u16) -> Vec<u8> {
+    with_shares(record, samples, |_| usize::from(samples))
 }
 
 /// A reel of code 1 of about so many bytes, in which one word in so many isn't normal.

@@ -5,7 +5,7 @@ use crate::eagle::{self, Seconds};
 use crate::nearest::Rounding;
 use crate::reels::{Kind, KINDS, ZEROS};
 use crate::versions::{Compared, ComparedSmall};
-use crate::{reels, Grown, Who, ALL};
+use crate::{long, reels, Who, ALL, SAMPLES_IN_GROWTH};
 
 #[derive(Clone, Copy, PartialEq)]
 pub enum Call {
@@ -91,18 +91,17 @@ pub fn untouched(rows: &[Row]) {
     }
 }
 
-pub fn growth(grown: &[Grown]) {
-    println!(
-        "\nGrowth, the library on code 1, N = {}, ns for each byte of the reel:\n",
-        crate::SAMPLES_IN_GROWTH
-    );
-    println!("| reel | reading | writing |");
-    println!("|---|---|---|");
-    for one in grown {
-        let [read, write] = one
-            .seconds
-            .map(|seconds| seconds * 1e9 / one.reel.len() as f64);
-        println!("| {} MB | {read:.3} | {write:.3} |", one.megabytes);
+/// The ns for each byte of a reel, by its N and its size.
+pub fn growth(sizes: &[usize], ns: &[Vec<[f64; 2]>; SAMPLES_IN_GROWTH.len()]) {
+    println!("\nGrowth, the library on code 1, ns for each byte of the reel:\n");
+    let names = SAMPLES_IN_GROWTH.map(|n| format!("reading, N = {n} | writing, N = {n}"));
+    println!("| reel | {} |", names.join(" | "));
+    println!("|---{}|", "|---|---".repeat(names.len()));
+    for (k, megabytes) in sizes.iter().enumerate() {
+        let cells = ns
+            .each_ref()
+            .map(|ns| format!("{:.3} | {:.3}", ns[k][0], ns[k][1]));
+        println!("| {megabytes} MB | {} |", cells.join(" | "));
     }
 }
 
@@ -149,6 +148,54 @@ pub fn cards(loops: &[cards::Row], calls: &[cards::Row], runs: usize) {
         for row in rows {
             let cells = row.seconds.map(|seconds| format!("{:.0}", seconds * 1e9));
             println!("| {} | {} |", row.name, cells.join(" | "));
+        }
+    }
+}
+
+/// Long traces beside those of the first N.
+pub fn long(rows: &[long::Row], megabytes: usize, runs: usize) {
+    let [first, others @ ..] = long::SAMPLES;
+    println!("\nLong traces: reels of {megabytes} MB for each code and N, and their records; best of {runs} runs, all N in turn in each run, each run beginning with another. A copy of the reel or the record of N = {first} says what a difference is worth.");
+    let others = others.map(|samples| format!("N = {samples}")).join(" | ");
+    for (call, title) in [
+        (Call::Read, "Reading"),
+        (Call::Write, "Writing"),
+        (Call::Nearest, "Nearest writing of samples that all fit"),
+    ] {
+        let rows: Vec<_> = rows.iter().filter(|row| row.call == call).collect();
+        let earlier: Vec<usize> = (0..long::SAMPLES.len())
+            .filter(|&k| rows.iter().any(|row| row.earlier[k].is_some()))
+            .collect();
+        let forms = if earlier.is_empty() {
+            ""
+        } else {
+            "; then the speed from records in the earlier form over that from the new"
+        };
+        println!("\n{title}, millions of samples a second with N = {first}, and the speeds of its copy and of other N over that{forms}:\n");
+        let names: String = earlier
+            .iter()
+            .map(|&k| format!(" N = {}, earlier form |", long::SAMPLES[k]))
+            .collect();
+        println!("| code | by | N = {first} | its copy | {others} |{names}");
+        println!(
+            "{}|",
+            "|---".repeat(3 + long::SAMPLES.len() + earlier.len())
+        );
+        for row in rows {
+            let [base, others @ ..] = row.speeds;
+            let mut cells = vec![row.copy / base];
+            cells.extend(others.map(|speed| speed / base));
+            let over_new = |&k: &usize| row.earlier[k].unwrap_or(f64::NAN) / row.speeds[k];
+            cells.extend(earlier.iter().map(over_new));
+            let cells: Vec<String> = cells.iter().map(|ratio| format!("{ratio:.3}")).collect();
+            println!(
+                "| {}{} | {} | {:.0} | {} |",
+                row.code,
+                kind(row.not_normal, Kind::Fit),
+                name(row.who, call),
+                base / 1e6,
+                cells.join(" | ")
+            );
         }
     }
 }
@@ -224,8 +271,11 @@ pub fn small_versions(rows: &[ComparedSmall], runs: usize) {
     }
 }
 
-pub fn versions(rows: &[Compared], megabytes: usize, samples: u16, runs: usize) {
+pub fn versions(rows: &[Compared], megabytes: usize, samples: u16, runs: usize, forms: bool) {
     println!("A reel of {megabytes} MB for each code, N = {samples}; best of {runs} runs, both copies of both versions in turn in each run, each run beginning with another. The faster copy counts; the slower one is given over it.");
+    if forms {
+        println!("Each version writes from the record that it reads, which is in the earlier form where the version is from before CR 8. Those whose samples have to be rounded are in the earlier form for both.");
+    }
     for (call, title) in [
         (Call::Read, "Reading"),
         (Call::Eagle, "Reading Eagle reels of the same traces"),

@@ -3,14 +3,15 @@
 //! differently, and the faster one counts. The version that is linked with this can be called as they are.
 
 use crate::cards::{self, Lent, Small, CODE, PLACES, SMALL};
+use crate::passes::{EARLIER, MOST_SAMPLES};
 use crate::reels::{self, Kind, Zeros};
 use crate::tables::{self, Call};
 use crate::{in_turns, kinds, record_length, reel_of, Options, MEGABYTE};
 use std::ffi::{c_char, c_int, c_void, CStr, CString};
 use std::hash::{DefaultHasher, Hasher};
 use std::hint::black_box;
-use std::mem;
 use std::time::Instant;
+use std::{mem, process};
 
 /// The size of the reels, in megabytes, and how many runs there are.
 const SIZE: usize = 32;
@@ -148,6 +149,13 @@ impl Version {
         (answer.number == 0 && answer.length == out.len() as u64).then_some(seconds)
     }
 
+    /// Whether it is from before CR 8: N is 8,000 at most, and a trace has a single field of samples.
+    pub fn is_earlier(&self) -> bool {
+        let reel = reels::make(1, MOST_SAMPLES, 0);
+        let mut record = vec![1; record_length(&reel, 1)];
+        self.timed(Call::Read, 1, &reel, &mut record).is_none()
+    }
+
     /// Whether there is such a call on the small reel or its record, and it is taken with so long an output.
     pub fn small(&self, call: Small, lent: &mut Lent) -> bool {
         let (from, length) = (lent.input.as_ptr(), lent.input.len());
@@ -195,9 +203,25 @@ const TURNS: [(Call, Kind); 5] = [
 
 /// All calls by each copy in turn, each run beginning with another of them; the best run counts. A reel that
 /// has words that aren't normal is not written to the nearest. There is Eagle reading of code 1 where both
-/// versions have it.
+/// versions have it. A version from before CR 8 reads the earlier form of a record where N has one, and takes
+/// no other; the record whose samples have to be rounded is then in that form for all.
 pub fn compare(options: &Options, paths: [&str; 4]) {
     let versions = paths.map(Version::load);
+    let earlier = versions.each_ref().map(Version::is_earlier);
+    let with_earlier = earlier.contains(&true);
+    if with_earlier && usize::from(options.samples) > *EARLIER.end() {
+        let who = match earlier {
+            [true, _, true, _] => "both versions are",
+            [true, ..] => "the old version is",
+            _ => "the new version is",
+        };
+        eprintln!(
+            "{who} from before CR 8, so that --samples is {} at most",
+            EARLIER.end()
+        );
+        process::exit(1);
+    }
+    let forms = with_earlier && EARLIER.contains(&usize::from(options.samples));
     let megabytes = options.megabytes.unwrap_or(SIZE);
     let runs = options.runs.unwrap_or(RUNS);
     let all_read_eagle = versions.iter().all(|version| version.eagle.is_some());
@@ -207,8 +231,13 @@ pub fn compare(options: &Options, paths: [&str; 4]) {
         let with_eagle = all_read_eagle && code == 1;
         let eagle = with_eagle.then(|| reels::with_trailers(&reel, options.samples));
         let bytes = megabytes * MEGABYTE;
-        let rounded = reels::make_record(code, options.samples, bytes, Kind::Rounded);
-        let mut record = vec![1; record_length(&reel, code)];
+        let mut rounded = reels::make_record(code, options.samples, bytes, Kind::Rounded);
+        let mut record = vec![1; rounded.len()];
+        if forms {
+            rounded = reels::earlier(&rounded, options.samples);
+        }
+        // The bytes of the record that each reads.
+        let lengths = earlier.map(|earlier| if earlier { rounded.len() } else { record.len() });
         let mut written = vec![1; reel.len()];
 
         let mut turns = TURNS.to_vec();
@@ -223,11 +252,15 @@ pub fn compare(options: &Options, paths: [&str; 4]) {
             for turn in 0..versions.len() {
                 let who = (run + turn) % versions.len();
                 for (k, &(call, kind)) in turns.iter().enumerate() {
+                    let length = lengths[who];
                     let (input, out) = match (call, kind) {
-                        (Call::Read, _) => (&reel, &mut record),
-                        (Call::Eagle, _) => (eagle.as_ref().expect("it was made"), &mut record),
-                        (_, Kind::Fit) => (&record, &mut written),
-                        _ => (&rounded, &mut written),
+                        (Call::Read, _) => (&reel[..], &mut record[..length]),
+                        (Call::Eagle, _) => (
+                            &eagle.as_ref().expect("it was made")[..],
+                            &mut record[..length],
+                        ),
+                        (_, Kind::Fit) => (&record[..length], &mut written[..]),
+                        _ => (&rounded[..], &mut written[..]),
                     };
                     let Some(seconds) = versions[who].timed(call, code, input, out) else {
                         // It doesn't know the code, or has no nearest writing.
@@ -239,7 +272,12 @@ pub fn compare(options: &Options, paths: [&str; 4]) {
                     };
                     lower(&mut best[k][who], seconds);
                     if run == 0 {
-                        given[k][who] = Some(hash_of(out));
+                        let is_read = matches!(call, Call::Read | Call::Eagle);
+                        given[k][who] = Some(if is_read && forms && !earlier[who] {
+                            hash_of(&reels::earlier(out, options.samples))
+                        } else {
+                            hash_of(out)
+                        });
                     }
                 }
             }
@@ -262,7 +300,7 @@ pub fn compare(options: &Options, paths: [&str; 4]) {
             });
         }
     }
-    tables::versions(&rows, megabytes, options.samples, runs);
+    tables::versions(&rows, megabytes, options.samples, runs, forms);
 }
 
 /// The best seconds of each copy in a call on the small reel or its record.
