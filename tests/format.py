@@ -154,6 +154,34 @@ def check_eagle(command, folder, rnd):
         assert (len(read(both)[2]), len(record), read(both)[2][-1][1][-1]) == (traces, length, value)
 
 
+def shown_trace(text, record):
+    """Holds an example to a record, line by line: in the first column the place, in the second its bytes, or none; and gives the places."""
+    places = []
+    for place, shown in re.findall(r"^    (\d[\d ]{5})(.{14})", text, re.M):
+        byte, _, times = shown.strip().partition(" x ")
+        content = bytes.fromhex(byte) * int(times or 1)
+        assert record[int(place) :].startswith(content), place
+        places.append(int(place))
+    return places
+
+
+def check_forms(command, folder):
+    """The page's example of a trace of 6,001 samples in both forms: the record that the command makes, and the one that it takes too."""
+    part = PAGE.split("For example, the first trace of a record of 6,001 samples a trace")[1].split("\n## ")[0]
+    new, earlier = part.split("And the same trace in the earlier form:")
+    words = [bytes(4)] * 6000 + [(1).to_bytes(4, "big")]
+    reel = reels.make_reel(2000, 6001, 2, [reels.make_trace(words)])
+    record = record_of(command, folder, reel)
+    single = record[:3450] + (6 * 6001).to_bytes(2, "big") + record[3452:39452] + record[39455:]
+    assert shown_trace(new, record) == [3266, 3269, 3449, 3452, 39452, 39455, 39461]
+    assert shown_trace(earlier, single) == [3266, 3269, 3449, 3452, 39452, 39458]
+    assert (record[39461], single[39458]) == (5, 5)
+    assert read_record(single) == read_record(record) == read_reel(reel)
+    (folder / "held").write_bytes(single)
+    run(command, "write", "--force", folder / "held", 2, folder / "again")
+    assert read_reel((folder / "again").read_bytes()) == read_reel(reel)
+
+
 def check_long(command, folder, rnd):
     """Long traces: the command's record of a reel; and the same record with some traces of the earlier form, written, read and listed."""
     for code, n, t in ((8, 5999, 1), (3, 6000, 2), (2, 6001, 2), (4, 8001, 1), (5, 12001, 1), (8, 32767, 1)):
@@ -239,6 +267,7 @@ def main():
         check_page(command, folder)
         check_scalars(command, folder, random.Random(69))
         check_eagle(command, folder, random.Random(960))
+        check_forms(command, folder)
         check_long(command, folder, random.Random(6000))
         reel = sample.SAMPLE.read_bytes()
         meant = sample_meaning()
