@@ -62,7 +62,7 @@ fn measure(
     not_normal: bool,
     all: &[Held; SAMPLES.len()],
     runs: usize,
-) -> [Row; CONTENDERS.len()] {
+) -> Vec<Row> {
     let (mut inputs, outputs): (Vec<_>, Vec<_>) = match what {
         Call::Read => all.iter().map(|held| (&held.reel, &held.record)).unzip(),
         _ => all.iter().map(|held| (&held.record, &held.reel)).unzip(),
@@ -74,14 +74,13 @@ fn measure(
     }
     let room = outputs.iter().map(|output| output.len()).max();
     let mut out = vec![1; room.expect("a reel of each N")];
-    let best = in_turns(runs, CONTENDERS.len() * inputs.len(), |_, turn| {
-        let who = CONTENDERS[turn % CONTENDERS.len()];
-        timed(who, what, code, inputs[turn / CONTENDERS.len()], &mut out)
+    let count = inputs.len();
+    let best = in_turns(runs, CONTENDERS.len() * count, |_, turn| {
+        let who = CONTENDERS[turn / count];
+        timed(who, what, code, inputs[turn % count], &mut out)
     });
-    let mut k = 0;
-    CONTENDERS.map(|who| {
-        let mut seconds = best.iter().skip(k).step_by(CONTENDERS.len());
-        k += 1;
+    let row = |(who, seconds): (Who, &[f64])| {
+        let mut seconds = seconds.iter();
         let mut speed = |held: &Held| held.count / seconds.next().expect("a turn of each");
         Row {
             call: what,
@@ -95,7 +94,9 @@ fn measure(
                 _ => None,
             }),
         }
-    })
+    };
+    let bests = best.chunks_exact(count);
+    CONTENDERS.into_iter().zip(bests).map(row).collect()
 }
 
 impl Held {

@@ -1,7 +1,8 @@
 //! The library's passes in plain Rust, tuned by what measured faster: signed numbers in place of
 //! sign and magnitude, no branch on a sign, and no test for a canonical pair in the second pass, for
 //! which the first has looked. IBM words, and IEEE words for their exponents, are looked at with their first
-//! byte lowest. A group of a trace header is raised by tables, without a loop.
+//! byte lowest. A group of a trace header is raised by tables, without a loop. The loops that read samples and
+//! that look at pairs are functions of their own: within the loop over a trace's fields a register is wanting.
 
 use crate::passes::{self, Steps, NOT_CANONICAL, PAIR_BYTES, UNFIT};
 use crate::passes::{COORDINATES, COORDINATE_SCALAR, ELEVATIONS, ELEVATION_SCALAR};
@@ -78,7 +79,7 @@ impl Steps for Tuned {
             .into()
     }
 
-    #[inline(always)]
+    #[inline(never)]
     fn put_pairs(code: u32, words: &[u8], pairs: &mut [u8]) {
         match code {
             1 => put_pairs(words, pairs, ibm),
@@ -90,7 +91,7 @@ impl Steps for Tuned {
         }
     }
 
-    #[inline(always)]
+    #[inline(never)]
     fn check_pairs(code: u32, pairs: &[u8]) -> Result<(), (u64, usize)> {
         match code {
             1 => check_pairs(pairs, Pair::ibm_word),

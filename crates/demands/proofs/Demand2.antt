@@ -34,15 +34,14 @@ use Rattle.numbers.specs.Terms.{Bytes}
 use Rattle.numbers.specs.Iff.{Iff}
 use Rattle.formats.specs.Codes.{sampleBytes}
 use Rattle.reel.specs.Meaning.{meaningOf}
-use Rattle.fields.specs.Fields.{fieldsIn}
-use Rattle.record.specs.Record.{recordOf, recordLength}
+use Rattle.record.specs.Record.{recordOf}
 use Rattle.record.specs.Form.{heldInterval, heldSamples, heldCount, formCauses}
 use Rattle.record.specs.Held.{heldBy, IsNewest, renewed}
 use Rattle.read_reel.specs.Reading.{readOutcome}
 use Rattle.write_reel.specs.Reel.{reelOf, reelLength}
 use Rattle.write_reel.specs.Writing.{writeEnd, writeOutcome}
 use Rattle.reel_theorems.proofs.Same.{record-size}
-use Rattle.reel_theorems.proofs.Output.{taken-reel, taken-outcome, taken-numbers, output-record}
+use Rattle.reel_theorems.proofs.Output.{taken-reel, taken-outcome, taken-numbers, output-record, taken-length}
 use Rattle.demands.proofs.ProperLaws.{held-proper}
 use Rattle.demands.proofs.Again.{held-again}
 use Rattle.demands.proofs.Fitting.{fit-is}
@@ -59,11 +58,6 @@ same-numbers e = (cc, cc, cc)
 same-four : {t n l c t₂ n₂ l₂ c₂ : ℕ} → taken (t ∷ n ∷ l ∷ c ∷ []) ≡ taken (t₂ ∷ n₂ ∷ l₂ ∷ c₂ ∷ []) → (t ≡ t₂) × (n ≡ n₂) × (l ≡ l₂) × (c ≡ c₂)
 same-four e = (cc, cc, cc, cc)
 
--- The length of a record of T traces of N samples, its fields counted.
-lengths : {t n t₂ n₂ : ℕ} → t ≡ t₂ → n ≡ n₂ → recordLength t n ≡ 3273 + t₂ * (183 + (3 * ((n₂ + 5999) / 6000) + n₂ * 6))
-unfolding fieldsIn
-lengths p q = ap₂ (λ (x y : ℕ). 3273 + x * (183 + (3 * ((y + 5999) / 6000) + y * 6))) p q
-
 -- THEOREM. "A reel becomes the record that SEG-Y revision 0 and the IBM floating point word define, as document 01 condenses them."
 -- Rules out a reader that gives one fixed record, one that writes nothing and says taken, one that converts the first trace and copies it
 -- for the rest, and one whose T or length is invented; two's complement for the IBM fraction, keeping minus zero, and filling field 115 only
@@ -71,17 +65,18 @@ lengths p q = ap₂ (λ (x y : ℕ). 3273 + x * (183 + (3 * ((y + 5999) / 6000) 
 pub reading : (s out : List ℕ) (t n l c : ℕ) → Bytes s → readOutcome s out .said ≡ taken (t ∷ n ∷ l ∷ c ∷ []) → RecordRead s out t n l c
 reading s out t n l c b e =
     let k = same-four (sym e ∙ taken-numbers s out (t ∷ n ∷ l ∷ c ∷ []) e) in
-    let whole : length (recordOf (meaningOf s)) ≡ l = record-size s b (taken-reel s out (t ∷ n ∷ l ∷ c ∷ []) e) ∙ sym (k .2) in
+    let is = taken-length s out t n l c e in
+    let whole : length (recordOf (meaningOf s)) ≡ l = record-size s b (taken-reel s out (t ∷ n ∷ l ∷ c ∷ []) e) ∙ is in
     record {
       traces = k .0;
       samples = k .1;
-      size = k .2 ∙ lengths (sym (k .0)) (sym (k .1));
+      size = k .2 ∙ ap₂ (λ (x y : ℕ). 3273 + x * (183 + (3 * ((y + 5999) / 6000) + y * 6))) (sym (k .0)) (sym (k .1));
       count = k .3;
       content = output-record s out t n l c b e;
       whole = whole;
       rest =
           ap (λ (o : Outcome). drop l (o .bytes)) (taken-outcome s out (t ∷ n ∷ l ∷ c ∷ []) e)
-          ∙ drop-at (recordOf (meaningOf s)) _ l whole ∙ ap (λ (x : ℕ). drop x out) (sym (k .2));
+          ∙ drop-at (recordOf (meaningOf s)) _ l whole ∙ ap (λ (x : ℕ). drop x out) is;
     }
 
 -- ## A record becomes a reel

@@ -4,8 +4,8 @@
 -- as the length returned." Demand 2: "A reel becomes the record that SEG-Y revision 0 and the IBM floating point word define, as document
 -- 01 condenses them."
 --
--- - `read-valid`: where reading a reel is taken, the record in the output is valid, it holds what the reel means, and its T and N are those
---   returned.
+-- - `read-valid`: where reading a reel is taken, the record in the output is valid and in the newest form, it holds what the reel means, and
+--   its T and N are those returned.
 -- - `valid-is`: valid means that neither 12 nor 13 applies, and this spells it out, tag by tag.
 -- - `held-same`: two valid records in the newest form that hold the same are equal byte for byte.
 -- - `held-record`: a valid record in the newest form is the record of what it holds.
@@ -56,7 +56,7 @@ meant s b f =
     }
 
 -- THEOREM. "A reel becomes the record that SEG-Y revision 0 and the IBM floating point word define": every record that reading gives is
--- valid and holds what the reel means.
+-- valid, in the newest form (document 02, CR 8), and holds what the reel means.
 -- Rules out a reader that gives one fixed record, one that writes nothing and says taken, one that converts the first trace and copies it
 -- for the rest, and one whose T or length is invented; two's complement for the IBM fraction, keeping minus zero, and filling field 115
 -- only for the first trace.

@@ -66,7 +66,7 @@ module _ (s : List ℕ) where
       ∙ fine-then (header-test s k) f (fine-then (scalar-test s k elevationFields elevationScalar) e (refused-then (scalar-test s k coordinateFields coordinateScalar) _ h)))
   from-row (bad-held-115 k t f h) = from-trace k t (behind-scalars s k f (refused-then (count-test s k) _ h))
   from-row (bad-held-117 k t f c h) = from-trace k t (behind-scalars s k f (fine-then (count-test s k) c (refused-then (spacing-test s k) _ h)))
-  from-row (FormRow.no-field k f t h l fs ps nf) = from-trace k t (behind-header s k h (samples.is-row tag04 s (heldSamples s) (tracePlace s k + 183) _ _ (samples.no-field f l fs ps nf)))
+  from-row (FormRow.no-sample-field k f t h l fs ps nf) = from-trace k t (behind-header s k h (samples.is-row tag04 s (heldSamples s) (tracePlace s k + 183) _ _ (samples.no-field f l fs ps nf)))
   from-row (FormRow.bad-pair k j t h l fs ps np) = from-trace k t (behind-header s k h (samples.is-row tag04 s (heldSamples s) (tracePlace s k + 183) _ _ (samples.bad-pair j l fs ps np)))
   from-row (no-end t e h) = from-end t e (refused-then (end-test s t) _ h)
   from-row (bad-count t e f h) = from-end t e (fine-then (end-test s t) f (refused-then (total-test s t) _ h))
@@ -103,7 +103,7 @@ module _ (s : List ℕ) {n p : ℕ} where
   to-samples k t h e = row (samples.row-is tag04 s (heldSamples s) (tracePlace s k + 183) n p e)
     where
       row : {n p : ℕ} → samples.Row tag04 s (heldSamples s) (tracePlace s k + 183) n p → FormRow s n p
-      row (samples.no-field f l fs ps nf) = FormRow.no-field k f t h l fs ps nf
+      row (samples.no-field f l fs ps nf) = FormRow.no-sample-field k f t h l fs ps nf
       row (samples.bad-pair j l fs ps np) = FormRow.bad-pair k j t h l fs ps np
 
   -- What is refused in trace k has its row, where all is right up to it.

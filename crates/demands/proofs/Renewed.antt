@@ -1,11 +1,11 @@
 -- # A record, renewed
 --
 -- Document 02 (CR 8): "wherever a written record is said to come back, an earlier one comes back in that form." `renewed` is that form: the
--- record of what a valid record holds. It is valid, in the newest form and never shorter, and it holds the same; that a record in the
+-- record of what a valid record holds. It is valid and in the newest form, has three bytes more for each earlier trace, and holds the same; that a record in the
 -- newest form is renewed to itself is `held-record`, in `Determined`. Each byte of a record is below 256; nothing else is assumed.
 use mathlib.Core.Path.{_≡_, sym, ap, _∙_}
 use mathlib.Core.List.{List}
-use Prim.Native.Nat.{ℕ, _≤_}
+use Prim.Native.Nat.{ℕ, _+_, _*_, _/_}
 use native.Mathlib.Omega.{arith}
 use lib.ListN.{length}
 use Rattle.numbers.specs.Iff.{Iff}
@@ -15,8 +15,9 @@ use Rattle.numbers.proofs.WalkLaws.{size-walk}
 use Rattle.record.specs.Kind.{tag04}
 use Rattle.record.specs.Record.{recordOf, recordLength}
 use Rattle.record.specs.Form.{heldSamples, heldInterval, tracePlace, heldCount, formCauses}
-use Rattle.record.specs.Held.{heldTraceIn, heldByIn, heldBy, IsNewest, renewed}
-use Rattle.record.proofs.FormLaws.{place-most, held-length}
+use Rattle.fields.specs.Fields.{fieldsIn}
+use Rattle.record.specs.Held.{heldTraceIn, heldByIn, heldBy, IsNewest, earlierTraces, renewed}
+use Rattle.record.proofs.FormLaws.{place-earlier, held-length}
 use Rattle.demands.proofs.RecordBack.{record-length, record-bytes, record-samples, record-traces, record-no-cause, record-newest, record-again}
 use Rattle.demands.proofs.ProperLaws.{held-proper}
 
@@ -49,15 +50,17 @@ module _ (r : List ℕ) (b : Bytes r) (e : formCauses r ≡ Fine) where
   renewed-traces =
       ap (heldCount (renewed r)) renewed-samples ∙ record-traces (heldSamples r) (heldInterval r) (heldBy r) (held-proper r b e) ∙ held-count r
 
-  -- THEOREM. and its length is that of its T and N,
-  pub renewed-length : length (renewed r) ≡ recordLength (heldCount r (heldSamples r)) (heldSamples r)
+  -- THEOREM. and its length is that of a record of T traces of N samples,
+  pub renewed-length : let n = heldSamples r in length (renewed r) ≡ 3273 + heldCount r n * (183 + (3 * ((n + 5999) / 6000) + n * 6))
+  unfolding fieldsIn
   renewed-length =
       record-length (heldSamples r) (heldInterval r) (heldBy r) (held-proper r b e) ∙ ap (λ (t : ℕ). recordLength t (heldSamples r)) (held-count r)
 
-  -- never shorter than before: an earlier single field has one tag and length, and its samples in fields of 6,000 have two.
-  pub renewed-longer : length r ≤ length (renewed r)
+  -- THEOREM. three bytes more for each trace that had the earlier single field: its samples have two tags and lengths in place of one.
+  pub renewed-longer : length (renewed r) ≡ length r + 3 * earlierTraces r
+  unfolding fieldsIn
   renewed-longer =
-      omega (arith, held-length tag04 r e, renewed-length, place-most tag04 r (heldSamples r) (heldCount r (heldSamples r)) (held-proper r b e .n-low))
+      omega (arith, held-length tag04 r e, renewed-length, place-earlier r (heldSamples r) (heldCount r (heldSamples r)))
 
 -- THEOREM. The newest form is one function of what a record holds: two valid records are renewed to the same bytes exactly when they hold the
 -- same.

@@ -41,7 +41,7 @@ pub data ReadRow (s : List ℕ) (room : ℕ) : ℕ → ℕ → Type 0 where
 -- bytes after it (place of the first). Number 13: a card byte 00, a format code other than 0, N or an interval outside its limits, trace
 -- fields 115 or 117 unlike the reel's, a pair that isn't canonical; the place is its first byte, and in tag 02 the order is interval, N,
 -- code." And document 02 (CR 2): "A record with any scalar but that of this smallest power, an earlier record too, is refused by 13 at that
--- scalar; in tag 03 the order is 69, 71, 115, 117." Traces k and pairs j are counted from 0.
+-- scalar; in tag 03 the order is 69, 71, 115, 117." Traces k, sample fields f and pairs j are counted from 0.
 pub data FormRow (s : List ℕ) : ℕ → ℕ → Type 0 where
   -- 12: tag 01 doesn't stand at the front, whole and with its 3,200 bytes
   no-cards : ¬ (Stands s 1 3200 0) → FormRow s 12 0
@@ -74,7 +74,7 @@ pub data FormRow (s : List ℕ) : ℕ → ℕ → Type 0 where
       → ¬ (number16 s (headerPlace s k 117) ≡ heldInterval s)
       → FormRow s 13 (headerPlace s k 117)
   -- 12: sample field f of trace k doesn't stand, whole and with its pairs; those before it do, and their pairs are canonical
-  no-field : (k f : ℕ) → TraceNext s k → HeaderRight s k → f < fieldsIn (shareOf s k) (heldSamples s) → ((g : ℕ) → g < f → FieldRight s k g)
+  no-sample-field : (k f : ℕ) → TraceNext s k → HeaderRight s k → f < fieldsIn (shareOf s k) (heldSamples s) → ((g : ℕ) → g < f → FieldRight s k g)
       → ((j : ℕ) → j < f * shareOf s k → CanonicalAt s (pairPlace s k j)) → ¬ (FieldRight s k f)
       → FormRow s 12 (fieldPlace s k f)
   -- 13: pair j of it isn't canonical, the first such; its field and those before it stand

@@ -3,10 +3,11 @@
 use mathlib.Core.Path.{_≡_}
 use mathlib.Core.List.{List, map}
 use mathlib.Core.Logic.{_⊎_}
-use mathlib.Core.Bool.{true}
+use mathlib.Core.Bool.{true, _&&_}
 use Prim.Native.Nat.{ℕ, _+_, _*_, _≤_, _<_}
 use lib.ListN.{length, getD}
-use Rattle.numbers.specs.Walk.{bytesAt}
+use lib.Dec.{ltb, leb, eqb}
+use Rattle.numbers.specs.Walk.{pick, bytesAt}
 use Rattle.numbers.specs.Places.{bytePlace}
 use Rattle.numbers.specs.BigEndian.{number}
 use Rattle.numbers.specs.Terms.{Between}
@@ -16,9 +17,8 @@ use Rattle.reel.specs.Layout.{Field, elevationScalar, coordinateScalar, fieldNu
 use Rattle.reel.specs.Meaning.{elevationFields, coordinateFields}
 use Rattle.fields.specs.Fields as fields
 use Rattle.fields.specs.Fields.{fieldsIn, fieldCount}
-use Rattle.record.specs.Kind.{tag04}
 use Rattle.record.specs.Form as form
-use Rattle.record.specs.Form.{heldInterval, heldSamples, heldCode, shareIn}
+use Rattle.record.specs.Form.{heldInterval, heldSamples, heldCode}
 
 -- ## Places
 
@@ -45,10 +45,12 @@ headerStart s k = tracePlace s k + 3
 abbrev pub headerPlace : List ℕ → ℕ → ℕ → ℕ
 headerPlace s k b = bytePlace (headerStart s k) b
 
--- The samples of each sample field of trace k but the last: all N where it has the earlier single field of 6,001 to 8,000 samples, else
--- 6,000. Its first sample field stands 183 bytes on, behind the 3 + 180 bytes of tag 03.
+-- The samples of each sample field of trace k but the last: all N where it has the earlier single field of 6,001 to 8,000 samples, which the
+-- length behind its first tag 04 says, else 6,000. That tag stands 183 bytes on, behind the 3 + 180 bytes of tag 03.
 abbrev pub shareOf : List ℕ → ℕ → ℕ
-shareOf s k = shareIn tag04 s (heldSamples s) (tracePlace s k + 183)
+shareOf s k =
+    let n = heldSamples s in
+    pick ((ltb 6000 n && leb n 8000) && eqb (number16 s (tracePlace s k + 183 + 1)) (n * 6)) n 6000
 
 -- The place of its sample field f, and of its pair j, both counted from 0.
 abbrev pub fieldPlace : List ℕ → ℕ → ℕ → ℕ

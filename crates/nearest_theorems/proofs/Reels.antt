@@ -29,6 +29,7 @@ use Rattle.reel.specs.Meaning.{Trace, traceMeaning, Meaning, meaningBy, meaning
 use Rattle.reel.specs.NotNormal.{notNormalOf}
 use Rattle.record.specs.Record.{recordOf, reelRecord, recordLength}
 use Rattle.fields.proofs.FieldsLaws.{step-is}
+use Rattle.fields.specs.Fields.{fieldsIn}
 use Rattle.record.specs.Kind.{tag04}
 use Rattle.record.specs.Form.{heldInterval, heldSamples, heldCount, formCauses}
 use Rattle.record.specs.Held.{heldValuesIn, heldTraceIn, heldByIn, heldBy, IsNewest, renewed}
@@ -131,6 +132,7 @@ module _ (s : List ℕ) (b : Bytes s) (code : ℕ) (c : isCode code ≡ true) (v
 
   -- The record is as long as the record s, renewed.
   size : length (renewed s) ≡ recordLength t n
+  unfolding fieldsIn
   size = renewed-length s b v
 
   nearest-length : length (recordOf meant) ≡ length (renewed s)

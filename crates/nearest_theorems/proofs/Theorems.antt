@@ -19,7 +19,8 @@
 -- - `count-zero`: it is 0 exactly when exact writing of the same record is taken; `zero-same`: then both leave the same bytes.
 -- - `exact-is-nearest`: whenever exact writing is taken, nearest writing is, with the count 0 and the same output.
 -- - `nearest-read`: the reel is read without refusal, and its record is valid and holds what the record held, each sample the nearest.
--- - `nearest-back`: where the count is 0, reading the reel gives the record again; `back-only`: it does so in no other case.
+-- - `nearest-back`: where the count is 0, reading the reel gives the record again, an earlier one in the newest form (`newest-nearest-back`: one
+--   in that form itself); `back-only`: it does so in no other case.
 -- - `nearest-twice`: writing to the nearest once more, under the same code, what was so written and read gives the count 0 and the same reel.
 -- - `nearest-same`: a record in the earlier form gives the same reel as in the newest (document 02, CR 8). What is said to come back comes back
 --   in the newest form, `renewed`.
@@ -48,7 +49,7 @@ use Rattle.formats.specs.Codes.{isCode, sampleBytes}
 use Rattle.reel.specs.Meaning.{Meaning}
 use Rattle.record.specs.Record.{recordOf}
 use Rattle.record.specs.Form.{heldSamples, heldCount, formCauses}
-use Rattle.record.specs.Held.{heldBy, renewed}
+use Rattle.record.specs.Held.{heldBy, IsNewest, renewed}
 use Rattle.demands.proofs.Renewed.{renewed-valid, renewed-holds, renewed-samples, renewed-traces}
 use Rattle.read_reel.specs.Reading.{readOutcome}
 use Rattle.write_reel.specs.Reel.{reelOf, reelLength}
@@ -58,7 +59,7 @@ use Rattle.write_reel.specs.Nearest.{nearestMeaning, meaningChanges, nearestNum
 use Rattle.demands.specs.NotNormal.{countSaid}
 use Rattle.demands.proofs.Fitting.{Fitting, fit-is}
 use Rattle.demands.proofs.Taken.{Writable, written-needs, write-taken}
-use Rattle.demands.proofs.Demand2.{read-back}
+use Rattle.demands.proofs.Demand2.{read-back, newest-back}
 use Rattle.nearest_theorems.specs.NearestTable.{NearestRow}
 use Rattle.nearest_theorems.specs.Results.{NearestWritten, SamplesNearest, NearestRead}
 use Rattle.nearest_theorems.proofs.Refusals.{exact-nearest, row-number}
@@ -269,6 +270,13 @@ module _ (s : List ℕ) (code : ℕ) (out : List ℕ) where
       → readOutcome (take l (nearestOutcome s code out .bytes)) out₂ ≡ record { said = taken (t ∷ n ∷ length (renewed s) ∷ 0 ∷ []); bytes = renewed s ++ drop (length (renewed s)) out₂ }
   nearest-back out₂ t n l b e h =
       ap (λ (x : List ℕ). readOutcome (take l x) out₂) (zero-same t n l e) ∙ read-back s code out out₂ t n l b (count-zero t n l 0 e .0 refl) h
+
+  -- THEOREM. So a record in the newest form comes back itself, "unchanged when the count is 0".
+  -- Rules out what `nearest-back` does.
+  pub newest-nearest-back : (out₂ : List ℕ) (t n l : ℕ) → Bytes s → IsNewest s → nearestOutcome s code out .said ≡ taken (t ∷ n ∷ l ∷ 0 ∷ []) → length s ≤ length out₂
+      → readOutcome (take l (nearestOutcome s code out .bytes)) out₂ ≡ record { said = taken (t ∷ n ∷ length s ∷ 0 ∷ []); bytes = s ++ drop (length s) out₂ }
+  newest-nearest-back out₂ t n l b new e h =
+      ap (λ (x : List ℕ). readOutcome (take l x) out₂) (zero-same t n l e) ∙ newest-back s code out out₂ t n l b new (count-zero t n l 0 e .0 refl) h
 
   -- THEOREM. It comes back unchanged in no other case.
   -- Rules out a count above 0 where no sample changed.

@@ -33,6 +33,7 @@ use Rattle.record.specs.Form.{isField, fieldCause, cardCause, cardsCause
 use Rattle.record.specs.declared.Judged.the-variants as judged
 use Rattle.record.specs.declared.Target.{Target}
 use Rattle.record.specs.declared.Target.the-variants.{None}
+use Rattle.record.specs.Held.{earlierCountIn}
 use Rattle.record.specs.Parts.{pairsBy, fieldBy, fieldsBy, traceBy, formFrom}
 
 -- ## Fields
@@ -221,19 +222,27 @@ unfolding tracePlaceIn behindTraceIn
 place-holds s n zero = omega (arith, zero-mul n)
 place-holds s n (suc t) = omega (arith, suc-mul t n, place-holds s n t)
 
--- and no trace has more bytes than one in fields of 6,000
-stride-most : (k : Kind) (s : List ℕ) (n at : ℕ) → 0 < n → heldStrideIn k s n at ≤ traceLengthIn k n
-stride-most k s n at some = go (isEarlierIn k s n (at + 183))
+-- a trace in the earlier form has three bytes less than one in fields of 6,000: one tag and length in place of two
+stride-earlier : (s : List ℕ) (n at : ℕ) → heldStrideIn tag04 s n at + 3 * pick (isEarlierIn tag04 s n (at + 183)) 1 0 ≡ traceLengthIn tag04 n
+stride-earlier s n at = go (ltb 6000 n) refl (leb n 8000) refl (eqb (number16 s (at + 183 + 1)) (n * 6))
   where
-    go : (b : Bool) → 183 + fieldsLength (k .width) (pick b n fieldSamples) n ≤ 183 + fieldsLength (k .width) fieldSamples n
-    go true = omega (arith, fields-one n some n some (omega arith), needs-more fieldSamples (omega arith) n some)
-    go false = omega arith
+    two : 6000 < n → n ≤ 8000 → fieldsIn 6000 n ≡ 2
+    two l m = needs-more 6000 (omega arith) n (omega arith) ∙ ap suc (fields-one 6000 (omega arith) (n - 6000) (omega arith) (omega arith))
 
-pub place-most : (k : Kind) (s : List ℕ) (n t : ℕ) → 0 < n → tracePlaceIn k s n t ≤ tracesPlace + t * traceLengthIn k n
-unfolding tracePlaceIn behindTraceIn
-place-most k s n zero some = omega (arith, zero-mul (traceLengthIn k n))
-place-most k s n (suc t) some =
-    omega (arith, suc-mul t (traceLengthIn k n), place-most k s n t some, stride-most k s n (tracePlaceIn k s n t) some)
+    go : (a : Bool) → ltb 6000 n ≡ a → (b : Bool) → leb n 8000 ≡ b → (c : Bool) → 183 + fieldsLength 6 (pick ((a && b) && c) n 6000) n + 3 * pick ((a && b) && c) 1 0 ≡ 183 + fieldsLength 6 6000 n
+    go true p true q true =
+        let l = ltb-true 6000 n p in
+        omega (arith, fields-one n (omega arith) n (omega arith) (omega arith), two l (leb-true n 8000 q))
+    go true p true q false = omega arith
+    go true p false q c = omega arith
+    go false p b q c = omega arith
+
+-- so t traces have three bytes less for each of them
+pub place-earlier : (s : List ℕ) (n t : ℕ) → tracePlaceIn tag04 s n t + 3 * earlierCountIn tag04 s n t ≡ tracesPlace + t * traceLengthIn tag04 n
+unfolding tracePlaceIn behindTraceIn earlierCountIn
+place-earlier s n zero = omega (arith, zero-mul (traceLengthIn tag04 n))
+place-earlier s n (suc t) =
+    omega (arith, suc-mul t (traceLengthIn tag04 n), place-earlier s n t, stride-earlier s n (tracePlaceIn tag04 s n t))
 
 -- no more traces are counted than may be
 pub count-most : (k : Kind) (s : List ℕ) (n : ℕ) → heldCountIn k s n ≤ mostTraces

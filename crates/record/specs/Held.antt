@@ -1,10 +1,10 @@
 -- What a record holds: its meaning, from the record's bytes, whatever the form of each trace.
-use Prim.Native.Nat.{ℕ, _+_, _<_}
+use Prim.Native.Nat.{ℕ, zero, suc, _+_, _<_}
 use mathlib.Core.Path.{_≡_}
 use mathlib.Core.Bool.{false}
 use mathlib.Core.List.{List, map}
 use lib.IntN.{ℤ}
-use Rattle.numbers.specs.Walk.{bytesAt}
+use Rattle.numbers.specs.Walk.{pick, bytesAt}
 use Rattle.fields.specs.Fields.{each, pairPlace}
 use Rattle.reel.specs.Layout.{cardBytes, binaryFields, fieldNumber}
 use Rattle.reel.specs.Meaning.{otherThan, headerOf, Trace, Meaning}
@@ -39,6 +39,11 @@ module _ (k : Kind) where
   abbrev pub IsNewestIn : List ℕ → Type 0
   IsNewestIn s = (t : ℕ) → t < heldCountIn k s (heldSamples s) → isEarlierIn k s (heldSamples s) (tracePlaceIn k s (heldSamples s) t + toSamples) ≡ false
 
+  -- How many of the first t traces have it.
+  unfoldable pub earlierCountIn : List ℕ → ℕ → ℕ → ℕ
+  earlierCountIn s n zero = 0
+  earlierCountIn s n (suc t) = earlierCountIn s n t + pick (isEarlierIn k s n (tracePlaceIn k s n t + toSamples)) 1 0
+
 -- Of a record.
 abbrev pub heldValue : List ℕ → ℕ → ℤ
 heldValue s at = heldValueIn tag04 s at
@@ -48,6 +53,10 @@ heldBy s = heldByIn tag04 s
 
 abbrev pub IsNewest : List ℕ → Type 0
 IsNewest s = IsNewestIn tag04 s
+
+-- How many traces of a record have the earlier single field.
+abbrev pub earlierTraces : List ℕ → ℕ
+earlierTraces s = earlierCountIn tag04 s (heldSamples s) (heldCountIn tag04 s (heldSamples s))
 
 -- The record of what a record holds, in the newest form: "wherever a written record is said to come back, an earlier one comes back in that
 -- form" (document 02, CR 8).

@@ -14,7 +14,8 @@ use Rattle.record.specs.declared.Target.the-variants.{None, Code}
 use Rattle.record.specs.Kind.{tag04}
 use Rattle.record.specs.Form.{fieldHead, toSamples, fieldCause, headerCauses, pairCauseIn, shareIn, traceFormIn, behindTraceIn, endCauses}
 
--- 13 against the first of n pairs from a place on that isn't canonical; under a target code also 14 against the first that doesn't fit.
+-- 13 against the first of n pairs from a place on that isn't canonical; under a target code 13 or 14 against the first that has one, and 11
+-- where the code is none (`samplesChecked`).
 unfoldable pub pairsBy : Target → List ℕ → ℕ → ℕ → Check
 pairsBy None s n at = firstOf (walk (pairCauseIn tag04 s) pairLength n at)
 pairsBy (Code code) s n at = samplesChecked s code n at

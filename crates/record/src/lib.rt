@@ -1,4 +1,4 @@
-// The form of a record: the causes 12 and 13 against any bytes that are lent as one.
+// The form of a record: the causes 12 and 13 against any bytes that are lent as one; under a target code 14 as well, trace by trace.
 ghost use mathlib.Core.Path.{_≡_};
 ghost use mathlib.Core.Bool.{not, _&&_};
 ghost use Prim.Native.Nat.{_+_, _-_, _*_, _^_, _≤_, _<_};
@@ -77,7 +77,7 @@ fn ends_within(bytes: usize, size: usize, at: usize) -> bool
 }
 
 // 12: whether a field of this tag and length stands whole at a place.
-pub fn check_field(record: &[u8], tag: u8, size: usize, place: Place) -> Check
+fn check_field(record: &[u8], tag: u8, size: usize, place: Place) -> Check
     ensures { λ r. ⌜ r ≡ fieldCause (now («record» .entry)) tag size (placeNo place) ⌝ }
 {
     let at = place.0;
@@ -229,7 +229,7 @@ fn check_like(record: &[u8], start: usize, b: ByteNo, own: u16) -> Check
 }
 
 // 12 and 13 of a trace's header, whose tag 03 should stand at a place.
-pub fn check_header(record: &[u8], n: u16, i: u16, at: Place) -> Check
+fn check_header(record: &[u8], n: u16, i: u16, at: Place) -> Check
     ensures { λ r. ⌜ r ≡ headerCauses (now («record» .entry)) n i (placeNo at) ⌝ }
 {
     let p = at.0;
@@ -277,7 +277,8 @@ pub fn stride_at(record: &[u8], n: u16, at: Place) -> usize
     183 + (3 * ((m + (c - 1)) / c) + m * 6)
 }
 
-// 13 against the first of n pairs from a place on that isn't canonical; under a target code also 14 against the first that doesn't fit.
+// 13 against the first of n pairs from a place on that isn't canonical; under a target code 13 or 14 against the first that has one, and 11
+// where the code is none.
 fn check_pairs(record: &[u8], target: Target, n: usize, at: usize) -> Check
     requires { ⌜ at + n * 6 ≤ length (now «record») ⌝ }
     ensures { λ r. ⌜ r ≡ pairsBy target (now («record» .entry)) n at ⌝ }

@@ -6,9 +6,10 @@
 -- reels mean the same. Each byte of a reel is below 256; nothing else is assumed.
 use mathlib.Core.Path.{_≡_, refl, sym, ap, _∙_}
 use mathlib.Core.List.{List, [], _∷_}
-use Prim.Native.Nat.{ℕ}
+use Prim.Native.Nat.{ℕ, _+_, _*_, _/_}
 use lib.ListN.{length, take, drop}
 use lib.Seq.{take-at}
+use Rattle.fields.specs.Fields.{fieldsIn}
 use Rattle.numbers.specs.Outcome.{taken, Outcome}
 use Rattle.numbers.specs.declared.Check.{Check}
 use Rattle.numbers.specs.declared.Check.the-variants.{Fine}
@@ -37,16 +38,18 @@ taken-reel s out numbers e = then-fine (causesOf s) _ (taken-fine s out numbers 
 pub taken-outcome : (s out numbers : List ℕ) → readOutcome s out .said ≡ taken numbers → readOutcome s out ≡ readEnd s out Fine
 taken-outcome s out numbers e = ap (readEnd s out) (taken-fine s out numbers e)
 
--- THEOREM. Where the reading of a reel is taken, the numbers returned are T, N, the length of its record and how many words of the reel are
--- not normal.
+-- THEOREM. Where the reading of a reel is taken, the numbers returned are T, N, 3273 + T × (183 + 3F + 6N), with F fields of samples a trace,
+-- and how many words of the reel are not normal.
 pub taken-numbers : (s out numbers : List ℕ) → readOutcome s out .said ≡ taken numbers
-    → readOutcome s out .said ≡ taken (tracesOf s ∷ samplesOf s ∷ recordLengthOf s ∷ notNormalOf s ∷ [])
+    → readOutcome s out .said
+    ≡ taken (tracesOf s ∷ samplesOf s ∷ (3273 + tracesOf s * (183 + (3 * ((samplesOf s + 5999) / 6000) + samplesOf s * 6))) ∷ notNormalOf s ∷ [])
+unfolding fieldsIn
 taken-numbers s out numbers e = ap (λ (o : Outcome). o .said) (taken-outcome s out numbers e)
 
 -- the length returned is that of the reel's record
 pub taken-length : (s out : List ℕ) (t n l c : ℕ) → readOutcome s out .said ≡ taken (t ∷ n ∷ l ∷ c ∷ []) → recordLengthOf s ≡ l
 taken-length s out t n l c e =
-    let same : taken (readNumbers s) ≡ taken (t ∷ n ∷ l ∷ c ∷ []) = sym (taken-numbers s out (t ∷ n ∷ l ∷ c ∷ []) e) ∙ e in
+    let same : taken (readNumbers s) ≡ taken (t ∷ n ∷ l ∷ c ∷ []) = ap (λ (o : Outcome). o .said) (sym (taken-outcome s out (t ∷ n ∷ l ∷ c ∷ []) e)) ∙ e in
     cc
 
 -- THEOREM. Where the reading of a reel is taken, with T, N, a length and a count returned, the output's first bytes, as many as that length, are

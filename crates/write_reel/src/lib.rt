@@ -47,7 +47,7 @@ fn put_header(assigned: &[u8], out: &mut [u8])
     put_zeros(&mut out[k..e]);
 }
 
-// The samples of a trace, to the nearest where `near` is set, else exactly; and how many changed.
+// n samples whose pairs stand one behind the other, to the nearest where `near` is set, else exactly; and how many changed.
 fn put_samples(
     record: &[u8],
     near: bool,
@@ -66,7 +66,7 @@ fn put_samples(
     0
 }
 
-// The samples of a trace in fields of c, v bytes each on the reel; and how many changed.
+// The n samples of a trace, in fields of c in the record, v bytes a sample on the reel; and how many changed.
 fn put_fields(
     record: &[u8],
     near: bool,
