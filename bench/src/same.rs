@@ -1,6 +1,6 @@
 //! The library's own algorithm in plain Rust: its two passes, with its steps and its tests for each
 //! group of a trace header and for each sample, one for one, in nearest writing too. It is what the proved
-//! code would be if a Rust programmer had written it, and nothing in it was chosen by measuring but how far
+//! code would be if a Rust programmer had written it. Nothing in it was chosen by measuring but the loop over a trace's fields and how far
 //! it follows the library in code 1: there it takes a word's first byte before the bytes are swapped, as the
 //! library does.
 
