@@ -1,11 +1,16 @@
 -- What the C functions hand back: numbers in a structure, and what stands in the output.
 use Prim.Native.Nat.{ℕ}
 use mathlib.Core.List.{List, [], _∷_}
-use lib.IntN.{ℤ, pos}
+use lib.IntN.{ℤ, pos, negsuc}
 use Rattle.numbers.specs.Outcome.{Said, taken, refused, Outcome}
 use Rattle.look_up.specs.LookUp.{NumberOutcome}
+use Rattle.exact.specs.declared.Order.{Order}
+use Rattle.exact.specs.declared.Order.the-variants.{Less, Same, More}
+use Rattle.compare.specs.Answer as compared
+use Rattle.compare.specs.Answer.{Compared, ordered}
 use Rattle.aukpocket.specs.declared.ReelAnswer.{ReelAnswer}
 use Rattle.aukpocket.specs.declared.FieldAnswer.{FieldAnswer}
+use Rattle.aukpocket.specs.declared.OrderAnswer.{OrderAnswer}
 use Rattle.aukpocket.specs.declared.SampleAnswer.{SampleAnswer}
 
 -- What a call says, handed over in a structure; or lost, where it returns more or fewer values than the structure takes from that call. A
@@ -90,6 +95,18 @@ fieldAnswer (refused number beside) z = handed (record { number = number; value 
 
 abbrev pub fieldHanded : NumberOutcome → Handed FieldAnswer
 fieldHanded o = fieldAnswer (o .said) (o .value)
+
+-- An order in numbers: -1 where the first record is the lesser, 0 where they count as equal, 1 where the second is the lesser.
+abbrev pub orderNumber : Order → ℤ
+orderNumber Less = negsuc 0
+orderNumber Same = pos 0
+orderNumber More = pos 1
+
+-- What comparing two records says, in numbers: number 0 and the order where it is taken; else the number of the cause, which record has it, and
+-- what stands beside it. The other members are 0.
+abbrev pub orderAnswer : Compared → OrderAnswer
+orderAnswer (ordered o) = record { number = 0; order = orderNumber o; which = 0; beside = 0 }
+orderAnswer (compared.refused which number beside) = record { number = number; order = pos 0; which = which; beside = beside }
 
 -- What writing a pair says, in numbers: number 0 where it is taken; else the number of the cause and what stands beside it.
 abbrev pub sampleAnswer : Said → Handed SampleAnswer

@@ -12,9 +12,11 @@ ghost use Rattle.read_reel.specs.Reading.{readOutcome, readOutcomeBy};
 ghost use Rattle.write_reel.specs.Writing.{writeOutcome};
 ghost use Rattle.write_reel.specs.Nearest.{nearestOutcome};
 ghost use Rattle.look_up.specs.LookUp.{lookUpOutcome};
+ghost use Rattle.compare.specs.Answer.{compareOutcome};
 ghost use Rattle.code_page.specs.Page.{latin};
 ghost use Rattle.listing.specs.Calls as calls;
-ghost use Rattle.aukpocket.specs.Interface.{handed, takenAnswer, refusedAnswer, reelAnswer, reelIn, reelHanded, readAnswer, readHanded, nearestAnswer, nearestHanded, listingAnswer, listingHanded, fieldHanded, sampleAnswer, wordAnswer, sampleIn, sampleHanded, wordHanded};
+ghost use Rattle.aukpocket.specs.Interface.{handed, takenAnswer, refusedAnswer, reelAnswer, reelIn, reelHanded, readAnswer, readHanded, nearestAnswer, nearestHanded, listingAnswer, listingHanded, fieldHanded, orderNumber, orderAnswer, sampleAnswer, wordAnswer, sampleIn, sampleHanded, wordHanded};
+use exact::Order;
 use listing::Listed;
 use numbers::ByteNo;
 use numbers::Place;
@@ -41,6 +43,16 @@ pub struct ReelAnswer {
 pub struct FieldAnswer {
     pub number: u32,
     pub value: i32,
+    pub beside: u64,
+}
+
+// What comparing two records answers: -1 where the first is the lesser, 0 where they count as equal, 1 where the second is the lesser; or which
+// record is refused, 1 or 2, the number of the cause, and what stands beside it.
+#[repr(C)]
+pub struct OrderAnswer {
+    pub number: u32,
+    pub order: i32,
+    pub which: u64,
     pub beside: u64,
 }
 
@@ -215,6 +227,43 @@ pub extern "C" fn aukpocket_look_up(reel: &[u8], trace: usize, byte: u32) -> Fie
         look_up::Answer::Refused { number, place } => FieldAnswer {
             number: number as u32,
             value: 0,
+            beside: place.0 as u64,
+        },
+    }
+}
+
+// An order in numbers: -1, 0 or 1.
+fn order_number(order: Order) -> i32
+    ensures { λ r. ⌜ r ≡ orderNumber order ⌝ }
+{
+    match order {
+        Order::Less => -1,
+        Order::Same => 0,
+        Order::More => 1,
+    }
+}
+
+// Compares two records.
+#[no_mangle]
+pub extern "C" fn aukpocket_compare(first: &[u8], second: &[u8]) -> OrderAnswer
+    ensures { λ r. ⌜ r ≡ orderAnswer (compareOutcome (now (first .entry)) (now (second .entry))) ⌝ }
+{
+    let answer = compare::compare_records(first, second);
+    match answer {
+        compare::Answer::Ordered(order) => OrderAnswer {
+            number: 0,
+            order: order_number(order),
+            which: 0,
+            beside: 0,
+        },
+        compare::Answer::Refused {
+            which,
+            number,
+            place,
+        } => OrderAnswer {
+            number: number as u32,
+            order: 0,
+            which: which as u64,
             beside: place.0 as u64,
         },
     }

@@ -400,7 +400,7 @@ pub fn check_front(record: &[u8]) -> Check
 
 // The same, for which a card text that has no 00 is looked at by words of eight. What writes exactly goes without: with the words the
 // compiler has no register left for a constant of its loop over samples.
-fn judge_front(record: &[u8]) -> Check
+pub fn judge_front(record: &[u8]) -> Check
     ensures { λ r. ⌜ r ≡ then (cardsCauses (now («record» .entry))) (binaryCauses (now («record» .entry))) ⌝ }
 {
     let a = check_field(record, 1, 3200, Place(0));
