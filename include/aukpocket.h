@@ -94,6 +94,13 @@
  * one comes back in that form, with three bytes more for each trace that had a single field, and the output has to be long enough for it.
  * aukpocket_take_cards keeps the form of the record that it is lent.
  *
+ * Valid records have an order, that of their card bytes, taken as unsigned numbers; then of the 27 numbers of the binary header; then, trace
+ * by trace, of the 71 numbers of its header and of its samples, by exact value. Header numbers are signed and count as they stand in the
+ * record, elevations and coordinates without their scalars, and 69 and 71 like the others. The first that differs decides; where all agree
+ * that both have, the record with fewer traces is the lesser. The form of a trace plays no part. Any two records have an order, and
+ * they are equal just when they hold the same: cards, header numbers, count of traces and values of samples. Where two samples both fit code
+ * 1, their order is that of their normal words read as sign and magnitude.
+ *
  * Elevations and depths (trace fields 41 to 65) have the scalar in field 69, coordinates (73 to 85) that in field 71: a positive one
  * multiplies, a negative one divides, 0 is taken as 1. Two reels count as equal by the scaled values of these fields, exactly, and not by
  * 69 and 71 themselves. A record has, for each of the two groups of each trace, the smallest power of ten from -4 to 4 at which all the
@@ -132,10 +139,11 @@ extern "C" {
  *   4  aukpocket_write_nearest, and `changed` at the end of aukpocket_reel_answer (0.5.0): what was compiled under 3 or before has to be
  *      compiled again
  *
- * aukpocket_blank_eight is there since 0.6.0, aukpocket_read_eagle and number 20, which that call alone answers, since 0.7.0, and the
- * number stayed 4: all else is as it was, and what was compiled under 4 can be linked as it is. So it can with 0.8.0, in which no
- * declaration changed. But N runs to 32,767 since then, before to 8,000, and where it is above 6,000 a trace has several fields of samples
- * in the record: a caller who works out a record's length, or takes its bytes apart, has to follow. */
+ * aukpocket_blank_eight is there since 0.6.0, aukpocket_read_eagle and number 20, which that call alone answers, since 0.7.0,
+ * aukpocket_compare and its answer since 0.9.0, and the number stayed 4: all else is as it was, and what was compiled under 4 can be linked
+ * as it is. So it can with 0.8.0, in which no declaration changed. But N runs to 32,767 since then, before to 8,000, and where it is above
+ * 6,000 a trace has several fields of samples in the record: a caller who works out a record's length, or takes its bytes apart, has to
+ * follow. */
 #define AUKPOCKET_VERSION 4
 
 /* What a call on a whole reel or record answers: the traces, the samples of each, and the length of what was written. Beside a listing
@@ -156,6 +164,15 @@ struct aukpocket_reel_answer {
 struct aukpocket_field_answer {
     uint32_t number;
     int32_t value;
+    uint64_t beside;
+};
+
+/* What comparing two records answers: `order` is -1 where the first is the lesser, 0 where they are equal, and 1 where the second is the
+ * lesser. Where one is refused, `which` says which, 1 or 2, `beside` is a place in that record, and `order` is 0. */
+struct aukpocket_order_answer {
+    uint32_t number;
+    int32_t order;
+    uint64_t which;
     uint64_t beside;
 };
 
@@ -203,6 +220,10 @@ struct aukpocket_reel_answer aukpocket_list_cards(const uint8_t *record, size_t 
  * and 13 as aukpocket_write_reel does, then 17 by the length, then 17 by the place, then 10. */
 struct aukpocket_reel_answer aukpocket_take_cards(const uint8_t *record, size_t record_length, const uint8_t *listing,
                                                   size_t listing_length, uint8_t *out, size_t out_length);
+
+/* Compares two records by the order above, and writes nothing. They may be the same bytes, or overlap. Refuses the first by 12 and 13 as
+ * aukpocket_write_reel does, then the second. */
+struct aukpocket_order_answer aukpocket_compare(const uint8_t *first, size_t first_length, const uint8_t *second, size_t second_length);
 
 /* Takes any eight card bytes as one number, the first of them its highest byte, and gives the number that has a blank (40) for each byte 00
  * and every other byte as it was. Each byte is replaced where it stands, so eight bytes that are loaded and stored in the machine's own

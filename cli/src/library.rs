@@ -4,6 +4,8 @@
 //! refuses. A slice is never null, even an empty one, and one that is lent for writing overlaps no other: so what the header asks of its
 //! caller holds for every call that compiles. `blank_eight` takes a number, gives a number and refuses nothing.
 
+use std::cmp::Ordering;
+
 /// What the library declares, as the header has it.
 mod c {
     #[repr(C)]
@@ -25,6 +27,14 @@ mod c {
     }
 
     #[repr(C)]
+    pub struct OrderAnswer {
+        pub number: u32,
+        pub order: i32,
+        pub which: u64,
+        pub beside: u64,
+    }
+
+    #[repr(C)]
     pub struct SampleAnswer {
         pub number: u64,
         pub beside: u64,
@@ -34,6 +44,7 @@ mod c {
     // The sizes that a C compiler gives these structures. tests/command.py holds the header to the same.
     const _: () = assert!(size_of::<ReelAnswer>() == 56);
     const _: () = assert!(size_of::<FieldAnswer>() == 16);
+    const _: () = assert!(size_of::<OrderAnswer>() == 24);
     const _: () = assert!(size_of::<SampleAnswer>() == 24);
     const _: () = assert!(size_of::<usize>() == 8);
 
@@ -84,6 +95,12 @@ mod c {
             out: *mut u8,
             out_length: usize,
         ) -> ReelAnswer;
+        pub fn aukpocket_compare(
+            first: *const u8,
+            first_length: usize,
+            second: *const u8,
+            second_length: usize,
+        ) -> OrderAnswer;
         pub fn aukpocket_blank_eight(cards: u64) -> u64;
         pub fn aukpocket_read_word(code: u32, word: *const u8, pair: *mut u8) -> SampleAnswer;
         pub fn aukpocket_write_pair(code: u32, pair: *const u8, word: *mut u8) -> SampleAnswer;
@@ -127,6 +144,21 @@ pub struct WordRead {
 /// A refusal: the number of its cause, 1 to 20, and what stands beside it: a place, counted from 0, or a length.
 #[derive(Clone, Copy, Debug, PartialEq, Eq)]
 pub struct Refusal {
+    pub number: u64,
+    pub beside: u64,
+}
+
+/// One of two records that are compared.
+#[derive(Clone, Copy, Debug, PartialEq, Eq)]
+pub enum Which {
+    First,
+    Second,
+}
+
+/// A refusal of one of two records: which it is, the number of the cause, 12 or 13, and the place in that record, counted from 0.
+#[derive(Clone, Copy, Debug, PartialEq, Eq)]
+pub struct RecordRefusal {
+    pub which: Which,
     pub number: u64,
     pub beside: u64,
 }
@@ -299,6 +331,15 @@ pub fn take_cards(record: &[u8], listing: &[u8], out: &mut [u8]) -> Result<Taken
     taken(answer, room)
 }
 
+/// The order of two records: `Less` where the first is the lesser, `Equal` where they hold the same, whatever their forms. The first is
+/// judged before the second.
+pub fn compare(first: &[u8], second: &[u8]) -> Result<Ordering, RecordRefusal> {
+    // SAFETY: each pointer is a slice's own, with its length. Both are only read, so that they may overlap.
+    let answer =
+        unsafe { c::aukpocket_compare(first.as_ptr(), first.len(), second.as_ptr(), second.len()) };
+    ordered(answer, first.len(), second.len())
+}
+
 /// Eight card bytes as one number, the first of them its highest byte, with 40 for each byte 00 and every other byte as it was.
 pub fn blank_eight(cards: u64) -> u64 {
     // SAFETY: the function takes every number and is lent no bytes.
@@ -420,6 +461,49 @@ fn taken(answer: c::ReelAnswer, room: usize) -> Result<Taken, Refusal> {
     check_not_normal(not_normal, 0);
     check_changed(changed, 0);
     Ok(taken)
+}
+
+/// What the answer of comparing two records of these lengths says. A record is refused by 12 or 13 alone.
+fn ordered(
+    answer: c::OrderAnswer,
+    first_length: usize,
+    second_length: usize,
+) -> Result<Ordering, RecordRefusal> {
+    let c::OrderAnswer {
+        number,
+        order,
+        which,
+        beside,
+    } = answer;
+    if number == 0 {
+        assert!(which == 0, "the library tells of a record without a cause");
+        assert!(beside == 0, "the library tells of a place without a cause");
+        return Ok(match order {
+            -1 => Ordering::Less,
+            0 => Ordering::Equal,
+            1 => Ordering::Greater,
+            _ => panic!("the library tells of the order {order}, which is none"),
+        });
+    }
+    assert!(order == 0, "the library tells of an order beside a refusal");
+    assert!(
+        matches!(number, 12 | 13),
+        "the library refuses a record by {number}, which is no cause where two are compared"
+    );
+    let (which, length) = match which {
+        1 => (Which::First, first_length),
+        2 => (Which::Second, second_length),
+        _ => panic!("the library refuses record {which} of two"),
+    };
+    assert!(
+        beside <= length as u64,
+        "the library tells of place {beside} in a record of {length} bytes"
+    );
+    Err(RecordRefusal {
+        which,
+        number: number.into(),
+        beside,
+    })
 }
 
 /// How many words that aren't normal the answer of a single-sample call tells of, which reads that many words.
@@ -715,6 +799,98 @@ mod tests {
         assert_eq!((refused.number, refused.beside), (12, 0));
     }
 
+    /// A record of one trace of two samples, with these numbers of two bytes, each at its place, in place of the example's.
+    fn record_with(numbers: &[(usize, u16)]) -> Vec<u8> {
+        let mut record = vec![0; 3471];
+        read_reel(&example(), &mut record).unwrap();
+        for (place, number) in numbers {
+            record[*place..place + 2].copy_from_slice(&number.to_be_bytes());
+        }
+        record
+    }
+
+    /// Each part of a record decides before all that stand behind it, by its own kind of number; whichever record comes first.
+    #[test]
+    fn order() {
+        use Ordering::{Equal, Greater, Less};
+        // The places of a card byte, of a number of the binary header and of the trace, and of the exponents of both samples.
+        let (card, binary, trace, first_pair, second_pair) = (1000, 3232, 3297, 3452, 3458);
+        // A large coordinate, which may stand under several scalars.
+        let scaled = |scalar: i16| [(3341, 0x7FFF), (3339, scalar as u16)];
+        let [hundredths, whole, tens] = [-100, 1, 10].map(scaled);
+        for (first, second, order) in [
+            (&[][..], &[][..], Equal),
+            (&[(card, 0x4001)], &[(card, 0x40FF)], Less),
+            (&[(card, 0x7F40)], &[(card, 0x8040)], Less),
+            (&[(card, 0x4140)], &[(card, 0x4041), (binary, 1)], Greater),
+            (&[(binary, 0xFFFF)], &[(binary, 0)], Less),
+            (&[(binary, 0x8000)], &[(binary, 0x7FFF)], Less),
+            (&[(binary, 1)], &[(trace, 1)], Greater),
+            (&[(trace, 0xFFFE)], &[(trace, 0xFFFF)], Less),
+            (&[(trace, 2)], &[(trace, 1), (first_pair, 8)], Greater),
+            (&whole[..], &[], Greater),
+            (&hundredths[..], &whole[..], Less),
+            (&whole[..], &tens[..], Less),
+            (&[(first_pair, 1)], &[(first_pair, 0)], Greater),
+            (&[(first_pair, 0xFFFF)], &[(second_pair, 3)], Less),
+            // -949 * 2^3 is less than -949 * 2^-3, and so is -949 * 2^-2.
+            (&[(second_pair, 3)], &[], Less),
+            (&[(second_pair, 0xFFFE)], &[], Less),
+            (&[(second_pair, 0xFFFC)], &[], Greater),
+        ] {
+            let [one, other] = [first, second].map(record_with);
+            assert_eq!(compare(&one, &other), Ok(order), "{first:?} {second:?}");
+            assert_eq!(compare(&other, &one), Ok(order.reverse()));
+            assert_eq!(compare(&one, &one), Ok(Equal));
+        }
+    }
+
+    /// A record whose traces end first is the lesser, and one of another form is equal.
+    #[test]
+    fn order_of_traces_and_forms() {
+        let record = record_with(&[]);
+        let front = [&record[..3266], &[5, 0, 4, 0, 0, 0, 0]].concat();
+        let two = [&record[..3464], &record[3266..3464], &[5, 0, 4, 0, 0, 0, 2]].concat();
+        assert_eq!(compare(&front, &record), Ok(Ordering::Less));
+        assert_eq!(compare(&two, &record), Ok(Ordering::Greater));
+        assert_eq!(compare(&front, &front), Ok(Ordering::Equal));
+        let mut reel = example();
+        reel[3220..3222].copy_from_slice(&6001u16.to_be_bytes());
+        reel.resize(3840 + 4 * 6001, 0);
+        let mut new = vec![0; record_length(1, 6001).unwrap() as usize];
+        read_reel(&reel, &mut new).unwrap();
+        let mut earlier = new.clone();
+        earlier.drain(39_452..39_455);
+        earlier[3450..3452].copy_from_slice(&36_006u16.to_be_bytes());
+        assert_eq!(compare(&new, &earlier), Ok(Ordering::Equal));
+        earlier[39_457] = 1;
+        assert_eq!(compare(&new, &earlier), Ok(Ordering::Less));
+        assert_eq!(compare(&earlier, &new), Ok(Ordering::Greater));
+    }
+
+    /// The first record's refusal comes before the second's.
+    #[test]
+    fn order_refused() {
+        let record = record_with(&[]);
+        let refused = |first: &[u8], second: &[u8]| {
+            let refused = compare(first, second).unwrap_err();
+            (refused.which, refused.number, refused.beside)
+        };
+        let mut blank = record.clone();
+        blank[7] = 0;
+        let cut = &record[..3470];
+        assert_eq!(refused(cut, &record), (Which::First, 12, 3464));
+        assert_eq!(refused(&record, cut), (Which::Second, 12, 3464));
+        assert_eq!(refused(&blank, &record), (Which::First, 13, 7));
+        assert_eq!(refused(&record, &blank), (Which::Second, 13, 7));
+        assert_eq!(refused(cut, &blank), (Which::First, 12, 3464));
+        assert_eq!(refused(&blank, cut), (Which::First, 13, 7));
+        assert_eq!(refused(&[], &[]), (Which::First, 12, 0));
+        assert_eq!(refused(&record, &[]), (Which::Second, 12, 0));
+        let long = [&record[..], &[0]].concat();
+        assert_eq!(refused(&record, &long), (Which::Second, 12, 3471));
+    }
+
     /// Eight card bytes: one byte in each place that has a 1 in `places`, another in the rest.
     fn eight(places: u8, there: u8, rest: u8) -> [u8; 8] {
         let byte = |place| match places & place {
@@ -923,6 +1099,43 @@ mod tests {
         assert_eq!(read_reel(&reel, &mut record).unwrap().not_normal, 7);
         reel[3225] = 2;
         assert_eq!(read_reel(&reel, &mut record).unwrap().not_normal, 0);
+    }
+
+    /// An order that no call gives is never handed on.
+    #[test]
+    fn orders_that_are_wrong() {
+        let answer = |number, order, which, beside| c::OrderAnswer {
+            number,
+            order,
+            which,
+            beside,
+        };
+        let right = |number, order, which, beside| {
+            ordered(answer(number, order, which, beside), 20, 30)
+                .map_err(|refused| (refused.which, refused.number, refused.beside))
+        };
+        assert_eq!(right(0, -1, 0, 0), Ok(Ordering::Less));
+        assert_eq!(right(0, 0, 0, 0), Ok(Ordering::Equal));
+        assert_eq!(right(0, 1, 0, 0), Ok(Ordering::Greater));
+        assert_eq!(right(12, 0, 1, 20), Err((Which::First, 12, 20)));
+        assert_eq!(right(13, 0, 2, 30), Err((Which::Second, 13, 30)));
+        for (number, order, which, beside) in [
+            (0, 2, 0, 0),
+            (0, -2, 0, 0),
+            (0, 0, 1, 0),
+            (0, 1, 0, 7),
+            (12, 1, 1, 7),
+            (12, -1, 2, 7),
+            (12, 0, 0, 7),
+            (12, 0, 3, 7),
+            (12, 0, 1, 21),
+            (13, 0, 2, 31),
+            (14, 0, 1, 7),
+            (10, 0, 2, 7),
+        ] {
+            let wrong = catch_unwind(|| ordered(answer(number, order, which, beside), 20, 30));
+            assert!(wrong.is_err(), "{number} {order} {which} {beside}");
+        }
     }
 
     /// Counts that no call gives are never handed on.
