@@ -231,16 +231,16 @@ fn unlike_value(
 }
 
 /// A part of a record that has one meaning: its name, its bytes, how these are shown, and the bytes of the scalar that acts on it.
-struct Part {
-    name: String,
-    bytes: Range<usize>,
+pub struct Part {
+    pub name: String,
+    pub bytes: Range<usize>,
     in_words: fn(&[u8]) -> String,
     scalar: Option<Range<usize>>,
 }
 
 impl Part {
     /// The part in words, by the byte at each place. None where one is missing.
-    fn shown(&self, byte_at: impl Fn(usize) -> Option<u8>) -> Option<String> {
+    pub fn shown(&self, byte_at: impl Fn(usize) -> Option<u8>) -> Option<String> {
         let bytes = |range: &Range<usize>| range.clone().map(&byte_at).collect::<Option<Vec<u8>>>();
         let text = (self.in_words)(&bytes(&self.bytes)?);
         Some(match &self.scalar {
@@ -260,7 +260,7 @@ impl Part {
 }
 
 /// The part that a place in a record falls in.
-fn part_at(record: &[u8], place: usize) -> Part {
+pub fn part_at(record: &[u8], place: usize) -> Part {
     let tag = |start: usize, name: String| Part {
         name,
         bytes: start..start + TAG,

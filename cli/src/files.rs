@@ -1,11 +1,12 @@
 //! Files in, files out, memory for them, and steps shown of long work.
 
-use crate::system;
+use crate::system::{self, Mapping};
 use crate::trouble::Trouble;
 use std::fmt::Display;
 use std::fs::{self, File, Metadata, OpenOptions};
 use std::io::{self, ErrorKind, IsTerminal, Read, Write};
 use std::mem;
+use std::ops::Deref;
 use std::os::unix::fs::MetadataExt;
 use std::path::{Path, PathBuf};
 use std::process;
@@ -53,6 +54,82 @@ pub fn load(path: &Path) -> Result<Vec<u8>, Trouble> {
     let (mut file, length) = open(path)?;
     step(format_args!("loading {name}"), length);
     load_from(&mut file, length, name)
+}
+
+/// What tells one state of a file from another: which file it is, its length, and when it was last changed.
+#[derive(Clone, Copy, PartialEq, Eq)]
+pub struct State([i64; 7]);
+
+impl State {
+    fn of(about: &Metadata) -> State {
+        let numbers = [about.dev(), about.ino(), about.len()].map(|number| number as i64);
+        let [device, file, length] = numbers;
+        let changed = [about.mtime(), about.mtime_nsec()];
+        let touched = [about.ctime(), about.ctime_nsec()];
+        State([
+            device, file, length, changed[0], changed[1], touched[0], touched[1],
+        ])
+    }
+}
+
+/// The whole content of a file, where it stands: it is mapped, so that it takes no memory of its own. What can't be mapped, an empty file
+/// or a pipe, is loaded.
+pub enum View {
+    Mapped(Mapping, File, State),
+    Loaded(Vec<u8>),
+}
+
+impl View {
+    pub fn of(path: &Path) -> Result<View, Trouble> {
+        let name = path.display();
+        let (mut file, length) = open(path)?;
+        let looked = |e| Trouble::file(format!("{name}: can't be looked at: {e}"));
+        let about = file.metadata().map_err(looked)?;
+        if about.is_file() && length > 0 {
+            let mapping = usize::try_from(length)
+                .ok()
+                .map(|length| Mapping::of(&file, length));
+            if let Some(Ok(mapping)) = mapping {
+                return Ok(View::Mapped(mapping, file, State::of(&about)));
+            }
+        }
+        Ok(View::Loaded(load_from(&mut file, length, name)?))
+    }
+
+    /// The state in which a file is that was mapped.
+    pub fn state(&self) -> Option<State> {
+        match self {
+            View::Mapped(_, _, state) => Some(*state),
+            View::Loaded(_) => None,
+        }
+    }
+
+    /// That the file is as it was when it was mapped. A change would have changed the bytes that were lent.
+    pub fn unchanged(&self, path: &Path) -> Result<(), Trouble> {
+        let View::Mapped(_, file, state) = self else {
+            return Ok(());
+        };
+        match file.metadata() {
+            Ok(about) if State::of(&about) == *state => Ok(()),
+            _ => Err(changed(path)),
+        }
+    }
+}
+
+impl Deref for View {
+    type Target = [u8];
+
+    fn deref(&self) -> &[u8] {
+        match self {
+            View::Mapped(mapping, ..) => mapping,
+            View::Loaded(bytes) => bytes,
+        }
+    }
+}
+
+/// A file that another program changed while it was read.
+pub fn changed(path: &Path) -> Trouble {
+    Trouble::file(format!("{}: was changed while it was read", path.display()))
 }
 
 /// The whole content of a source that is expected to have that many bytes, and may have more or fewer.

@@ -20,6 +20,8 @@ aukpocket: SEG-Y revision 0 reels and their canonical records
                                                put the cards of an edited listing in a new record
   aukpocket verify REEL [--eagle]              write and read again in each code, and compare
   aukpocket verify REEL RECORD [--eagle]       compare a record on disk with its reel
+  aukpocket compare RECORD RECORD              say which of two records is the lesser, and why
+  aukpocket sort RECORD..                      list records in their order, the least first
   aukpocket check [--eagle]                    print one line about the reel on standard input
 
   aukpocket COMMAND --help                     say more about one command
@@ -29,7 +31,9 @@ Exit status:
   0  fine
   1  wrong words on the command line, or trouble with a file or memory
   2  refused: a sentence on standard error has the number of the cause, what is wrong and where
-  3  verify found a difference, or write --nearest did, which must never happen
+  3  verify found a difference, or write --nearest, compare or sort did, which must never happen
+  4  compare: the first record is the lesser
+  5  compare: the first record is the greater
 
 A record leaves out what carries no meaning in revision 0: bytes 3261 to 3600, and bytes 181 to 240 of
 each trace header. read, info and verify count those that aren't 0 and warn of them on standard error;
@@ -256,6 +260,59 @@ byte is left out, as below. No trailers are written.
 Exit status: 0 fine, 1 wrong words or trouble with a file or memory, 2 the reel is refused, 3 the file is
 not the reel's record; or a record came back otherwise or the reel's own code doesn't hold it, which must
 never happen.
+"
+    )
+}
+
+const ORDER: &str = "
+The order is that of the card bytes, as numbers without a sign; then of the numbers of the binary header; then,
+trace by trace, of the numbers of its header and of its samples by their exact values. Header numbers are signed
+and count as they stand in the record: elevations and coordinates without their scalars, and the scalars like
+every other number. The first that differs decides. Where all agree that both have, the record with fewer traces
+is the lesser. Two records are equal just when they hold the same, whatever their forms (below).
+";
+
+const MAPPED: &str = "
+Files are mapped, not loaded: the records don't have to fit in memory. They must not be changed meanwhile. Where
+the system tells of a change, or a file was cut or can't be read any more, the run ends with 1 and no answer.
+";
+
+pub fn compare() -> String {
+    format!(
+        "\
+aukpocket compare RECORD RECORD
+
+Says whether the first record is lesser than the second, equal to it or greater, and where the two first differ:
+a card and its column, a field of the binary header or of a trace, a sample, with what each record has there and
+the place; or that the traces of one end first. A sample is shown as an exact product, and as a decimal with as
+many digits as tell the two apart. Of equal records it says whether they have the same bytes or differ in form.
+Any file that isn't a valid record is refused, the first before the second. Writes no file.
+{ORDER}{FORM}{MAPPED}
+Exit status: 0 equal, 1 wrong words or trouble with a file or memory, 2 refused, 3 the bytes tell another order
+than the library, which must never happen, 4 the first record is the lesser, 5 the first record is the greater.
+"
+    )
+}
+
+pub fn sort() -> String {
+    format!(
+        "\
+aukpocket sort RECORD..
+
+Lists the names of records, as they were given, a line each, the least record first. A record that holds the same
+as the one on the line above has `= ` before its name; such records stand in the order of their names. So the
+list is the same in whatever order the records are named.
+
+A name that has a line feed, a carriage return or a backslash, or that begins with `= `, stands behind a backslash
+and is escaped as sha256sum does it: \\n, \\r, \\\\, and \\= for the first character.
+
+Every file that isn't a valid record is named with what is wrong, and then there is no list. Writes no file.
+{ORDER}{FORM}{MAPPED}
+Two records whose cards or binary headers differ are told apart by these alone. Where they are the same, both
+records are gone through whole for each comparison.
+
+Exit status: 0 fine, 1 wrong words or trouble with a file or memory, 2 refused, 3 the library contradicts itself,
+which must never happen.
 "
     )
 }

@@ -1,4 +1,4 @@
-//! The command `aukpocket`: reels into records, records into reels, and what they hold.
+//! The command `aukpocket`: reels into records, records into reels, what they hold, and the order of records.
 
 mod cards;
 mod codes;
@@ -12,10 +12,12 @@ mod layout;
 mod left_out;
 mod listing;
 mod not_normal;
+mod order;
 mod refusals;
 mod rounding;
 mod scalars;
 mod sha256;
+mod sort;
 mod system;
 mod trouble;
 
@@ -29,6 +31,7 @@ use layout::{Layout, RecordShape, Shape};
 use listing::Encoding;
 use not_normal::NotNormal;
 use rounding::Rounding;
+use std::cmp::Ordering;
 use std::env;
 use std::ffi::{OsStr, OsString};
 use std::fmt::Write as _;
@@ -109,22 +112,24 @@ impl Words {
     }
 }
 
-/// A command: its name, the words that it takes, the last words that may be left out together, the options that it knows, its help and its
-/// work.
+/// A command: its name, the words that it takes, the last words that may be left out together, whether its last word may be followed by any
+/// number of its kind, the options that it knows, its help and its work.
 struct Command {
     name: &'static str,
     words: &'static [&'static str],
     optional: &'static [&'static str],
+    many: bool,
     options: &'static [&'static str],
     help: fn() -> String,
     run: fn(&Words) -> Result<(), Trouble>,
 }
 
-static COMMANDS: [Command; 7] = [
+static COMMANDS: [Command; 9] = [
     Command {
         name: "read",
         words: &["REEL", "RECORD"],
         optional: &[],
+        many: false,
         options: &["--eagle", "--force"],
         help: help::read,
         run: read,
@@ -133,6 +138,7 @@ static COMMANDS: [Command; 7] = [
         name: "write",
         words: &["RECORD", "CODE", "REEL"],
         optional: &[],
+        many: false,
         options: &["--nearest", "--force"],
         help: help::write,
         run: write,
@@ -141,6 +147,7 @@ static COMMANDS: [Command; 7] = [
         name: "look",
         words: &["REEL", "TRACE", "BYTE"],
         optional: &[],
+        many: false,
         options: &[],
         help: help::look,
         run: look,
@@ -149,6 +156,7 @@ static COMMANDS: [Command; 7] = [
         name: "info",
         words: &["FILE"],
         optional: &[],
+        many: false,
         options: &["--cards"],
         help: help::info,
         run: info,
@@ -157,6 +165,7 @@ static COMMANDS: [Command; 7] = [
         name: "cards",
         words: &["RECORD"],
         optional: &["LISTING", "NEWRECORD"],
+        many: false,
         options: &["--utf8", "--latin1", "--force"],
         help: help::cards,
         run: cards,
@@ -165,14 +174,34 @@ static COMMANDS: [Command; 7] = [
         name: "verify",
         words: &["REEL"],
         optional: &["RECORD"],
+        many: false,
         options: &["--eagle"],
         help: help::verify,
         run: verify,
     },
     Command {
+        name: "compare",
+        words: &["RECORD", "RECORD"],
+        optional: &[],
+        many: false,
+        options: &[],
+        help: help::compare,
+        run: compare,
+    },
+    Command {
+        name: "sort",
+        words: &["RECORD"],
+        optional: &[],
+        many: true,
+        options: &[],
+        help: help::sort,
+        run: sort,
+    },
+    Command {
         name: "check",
         words: &[],
         optional: &[],
+        many: false,
         options: &["--eagle"],
         help: help::check,
         run: check,
@@ -268,9 +297,11 @@ fn take_words(command: &Command, arguments: &[OsString]) -> Result<Option<Words>
     }
     let least = command.words.len();
     let most = least + command.optional.len();
-    if taken.words.len() != least && taken.words.len() != most {
+    let count = taken.words.len();
+    if count != least && count != most && !(command.many && count > most) {
         return Err(wrong(match (command.words, command.optional) {
             ([], _) => "it takes no words".to_string(),
+            (words, []) if command.many => format!("it takes {}..", words.join(" ")),
             (words, []) => format!("it takes {}", words.join(" ")),
             (words, optional) => format!("it takes {} [{}]", words.join(" "), optional.join(" ")),
         }));
@@ -296,7 +327,11 @@ fn is_number(word: &OsStr) -> bool {
 
 /// Says what was done, once it is done: that nobody reads it is no trouble then.
 fn tell(text: &str) -> Result<(), Trouble> {
-    match print(text) {
+    tell_bytes(text.as_bytes())
+}
+
+fn tell_bytes(bytes: &[u8]) -> Result<(), Trouble> {
+    match print_bytes(bytes) {
         Err(trouble) if trouble.sentence.is_empty() => Ok(()),
         told => told,
     }
@@ -879,16 +914,19 @@ fn listed(path: &Path) -> (bool, Vec<u8>) {
         b"-" => b"./-", // the name alone would be standard input
         bytes => bytes,
     };
-    let name: Vec<u8> = bytes
-        .iter()
-        .flat_map(|byte| match byte {
-            b'\n' => b"\\n".to_vec(),
-            b'\r' => b"\\r".to_vec(),
-            b'\\' => b"\\\\".to_vec(),
-            other => vec![*other],
-        })
-        .collect();
+    let name = escaped(bytes);
     (name != bytes, name)
+}
+
+/// A name on one line.
+fn escaped(name: &[u8]) -> Vec<u8> {
+    let escaped = name.iter().flat_map(|byte| match byte {
+        b'\n' => b"\\n".to_vec(),
+        b'\r' => b"\\r".to_vec(),
+        b'\\' => b"\\\\".to_vec(),
+        other => vec![*other],
+    });
+    escaped.collect()
 }
 
 /// Writes a reel's record in each code, as plain reels, and reads it again.
@@ -981,6 +1019,70 @@ fn again(record: &[u8], read: ReelRead, code: u32, name: &str) -> Result<Again, 
             Again::Differs(format!("the records differ from place {} on", same.count()))
         }
     })
+}
+
+/// Says which of two records is the lesser, by its exit status too.
+fn compare(words: &Words) -> Result<(), Trouble> {
+    let paths = [words.path(0), words.path(1)];
+    let (order, reason) = order::of_files(paths)?;
+    let [first, second] = paths.map(|path| escaped(path.as_os_str().as_bytes()));
+    let mut text = first;
+    text.extend(format!(" is {} ", order::in_words(order)).as_bytes());
+    text.extend(second);
+    text.extend(format!(": {reason}\n").as_bytes());
+    tell_bytes(&text)?;
+    match order {
+        Ordering::Equal => Ok(()),
+        Ordering::Less => Err(Trouble::answered(4)),
+        Ordering::Greater => Err(Trouble::answered(5)),
+    }
+}
+
+/// Lists records by their names, the least first. All that aren't taken are named, and then there is no list: it would be taken for whole.
+fn sort(words: &Words) -> Result<(), Trouble> {
+    // The list doesn't depend on the order in which they were named.
+    let mut paths: Vec<&Path> = words.words.iter().map(Path::new).collect();
+    paths.sort_by_key(|path| path.as_os_str().as_bytes());
+    let mut records = Vec::new();
+    let mut status = None;
+    for path in &paths {
+        match sort::Record::of(path) {
+            Ok(record) => records.push(record),
+            Err(trouble) => {
+                let _ = writeln!(io::stderr(), "aukpocket: {}", trouble.sentence);
+                status = Some(status.map_or(trouble.status, |status| trouble.status.min(status)));
+            }
+        }
+    }
+    if let Some(status) = status {
+        let (faults, all) = (paths.len() - records.len(), paths.len());
+        let were = if faults == 1 { "wasn't" } else { "weren't" };
+        return Err(Trouble {
+            status,
+            sentence: format!("sort: {faults} of {all} {were} taken, so there is no list"),
+        });
+    }
+    let mut text = Vec::new();
+    for group in sort::sorted(records)? {
+        for (i, record) in group.iter().enumerate() {
+            text.extend(if i > 0 { &b"= "[..] } else { b"" });
+            text.extend(in_list(record.path));
+            text.push(b'\n');
+        }
+    }
+    print_bytes(&text)
+}
+
+/// A record's name on a line of its own. One that has a line's end or a backslash, or begins as the mark of an equal record does, is escaped,
+/// which a backslash before it says.
+fn in_list(path: &Path) -> Vec<u8> {
+    let bytes = path.as_os_str().as_bytes();
+    let name = escaped(bytes);
+    match bytes {
+        _ if bytes.starts_with(b"= ") => [b"\\\\", &name[..]].concat(),
+        _ if name != bytes => [b"\\", &name[..]].concat(),
+        _ => name,
+    }
 }
 
 fn check(words: &Words) -> Result<(), Trouble> {

@@ -166,19 +166,24 @@ impl Change {
 }
 
 impl fmt::Display for Change {
-    /// Its place and both values, which are shown as far as the size of the change is, where that takes more digits than usual.
+    /// Its place and both values.
     fn fmt(&self, f: &mut fmt::Formatter) -> fmt::Result {
-        let size = power(self.size().nearly, PLAIN);
-        let [before, after] = [self.before, self.after].map(|value| {
-            let digits = power(value, PLAIN) - size + DIGITS;
-            shown(value, digits.clamp(DIGITS, MOST_DIGITS))
-        });
+        let [before, after] = told_apart([self.before, self.after]);
         write!(
             f,
             "trace {}, sample {}: {before} became {after}",
             self.trace, self.sample
         )
     }
+}
+
+/// Two values for people, which are shown as far as the size of their difference is, where that takes more digits than usual.
+pub fn told_apart(values: [f64; 2]) -> [String; 2] {
+    let size = power(Distance::between(values[0], values[1]).nearly, PLAIN);
+    values.map(|value| {
+        let digits = power(value, PLAIN) - size + DIGITS;
+        shown(value, digits.clamp(DIGITS, MOST_DIGITS))
+    })
 }
 
 /// How far two values are apart: the distance as 64 bits have it most nearly, of which six digits are shown, and the rest, which makes it
@@ -209,7 +214,7 @@ impl Distance {
 }
 
 /// The exact value of a canonical pair. A floating-point number of 64 bits holds it: m has 31 bits, and e is from -280 to 251.
-fn value(pair: &[u8]) -> f64 {
+pub fn value(pair: &[u8]) -> f64 {
     let e = i16::from_be_bytes([pair[0], pair[1]]);
     let m = i32::from_be_bytes([pair[2], pair[3], pair[4], pair[5]]);
     let two_to_e = f64::from_bits(((i64::from(e) + 1023) as u64) << 52);

@@ -28,6 +28,11 @@ impl Trouble {
         Trouble::new(3, sentence)
     }
 
+    /// No trouble, but an answer that was printed and that the exit status tells too.
+    pub fn answered(status: u8) -> Trouble {
+        Trouble::new(status, "")
+    }
+
     fn new(status: u8, sentence: impl Display) -> Trouble {
         Trouble {
             status,
