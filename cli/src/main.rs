@@ -1048,6 +1048,7 @@ fn sort(words: &Words) -> Result<(), Trouble> {
     for path in &paths {
         match sort::Record::of(path) {
             Ok(record) => records.push(record),
+            Err(trouble) if trouble.status > 2 => return Err(trouble),
             Err(trouble) => {
                 let _ = writeln!(io::stderr(), "aukpocket: {}", trouble.sentence);
                 status = Some(status.map_or(trouble.status, |status| trouble.status.min(status)));

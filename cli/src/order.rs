@@ -14,12 +14,15 @@ use aukpocket::{compare, RecordRefusal, Refusal, Which};
 use std::cmp::Ordering;
 use std::path::Path;
 
+/// What became of a mapped file whose bytes can't be had.
+pub const LOST: &str = "was cut while it was read, or can't be read from its disk";
+
 /// The order of two records on disk, and why it is that, in words.
 pub fn of_files(paths: [&Path; 2]) -> Result<(Ordering, String), Trouble> {
     let views = [View::of(paths[0])?, View::of(paths[1])?];
     let records = [&views[0][..], &views[1][..]];
-    let order = of_records(paths, records);
-    let told = order.and_then(|order| {
+    show(paths, records);
+    let told = of_records(paths, records).and_then(|order| {
         let reason = reason(order, records).map_err(|found| {
             let names = paths.map(|path| path.display().to_string()).join(", ");
             Trouble::differs(format!("{names}: {found}; report this"))
@@ -33,18 +36,17 @@ pub fn of_files(paths: [&Path; 2]) -> Result<(Ordering, String), Trouble> {
     told
 }
 
-/// The order of two records that were loaded or mapped.
+/// Shows that two records are compared, where that takes long, and names them where one is lost meanwhile.
+pub fn show(paths: [&Path; 2], records: [&[u8]; 2]) {
+    let [first, second] = paths.map(|path| path.display());
+    let length = (records[0].len() + records[1].len()) as u64;
+    step(format_args!("comparing {first} with {second}"), length);
+    system::say_where_lost(&format!("{first} or {second}: {LOST}"));
+}
+
+/// The order of two records.
 pub fn of_records(paths: [&Path; 2], records: [&[u8]; 2]) -> Result<Ordering, Trouble> {
-    let names = paths.map(|path| path.display());
     let [first, second] = records;
-    step(
-        format_args!("comparing {} with {}", names[0], names[1]),
-        (first.len() + second.len()) as u64,
-    );
-    system::say_where_lost(&format!(
-        "{} or {}: was cut while it was read, or its disk fails",
-        names[0], names[1]
-    ));
     compare(first, second).map_err(|refused| {
         let RecordRefusal {
             which,

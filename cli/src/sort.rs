@@ -1,10 +1,11 @@
-//! Many records in their order. Each is judged once. Two are then compared by their fronts, and only where these are equal by all that
-//! they hold: a record without traces is lesser than every other of its front, so where two fronts differ the records have their order. A
-//! record is mapped while the library looks at it and at no other time, so neither memory nor open files grow with the number of records.
+//! Many records in their order. Each is judged whole once. Two are then compared by their fronts: where these differ, the records have the
+//! order of their fronts (`front-decides` in the proofs). Only where they are equal the records are compared whole. A record is mapped while
+//! the library looks at it and at no other time, so that neither mapped bytes nor open files grow with the number of records.
 
-use crate::files::{self, State, View};
+use crate::files::{self, step, State, View};
 use crate::layout::{END, FIRST_TRACE};
-use crate::order::of_records;
+use crate::order::{in_words, of_records, show, LOST};
+use crate::system;
 use crate::trouble::Trouble;
 use std::cmp::Ordering;
 use std::path::Path;
@@ -28,16 +29,19 @@ pub struct Record<'a> {
 pub type Group<'a> = Vec<Record<'a>>;
 
 impl Record<'_> {
-    /// Judges a record: it is compared with its own front, which is quickly done once it is known to be valid.
+    /// Judges a record: it is compared with its own front, which takes no longer than judging it, and is greater where it has traces.
     pub fn of(path: &Path) -> Result<Record<'_>, Trouble> {
+        let name = path.display();
         let view = View::of(path)?;
+        step(format_args!("judging {name}"), view.len() as u64);
+        system::say_where_lost(&format!("{name}: {LOST}"));
         let front = front_of(&view);
         let order = of_records([path, path], [&view[..], &front[..]]);
         view.unchanged(path)?;
-        if order? == Ordering::Less {
+        if order? != view.len().cmp(&front.len()) {
             return Err(Trouble::differs(format!(
-                "{}: the library says that it is lesser than its own front; report this",
-                path.display()
+                "{name}: the library doesn't say that it is {} the same record without traces; report this",
+                in_words(view.len().cmp(&front.len()))
             )));
         }
         Ok(Record {
@@ -54,7 +58,13 @@ impl Record<'_> {
     /// How it stands to another.
     fn order(&self, other: &Record) -> Result<Ordering, Trouble> {
         let paths = [self.path, other.path];
-        match of_records(paths, [&self.front[..], &other.front[..]])? {
+        let again = |records| {
+            of_records(paths, records).map_err(|refused| {
+                let sentence = refused.sentence;
+                Trouble::differs(format!("{sentence}; it was taken before; report this"))
+            })
+        };
+        match again([&self.front[..], &other.front[..]])? {
             Ordering::Equal => {}
             order => return Ok(order),
         }
@@ -63,7 +73,8 @@ impl Record<'_> {
             views[0].as_deref().unwrap_or(&self.loaded),
             views[1].as_deref().unwrap_or(&other.loaded),
         ];
-        let order = of_records(paths, records);
+        show(paths, records);
+        let order = again(records);
         for (view, path) in views.iter().zip(paths) {
             view.as_ref().map_or(Ok(()), |view| view.unchanged(path))?;
         }
