@@ -96,8 +96,8 @@
  *
  * Valid records have an order, that of their card bytes, taken as unsigned numbers; then of the 27 numbers of the binary header; then, trace
  * by trace, of the 71 numbers of its header and of its samples, by exact value. Header numbers are signed and count as they stand in the
- * record, elevations and coordinates without their scalars, and 69 and 71 like the others. The first that differs decides; where all agree
- * that both have, the record with fewer traces is the lesser. The form of a trace plays no part. Any two records have an order, and
+ * record, elevations and coordinates without their scalars, and 69 and 71 like the others. The first that differs decides; where everything
+ * that both have agrees, the record with fewer traces is the lesser. The form of a trace plays no part. Any two records have an order, and
  * they are equal just when they hold the same: cards, header numbers, count of traces and values of samples. Where two samples both fit code
  * 1, their order is that of their normal words read as sign and magnitude.
  *

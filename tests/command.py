@@ -23,6 +23,7 @@ import threading
 import time
 import unittest
 from fractions import Fraction
+from functools import lru_cache
 from pathlib import Path
 
 sys.dont_write_bytecode = True
@@ -2441,6 +2442,425 @@ class LongTraces(Case):
         self.assertIn(f"The longest has {most} bytes", texts["docs/FORMAT.md"])
         plain, other = (3600 + 100_000 * (header + 4 * 32_767) for header in (240, 1200))
         self.assertIn(f"a plain reel has up to {plain:,}, an Eagle reel {other - plain:,} more", texts["README.md"])
+
+
+# The fields of both headers, by their byte numbers: the names that `look --help` gives them.
+FIELD_NAMES = {}
+
+
+CARD_NAMES = [f"card {i // 80 + 1}, column {i % 80 + 1}" for i in range(3200)]
+
+
+@lru_cache
+def card_shown(byte):
+    character = bytes([byte]).decode("cp037")
+    character = "." if is_control(ord(character)) else character.strip()
+    return f"{byte:02X}" + (f", `{character}`," if character else "")
+
+
+@lru_cache(maxsize=1 << 16)
+def value_of(pair):
+    """The exact value of a pair, and its exponent and mantissa."""
+    e, m = signed(pair, 0, 2), signed(pair, 2, 4)
+    return m * Fraction(2) ** e, (e, m)
+
+
+def parts_of(record):
+    """What a valid record holds, in the order in which records are compared: of each part its name, its place, what it counts as, and how it
+    is shown; of a sample its exponent and mantissa."""
+    for i, byte in enumerate(record[3:3203]):
+        yield CARD_NAMES[i], 3 + i, byte, card_shown(byte)
+
+    def numbers(fields, first, place, of):
+        for byte_number, width in fields.items():
+            value, at = signed(record, place + byte_number - first, width), place + byte_number - first
+            scalar = next((field for field, group in GROUPS.items() if byte_number in group), None)
+            under = f" under scalar {signed(record, place + scalar - first, 2)}" if scalar else ""
+            yield f"{of}, field {byte_number}, {FIELD_NAMES[byte_number]}", at, value, f"{value}{under}"
+
+    yield from numbers(reels.BINARY_FIELDS, 3201, 3206, "binary header")
+    n, place, trace = signed(record, 3226, 2), 3266, 0
+    while record[place] == 0x03:
+        trace += 1
+        yield from numbers(reels.TRACE_FIELDS, 1, place + 3, f"trace {trace}")
+        place, sample = place + 183, 0
+        while sample < n:
+            end = place + 3 + int.from_bytes(record[place + 1 : place + 3], "big")
+            for place in range(place + 3, end, 6):
+                sample += 1
+                yield f"trace {trace}, sample {sample}", place, *value_of(record[place : place + 6])
+            place = end
+
+
+def traces_of(record):
+    """How many traces a valid record has, by its last field."""
+    return int.from_bytes(record[-4:], "big")
+
+
+def order_of(one, other):
+    """How a record stands to another, -1, 0 or 1, and why, as the command says it."""
+    for a, b in zip(parts_of(one), parts_of(other)):
+        if a[2] == b[2]:
+            continue
+        (name, place, value, shown), (_, other_place, other_value, other_shown) = a, b
+        if "sample" in name and isinstance(shown, tuple):
+            decimals = became(value, other_value).split(" became ")
+            shown, other_shown = (f"{m} * 2^{e} ({decimal})" for (e, m), decimal in zip((shown, other_shown), decimals))
+        places = f"place {place}" if place == other_place else f"places {place} and {other_place}"
+        return (-1 if value < other_value else 1), f"{name} is {shown} in the first record and {other_shown} in the second ({places})"
+    less, more = sorted((traces_of(one), traces_of(other)))
+    if less < more:
+        which, rest, order = ("first", "second", -1) if traces_of(one) == less else ("second", "first", 1)
+        return order, (f"the traces of the {which} record end first: it has {less} trace{'s' * (less != 1)} and the {rest} has {more}, and all "
+                       "before agrees")
+    n = signed(one, 3226, 2)
+    held = f"they hold the same, {less} trace{'s' * (less != 1)} of {n} sample{'s' * (n != 1)}"
+    if one == other:
+        return 0, f"{held}, byte for byte"
+    # What differs first is the length of a trace's first field of samples, which tells its form.
+    at = next(i for i, (a, b) in enumerate(zip(one, other)) if a != b)
+    forms = {(6 * n).to_bytes(2, "big"): "the earlier", b"\x8c\xa0": "the new"}
+    place = next(place for place in (at, at - 1) if one[place - 1] == 4 and {one[place : place + 2], other[place : place + 2]} == set(forms))
+    form, other_form = (forms[record[place : place + 2]] for record in (one, other))
+    trace = next(i for i in range(1, less + 1) if abs(place - 1 - place_of_samples(i, n)) <= 3 * i)
+    return 0, (f"{held}, in different forms: trace {trace} is in {form} form in the first record and in {other_form} in the second ({len(one)} "
+               f"and {len(other)} bytes)")
+
+
+def holding(n, traces, **named):
+    """A record of traces, each its pairs and numbers of its header by their byte numbers."""
+    return make_record(2000, n, [pairs for pairs, _ in traces], trace_fields={i: fields for i, (_, fields) in enumerate(traces, 1)}, **named)
+
+
+STANDS = {-1: "lesser than", 0: "equal to", 1: "greater than"}
+STATUS = {-1: 4, 0: 0, 1: 5}
+
+
+class Ordered(Case):
+    """What comparing two records says, by document 02's words, worked out above."""
+
+    def setUp(self):
+        super().setUp()
+        if not FIELD_NAMES:
+            FIELD_NAMES.update((int(number), name) for number, name in re.findall(r"^ +(\d+)  (\S+)", self.fine("look", "--help"), re.M))
+        self.record = reels.record_of(SAMPLE.read_bytes())
+
+    def compared(self, one, other, order=None):
+        """Compares two records, either first, and holds each word and the exit status to the rules. The order that is expected, where it is
+        given, is theirs too."""
+        self.assertEqual((records.first_cause(one), records.first_cause(other)), (None, None))
+        paths = self.file("one", one), self.file("other", other)
+        for first, second in (paths, paths[::-1]):
+            stands, why = order_of(first.read_bytes(), second.read_bytes())
+            run = self.run_command("compare", first, second)
+            self.assertEqual((run.returncode, run.stderr, run.stdout.decode()), (
+                STATUS[stands], b"", f"{first} is {STANDS[stands]} {second}: {why}\n"))
+            if order is not None:
+                self.assertEqual(stands, order)
+                order = -order
+        return order_of(one, other)
+
+
+class Compare(Ordered):
+    """Two records beside each other."""
+
+    def test_the_sample(self):
+        """In words that were written by hand."""
+        n = 240
+        path = self.file("a.record", self.record)
+        self.assertEqual(self.fine("compare", path, path), (
+            f"{path} is equal to {path}: they hold the same, 6 traces of 240 samples, byte for byte\n"))
+        for place, content, status, stands, why in (
+            (place_of_card(85), b"\x41", 5, "greater", "card 2, column 6 is C9, `I`, in the first record and 41 in the second (place 88)"),
+            (place_of_card(3199), b"\xff", 4, "lesser", "card 40, column 80 is 40 in the first record and FF, `.`, in the second (place 3202)"),
+            (place_of_binary(3205), b"\xff\xff\xff\xf4", 5, "greater",
+             "binary header, field 3205, line is 12 in the first record and -12 in the second (place 3210)"),
+            (place_of_binary(3259), b"\x80\x00", 5, "greater",
+             "binary header, field 3259, vibrator is 0 in the first record and -32768 in the second (place 3264)"),
+            (place_of_field(1, n, 37), b"\xff\xff\xff\xcd", 5, "greater",
+             "trace 1, field 37, offset is -50 in the first record and -51 in the second (place 3305)"),
+            (place_of_field(6, n, 103), b"\x00\x07", 4, "lesser",
+             f"trace 6, field 103, static is 0 in the first record and 7 in the second (place {place_of_field(6, n, 103)})"),
+            (place_of_field(3, n, 41), (1_238_001).to_bytes(4, "big"), 4, "lesser",
+             "trace 3, field 41, group-elevation is 1238000 under scalar -10000 in the first record and 1238001 under scalar -10000 in the "
+             f"second (place {place_of_field(3, n, 41)})"),
+            (place_of_pair(1, n, 90), b"\xff\xfc", 4, "lesser",
+             "trace 1, sample 90 is -431 * 2^-3 (-53.875) in the first record and -431 * 2^-4 (-26.9375) in the second (place 3986)"),
+            (place_of_pair(6, n, 240), b"\x00\x00\xff\xff\xff\xff", 5, "greater",
+             f"trace 6, sample 240 is 0 * 2^0 (0) in the first record and -1 * 2^0 (-1) in the second (place {place_of_pair(6, n, 240)})"),
+        ):
+            other = self.file("b.record", with_bytes(self.record, place, content))
+            run = self.run_command("compare", path, other)
+            self.assertEqual((run.returncode, run.stderr, run.stdout.decode()), (status, b"", f"{path} is {stands} than {other}: {why}\n"))
+            run = self.run_command("compare", other, path)
+            self.assertEqual((run.returncode, run.stderr), (9 - status, b""))
+            self.assertTrue(run.stdout.decode().startswith(f"{other} is {'lesser' if status == 5 else 'greater'} than {path}: "), run.stdout)
+        fewer = self.file("b.record", self.record[: place_of_trace(6, n)] + b"\x05\x00\x04\x00\x00\x00\x05")
+        end = "end first: it has 5 traces and the {} has 6, and all before agrees\n"
+        run = self.run_command("compare", fewer, path)
+        self.assertEqual((run.returncode, run.stdout.decode()), (
+            4, f"{fewer} is lesser than {path}: the traces of the first record {end.format('second')}"))
+        run = self.run_command("compare", path, fewer)
+        self.assertEqual((run.returncode, run.stdout.decode()), (
+            5, f"{path} is greater than {fewer}: the traces of the second record {end.format('first')}"))
+
+    def test_every_part(self):
+        """A byte of each card and of each header number, and some of the samples: each is found, and told by its own kind of number."""
+        rnd = random.Random(9)
+        n, groups = 240, {number for group in GROUPS.values() for number in group}
+        places = [(place_of_card(80 * card + rnd.randrange(80)), 0x80) for card in range(40)]
+        for number, width in reels.BINARY_FIELDS.items():
+            if number not in (3217, 3221, 3225):
+                places.append((place_of_binary(number) + rnd.choice((0, width - 1)), 0x80))
+        for number, width in reels.TRACE_FIELDS.items():
+            place = place_of_field(rnd.randint(1, 6), n, number)
+            # Elevations and coordinates change by little, so that their scalars stay right; the scalars have a test of their own.
+            if number in groups:
+                places.append((place + 3, 0x02))
+            elif number not in (69, 71, 115, 117):
+                places.append((place + rnd.choice((0, width - 1)), 0x80))
+        for _ in range(20):
+            place = place_of_pair(rnd.randint(1, 6), n, rnd.randint(1, n))
+            if self.record[place : place + 6] != bytes(6):
+                places.append((place + 5, 0x02))
+        for place, bits in places:
+            other = with_bytes(self.record, place, bytes([self.record[place] ^ bits]))
+            self.assertNotEqual(self.compared(self.record, other)[0], 0)
+
+    def test_cards_have_no_sign(self):
+        rising = [0x01, 0x3F, 0x40, 0x7F, 0x80, 0xC1, 0xFF]
+        for column in (0, 79, 80, 3199):
+            held = [with_bytes(self.record, place_of_card(column), bytes([byte])) for byte in rising]
+            for one, other in zip(held, held[1:]):
+                self.compared(one, other, -1)
+
+    def test_numbers_have_a_sign(self):
+        n = 240
+        for place, width in (
+            (place_of_binary(3201), 4), (place_of_binary(3213), 2), (place_of_binary(3219), 2), (place_of_field(1, n, 1), 4),
+            (place_of_field(2, n, 29), 2), (place_of_field(6, n, 179), 2),
+        ):
+            most = 1 << 8 * width - 1
+            held = [with_bytes(self.record, place, (number % (2 * most)).to_bytes(width, "big"))
+                    for number in (-most, 1 - most, -256, -255, -2, -1, 0, 1, 255, 256, most - 1)]
+            for one, other in zip(held, held[1:]):
+                self.compared(one, other, -1)
+            self.compared(held[0], held[-1], -1)
+
+    def test_numbers_without_their_scalars(self):
+        """Elevations and coordinates count as they stand, before their scalar where they come before it, and behind it where they do."""
+        def held(elevation, scalar, x, x_scalar):
+            fields = {41: elevation, 69: scalar, 73: x, 71: x_scalar}
+            return holding(1, [([pair_bytes(0, 1)], fields)])
+
+        plain = held(0, -10_000, 0, -10_000)
+        # 300,000,000 under 1 is more than 400,000,000 under -10, and less as a number.
+        self.compared(held(300_000_000, 1, 0, -10_000), held(400_000_000, -10, 0, -10_000), -1)
+        self.compared(held(300_000_000, -10, 0, -10_000), held(300_000_000, 1, 0, -10_000), -1)
+        # The scalar of coordinates stands before them.
+        self.compared(held(0, -10_000, 400_000_000, -10), held(0, -10_000, 300_000_000, 1), -1)
+        self.compared(plain, held(0, -10_000, -300_000_000, -1000), -1)
+        self.compared(held(0, -10_000, -300_000_000, 10), held(0, -10_000, 300_000_000, 10), -1)
+
+    def test_samples(self):
+        """Values of all sizes and signs, in rising order; each beside the next, and each beside each other for a part of them."""
+        rising = sorted({
+            m * Fraction(2) ** e
+            for e in (-280, -279, -150, -31, -30, -3, -1, 0, 1, 3, 30, 31, 220, 251) for m in (1, 3, 949, 2**24 - 1, 2**30 + 1, 2**31 - 1)
+        } | {Fraction(2**31 - 3), Fraction(2**30 - 1)})
+        rising = [value for value in (*(-value for value in reversed(rising)), Fraction(0), *rising)]
+        held = [holding(1, [([pair_of(value)], {})]) for value in rising]
+        for one, other in zip(held, held[1:]):
+            self.compared(one, other, -1)
+        rnd = random.Random(90)
+        for _ in range(150):
+            i, k = sorted(rnd.sample(range(len(held)), 2))
+            self.compared(held[i], held[k], -1)
+
+    def test_which_decides(self):
+        """Each part decides before all that stand behind it, whatever they are."""
+        n, record = 2, holding(2, [([pair_bytes(0, 1), pair_bytes(0, 5)], {1: 1}), ([pair_bytes(0, 7)] * 2, {1: 2})])
+        changes = [  # each a place, and a lesser and a greater content
+            (place_of_card(0), b"\x01", b"\xff"), (place_of_card(3199), b"\x01", b"\xff"), (place_of_binary(3201), b"\xff", b"\x01"),
+            (place_of_binary(3259), b"\xff", b"\x01"), (place_of_field(1, n, 1), b"\xff", b"\x01"),
+            (place_of_field(1, n, 179), b"\xff", b"\x01"), (place_of_pair(1, n, 1), pair_bytes(9, -1), pair_bytes(9, 1)),
+            (place_of_pair(1, n, 2), pair_bytes(9, -1), pair_bytes(9, 1)), (place_of_field(2, n, 1), b"\xff", b"\x01"),
+            (place_of_field(2, n, 179), b"\xff", b"\x01"), (place_of_pair(2, n, 1), pair_bytes(9, -1), pair_bytes(9, 1)),
+            (place_of_pair(2, n, 2), pair_bytes(9, -1), pair_bytes(9, 1)),
+        ]
+        for i, (place, lesser, greater) in enumerate(changes):
+            one, other = with_bytes(record, place, lesser), with_bytes(record, place, greater)
+            for place, less, more in changes[i + 1 :]:
+                one, other = with_bytes(one, place, more), with_bytes(other, place, less)
+            self.compared(one, other, -1)
+            # Nor does the count of traces play a part before.
+            if place_of_trace(2, n) > changes[i][0]:
+                fewer = other[: place_of_trace(2, n)] + b"\x05\x00\x04\x00\x00\x00\x01"
+                self.compared(one, fewer, -1)
+
+    def test_traces_that_end_first(self):
+        traces = [([pair_bytes(0, -1)], {1: i}) for i in range(4)]
+        held = [holding(1, traces[:t]) for t in range(5)]
+        for i, one in enumerate(held):
+            for k, other in enumerate(held):
+                self.compared(one, other, (i > k) - (i < k))
+
+    def test_random(self):
+        """Records that share much of what they hold, each beside each other."""
+        rnd = random.Random(99)
+        for n, t in ((1, 0), (1, 2), (2, 3), (5, 2)):
+            held = []
+            for _ in range(5):
+                traces = [([rnd.choice((pair_bytes(0, 0), pair_bytes(0, 1), pair_bytes(-1, -1), pair_bytes(2, 3))) for _ in range(n)],
+                           {1: rnd.choice((0, 0, 1, -1))}) for _ in range(rnd.randint(0, t))]
+                cards = bytes(rnd.choices((0x40, 0xC1), (0.999, 0.001), k=3200))
+                held.append(holding(n, traces, cards=cards))
+            for one in held:
+                for other in held:
+                    self.compared(one, other)
+
+    def test_forms(self):
+        """Records in every mixture of forms hold the same; what differs has its place in either."""
+        n = 6100
+        reel = long_reel(3, n, 2)
+        held = {earlier: Held(reel, earlier) for earlier in ((), (1,), (2,), (1, 2))}
+        for one in held.values():
+            for other in held.values():
+                self.compared(one.bytes, other.bytes, 0)
+        for earlier, others in (((), (1, 2)), ((1,), (2,)), ((2,), (1, 2))):
+            one, other = held[earlier], held[others]
+            for i, k in ((1, 6000), (1, 6001), (2, 1), (2, 6000), (2, 6001), (2, n)):
+                changed = with_bytes(one.bytes, one.pairs[i][k - 1], pair_bytes(17, -1))
+                why = self.compared(changed, other.bytes, -1)[1]
+                self.assertTrue(why.startswith(f"trace {i}, sample {k} is -1 * 2^17 (-131072) in the first record and "), why)
+                places = [one.pairs[i][k - 1], other.pairs[i][k - 1]]
+                where = f"place {places[0]}" if places[0] == places[1] else f"places {places[0]} and {places[1]}"
+                self.assertTrue(why.endswith(f" in the second ({where})"), why)
+            changed = with_bytes(one.bytes, one.header[2] + 3, b"\xff")
+            self.assertIn("trace 2, field 1, line-trace is ", self.compared(changed, other.bytes, -1)[1])
+
+    def test_long_traces(self):
+        for n, code in ((12_001, 3), (32_767, 8)):
+            held = Held(long_reel(code, n, 1))
+            for k in (6000, 6001, 12_000, 12_001, n):
+                place = held.pairs[1][k - 1]
+                why = self.compared(held.bytes, with_bytes(held.bytes, place, pair_bytes(20, 1)), -1)[1]
+                self.assertTrue(why.startswith(f"trace 1, sample {k} is ") and why.endswith(f"(place {place})"), why)
+
+    def refused(self, one, other, which, number, place):
+        """Both orders in which two files may be named; the sentence is that of `cards`, which refuses a record too."""
+        paths = self.file("one", one), self.file("other", other)
+        said = self.trouble(2, "compare", *paths)
+        self.assertTrue(said.startswith(f"{paths[which]}: "), said)
+        self.assertIn(f"refused by {number}: ", said)
+        self.assertIn(f"(place {place}", said)
+        self.assertEqual(self.trouble(2, "cards", paths[which]), said)
+        self.assertEqual(records.first_cause((one, other)[which]), ("refused", number, place))
+
+    def test_refused(self):
+        n, record = 240, self.record
+        bad = {
+            (13, 3): with_bytes(record, 3, b"\0"), (13, 3222): with_bytes(record, place_of_binary(3217), b"\0\0"), (12, 0): b"",
+            (12, 3203): record[:3203], (12, place_of_end(6, n)): record[:-1], (12, 13029): record + b"\0",
+            (13, place_of_pair(6, n, 240)): with_bytes(record, place_of_pair(6, n, 240), b"\0\0\0\0\0\2"),
+            (12, place_of_samples(2, n)): with_bytes(record, place_of_samples(2, n), b"\5"),
+            (13, place_of_field(4, n, 115)): with_bytes(record, place_of_field(4, n, 115), b"\0\0"),
+        }
+        for (number, place), content in bad.items():
+            self.refused(content, record, 0, number, place)
+            self.refused(record, content, 1, number, place)
+            self.refused(content, bad[13, 3], 0, number, place)
+            self.refused(content, b"", 0, number, place)
+        # What is no record at all is said to be that.
+        path = self.file("a.record", record)
+        for content, kind in ((SAMPLE.read_bytes(), "is a reel, not a record: "), (listing_of(record), "is a listing, not a record: ")):
+            other = self.file("b", content)
+            for words in ((path, other), (other, path)):
+                self.assertIn(f"{other}: {kind}refused by 12: ", self.trouble(2, "compare", *words))
+        empty = self.file("b", b"")
+        self.assertEqual(self.trouble(2, "compare", empty, path), (
+            f"{empty}: refused by 12: the record ends where a field should begin (place 0: tag 01, the cards)"))
+
+    def test_damaged(self):
+        """Any bytes: it answers as the rules say, or refuses as `cards` does."""
+        rnd = random.Random(13)
+        path = self.file("one", self.record)
+        for _ in range(120):
+            other = bytearray(self.record)
+            for _ in range(rnd.choice((1, 1, 2, 5))):
+                other[rnd.randrange(len(other))] ^= 1 << rnd.randrange(8)
+            other = bytes(other[: rnd.choice((len(other), len(other), rnd.randrange(len(other) + 1)))])
+            cause = records.first_cause(other)
+            if cause is None:
+                self.compared(self.record, other)
+                continue
+            second = self.file("other", other)
+            said = self.trouble(2, "compare", path, second)
+            self.assertEqual(said, self.trouble(2, "compare", second, path))
+            self.assertIn(f"refused by {cause[1]}: ", said)
+            self.assertEqual(said, self.trouble(2, "cards", second))
+
+    def test_files(self):
+        path, missing = self.file("a.record", self.record), self.folder / "missing"
+        for bad, part in ((missing, "missing: can't be opened: No such file"), (self.folder, f"{self.folder}: is a folder, not a file")):
+            for words in ((path, bad), (bad, path), (bad, bad)):
+                self.assertIn(part, self.trouble(1, "compare", *words))
+        # A file that can't be read comes before what another is refused by.
+        self.assertIn("can't be opened", self.trouble(1, "compare", self.file("empty", b""), missing))
+        other = {"user": 65534, "group": 65534, "extra_groups": []} if os.getuid() == 0 else {}
+        path.chmod(0o000)
+        self.assertIn("a.record: can't be opened: Permission denied", self.trouble(1, "compare", path, path, **other))
+        path.chmod(0o444)
+        self.folder.chmod(0o555)
+        self.fine("compare", path, path, **other)
+        self.folder.chmod(0o777)
+        self.assertEqual(self.names(), ["a.record", "empty"])
+
+    def test_pipes(self):
+        """What can't be mapped is loaded."""
+        path = self.file("a.record", self.record)
+        self.assertIn("/dev/stdin is equal to ", self.fine("compare", "/dev/stdin", path, stdin=self.record))
+        run = self.run_command("compare", path, "/dev/stdin", stdin=with_bytes(self.record, 3, b"\xff"))
+        self.assertEqual((run.returncode, run.stderr), (4, b""))
+        self.assertIn("refused by 12: ", self.trouble(2, "compare", path, "/dev/null"))
+
+    def test_names(self):
+        for name, shown in ((b"a b", b"a b"), (b"-", b"-"), (b"x\ny", b"x\\ny"), (b"\\", b"\\\\"), (b"c\rd", b"c\\rd"), (b"\xff", b"\xff")):
+            with open(os.fsencode(self.folder) + b"/" + name, "wb") as file:
+                file.write(self.record)
+            run = self.run_command("compare", os.fsdecode(name), os.fsdecode(name), cwd=self.folder)
+            self.assertEqual((run.returncode, run.stderr), (0, b""))
+            self.assertEqual(run.stdout, shown + b" is equal to " + shown + b": they hold the same, 6 traces of 240 samples, byte for byte\n")
+        self.file("--force", self.record)
+        self.fine("compare", "--", "--force", "--force", cwd=self.folder)
+
+    def test_output_that_nobody_reads(self):
+        """The exit status is the answer, so that nobody reads the sentence is no trouble; one that can't be written is."""
+        path, other = self.file("a", self.record), self.file("b", with_bytes(self.record, 3, b"\xff"))
+        ours, theirs = os.pipe()
+        os.close(ours)
+        for words, status in (((path, other), 4), ((other, path), 5), ((path, path), 0)):
+            run = self.run_command("compare", *words, stdout=theirs)
+            self.assertEqual((run.returncode, run.stderr), (status, b""))
+        run = self.run_command("sort", path, other, stdout=theirs)
+        os.close(theirs)
+        self.assertEqual((run.returncode, run.stderr), (1, b""))
+        with open("/dev/full", "wb") as full:
+            for words in (("compare", path, other), ("compare", path, path), ("sort", path, other)):
+                run = self.run_command(*words, stdout=full)
+                self.assertEqual(run.returncode, 1)
+                self.assertIn(b"standard output: can't be written", run.stderr)
+
+    def test_where_it_is_explained(self):
+        texts = {path: (TOP / path).read_text(encoding="utf-8") for path in ("README.md", "docs/aukpocket.1", "docs/FORMAT.md", "include/aukpocket.h")}
+        for path, part in (
+            ("README.md", "\n## The order of records\n"), ("docs/aukpocket.1", "\n.SH THE ORDER OF RECORDS\n"), ("docs/FORMAT.md", "Records have an order: "),
+            ("include/aukpocket.h", "Valid records have an order, "), ("README.md", "`compare` has 4 for a first record that is the lesser, and 5 "),
+        ):
+            self.assertIn(part, texts[path], path)
+        for command in ("compare", "sort"):
+            self.assertIn("The order is that of the card bytes, as numbers without a sign; ", self.fine(command, "--help"))
+        self.assertIn("4 the first record is the lesser, 5 the first record is the greater.\n", self.fine("compare", "--help"))
 
 
 # Locales of both kinds, by the variable that names them last.

@@ -268,8 +268,8 @@ const ORDER: &str = "
 The order is that of the card bytes, as numbers without a sign; then of the numbers of the binary header; then,
 trace by trace, of the numbers of its header and of its samples by their exact values. Header numbers are signed
 and count as they stand in the record: elevations and coordinates without their scalars, and the scalars like
-every other number. The first that differs decides. Where all agree that both have, the record with fewer traces
-is the lesser. Two records are equal just when they hold the same, whatever their forms (below).
+every other number. The first that differs decides. Where everything that both have agrees, the record with fewer
+traces is the lesser. Two records are equal just when they hold the same, whatever their forms (below).
 ";
 
 const MAPPED: &str = "
