@@ -290,9 +290,9 @@ class Help(Case):
         whole = self.fine("--help")
         self.assertEqual(whole, self.fine("-h"))
         self.assertRegex(self.fine("--version"), r"^aukpocket \d+\.\d+\.\d+\n$")
-        for status in ("0  fine", "1  wrong words", "2  refused", "3  verify found"):
+        for status in ("0  fine", "1  wrong words", "2  refused", "3  verify found", "4  compare: the first", "5  compare: the first"):
             self.assertIn(status, whole)
-        for command in ("read", "write", "look", "info", "cards", "verify", "check"):
+        for command in ("read", "write", "look", "info", "cards", "verify", "compare", "sort", "check"):
             self.assertIn(f"  aukpocket {command}", whole)
             said = self.fine(command, "--help")
             self.assertTrue(said.startswith(f"aukpocket {command}"), said)
@@ -305,13 +305,13 @@ class Help(Case):
     def test_the_man_page(self):
         """It has every command, option and exit status."""
         page = (TOP / "docs" / "aukpocket.1").read_text(encoding="utf-8").replace("\\-", "-")
-        for command in ("read", "write", "look", "info", "cards", "verify", "check"):
+        for command in ("read", "write", "look", "info", "cards", "verify", "compare", "sort", "check"):
             self.assertIn(f"\n.B aukpocket {command}\n", page)
             self.assertIn(f"\n.TP\n.B {command}\n", page)
         for option in re.findall(r"--[a-z]+", self.fine("--help")):
             self.assertIn(option, page)
         self.assertIn(f'"{self.fine("--version").strip()}"\n', page)
-        for status, meaning in re.findall(r"^  ([0-3])  (.*)$", self.fine("--help"), re.M):
+        for status, meaning in re.findall(r"^  ([0-9])  (.*)$", self.fine("--help"), re.M):
             self.assertIn(f"\n.B {status}\n{meaning}\n", page.replace("\n.B verify\nfound", "\nverify found"))
 
     def test_wrong_words(self):
@@ -327,6 +327,8 @@ class Help(Case):
             ("cards", SAMPLE, "--force"), ("cards", SAMPLE, SAMPLE, "x"), ("cards", SAMPLE, SAMPLE, "x", "--utf-8"),
             ("info", SAMPLE, "--utf8"), ("read", SAMPLE, "x", "--latin1"), ("read", "--eagle", SAMPLE), ("verify", "--eagle"),
             ("check", "--eagle", SAMPLE), ("info", SAMPLE, "--eagle"), ("look", SAMPLE, 1, 115, "--eagle"), ("--eagle",),
+            ("compare",), ("compare", SAMPLE), ("compare", SAMPLE, SAMPLE, SAMPLE), ("compare", SAMPLE, SAMPLE, "--force"), ("sort",), ("sort", "--"),
+            ("sort", SAMPLE, "--eagle"), ("sort", "--reverse", SAMPLE),
         ):
             self.trouble(1, *words, cwd=self.folder)
         self.assertEqual(self.names(), [])
@@ -2863,6 +2865,130 @@ class Compare(Ordered):
         self.assertIn("4 the first record is the lesser, 5 the first record is the greater.\n", self.fine("compare", "--help"))
 
 
+class Sort(Ordered):
+    """Many records in their order."""
+
+    def expected(self, held):
+        """The list of records, by their names: those that hold the same behind the first of them."""
+        by_parts = {}
+        for name in sorted(held):
+            by_parts.setdefault(tuple(part[2] for part in parts_of(held[name])), []).append(name)
+        return b"".join(b"= " * (i > 0) + name + b"\n" for key in sorted(by_parts) for i, name in enumerate(by_parts[key]))
+
+    def sorted(self, held, shuffles=3, **named):
+        """Sorts records by their names in their folder, named in several orders. The list is the same, and that of the rules."""
+        rnd = random.Random(len(held))
+        for name, content in held.items():
+            (self.folder / os.fsdecode(name)).write_bytes(content)
+        expected, names = self.expected(held), list(held)
+        for _ in range(shuffles):
+            rnd.shuffle(names)
+            run = self.run_command("sort", *map(os.fsdecode, names), cwd=self.folder, **named)
+            self.assertEqual((run.returncode, run.stderr, run.stdout), (0, b"", expected))
+        return expected
+
+    def some(self, count, fronts):
+        """Records of so many fronts, some of them equal."""
+        rnd = random.Random(count)
+        headers = [(with_bytes(b"\x40" * 3200, rnd.randrange(3200), bytes([rnd.randrange(1, 256)])), {3205: rnd.randint(-3, 3), 3259: rnd.choice((-1, 0, 1))})
+                   for _ in range(fronts)]
+        held = {}
+        for i in range(count):
+            cards, fields = rnd.choice(headers)
+            traces = [([pair_bytes(*rnd.choice(((0, 0), (0, 1), (-1, -1), (31, -1)))) for _ in range(2)], {1: rnd.choice((0, 1, -1))})
+                      for _ in range(rnd.randint(0, 2))]
+            held[b"%03d.record" % rnd.randrange(1000)] = holding(2, traces, cards=cards, fields=fields)
+        return held
+
+    def test_the_sample(self):
+        """In a list that was written by hand."""
+        n, record = 240, self.record
+        for name, content in (
+            ("a", with_bytes(record, place_of_pair(6, n, 240), pair_bytes(0, 1))), ("b", record), ("c", record),
+            ("d", record[: place_of_trace(6, n)] + b"\x05\x00\x04\x00\x00\x00\x05"), ("e", with_bytes(record, 3, b"\x01")),
+            ("f", with_bytes(record, place_of_binary(3205), b"\xff")), ("g", with_bytes(record, place_of_pair(6, n, 240), pair_bytes(-1, -1))),
+        ):
+            self.file(name, content)
+        for names in ("abcdefg", "gfedcba", "cafebdg"):
+            self.assertEqual(self.fine("sort", *names, cwd=self.folder), "e\nf\nd\ng\nb\n= c\na\n")
+        self.assertEqual(self.fine("sort", "c", cwd=self.folder), "c\n")
+        self.assertEqual(self.fine("sort", "c", "b", "c", "./b", cwd=self.folder), "./b\n= b\n= c\n= c\n")
+        self.assertEqual(self.names(), list("abcdefg"))
+
+    def test_many(self):
+        for count, fronts in ((2, 1), (3, 3), (40, 1), (60, 12), (90, 90)):
+            self.sorted(self.some(count, fronts))
+            for path in self.folder.iterdir():
+                path.unlink()
+        self.assertIn(b"\n= ", self.sorted(self.some(60, 2), 8))
+
+    def test_many_files(self):
+        """No more than a few files are open at a time."""
+        held = self.some(700, 300)
+        self.assertGreater(len(held), 450)
+        self.sorted(held, 2, preexec_fn=limited(resource.RLIMIT_NOFILE, 8))
+
+    def test_forms(self):
+        n = 6001
+        reel = long_reel(8, n, 2)
+        held = {b"%d" % i: Held(reel, earlier).bytes for i, earlier in enumerate(((), (1,), (2,), (1, 2)))}
+        held[b"last"] = with_bytes(held[b"3"], place_of_pair(2, n, n, (1, 2)), pair_bytes(9, 1))
+        held[b"less"] = with_bytes(held[b"0"], place_of_pair(2, n, n), pair_bytes(9, -1))
+        self.assertEqual(self.sorted(held, 2), b"less\n0\n= 1\n= 2\n= 3\nlast\n")
+
+    def test_pipes(self):
+        """What can't be mapped is loaded, and compared like the others."""
+        less, more = (with_bytes(self.record, place_of_pair(6, 240, 240), pair_bytes(0, m)) for m in (-1, 1))
+        self.file("a", self.record), self.file("b", less), self.file("c", more)
+        for content, expected in ((self.record, "b\n/dev/stdin\n= a\nc\n"), (less, "/dev/stdin\n= b\na\nc\n"), (more, "b\na\n/dev/stdin\n= c\n")):
+            self.assertEqual(self.fine("sort", "a", "b", "/dev/stdin", "c", cwd=self.folder, stdin=content), expected)
+
+    def test_names(self):
+        """Names of any bytes, a line each; and the way back that the help tells."""
+        names = [b"a b", b"x\ny", b"\\", b"\\n", b"c\rd", b"= e", b"=f", b"=", b"= ", b"\\= g", b" h", b"-", b"\xff\xfe", b"i\n= j"]
+        for i, name in enumerate(names):
+            with open(os.fsencode(self.folder) + b"/" + name, "wb") as file:
+                file.write(with_bytes(self.record, 3, bytes([1 + i // 2])))
+        run = self.run_command("sort", *map(os.fsdecode, names), cwd=self.folder)
+        self.assertEqual((run.returncode, run.stderr), (0, b""))
+        lines = run.stdout.split(b"\n")
+        self.assertEqual((len(lines), lines[-1]), (len(names) + 1, b""))
+        found = []
+        for line in lines[:-1]:
+            equal = line.startswith(b"= ")
+            name = line[2:] if equal else line
+            if name.startswith(b"\\"):
+                name = re.sub(rb"\\(.)", lambda m: {b"n": b"\n", b"r": b"\r"}.get(m[1], m[1]), name[1:])
+            found.append((equal, name))
+        expected = [(k > 0, name) for i in range(0, len(names), 2) for k, name in enumerate(sorted(names[i : i + 2]))]
+        self.assertEqual(found, expected)
+        self.assertIn(b"x\\ny\n", run.stdout)
+        self.assertIn(b"\n\\\\= e\n", run.stdout)
+        self.assertIn(b"\n= =f\n", run.stdout)
+
+    def test_refused(self):
+        """All that aren't taken are named, in the order of their names, and there is no list."""
+        self.file("a", self.record), self.file("b", self.record[:-1]), self.file("c", b""), self.file("d", with_bytes(self.record, 3, b"\0"))
+        cut = "b: refused by 12: the record ends within a field (place 13022: tag 05, the count of traces)"
+        empty = "c: refused by 12: the record ends where a field should begin (place 0: tag 01, the cards)"
+        zero = "d: refused by 13: a card byte is 00 (place 3: card 1, column 1)"
+        missing = "no: can't be opened: No such file or directory (os error 2)"
+        folder = ".: is a folder, not a file"
+        for names, status, said in (
+            ("ab", 2, [cut]), ("ba", 2, [cut]), ("b", 2, [cut]), ("dcba", 2, [cut, empty, zero]), ("acbd", 2, [cut, empty, zero]), ("cc", 2, [empty] * 2),
+            (["a", "no"], 1, [missing]), (["d", "no", "c"], 1, [empty, zero, missing]), (["no", "a", "."], 1, [folder, missing]),
+        ):
+            run = self.run_command("sort", *names, cwd=self.folder)
+            were = "wasn't" if len(said) == 1 else "weren't"
+            self.assertEqual((run.returncode, run.stdout, run.stderr.decode().splitlines()), (status, b"", [
+                *(f"aukpocket: {line}" for line in said), f"aukpocket: sort: {len(said)} of {len(names)} {were} taken, so there is no list"]))
+        self.file("e", SAMPLE.read_bytes())
+        run = self.run_command("sort", "a", "e", cwd=self.folder)
+        self.assertEqual(run.returncode, 2)
+        self.assertIn(b"e: is a reel, not a record: refused by 12: ", run.stderr)
+        self.assertEqual(self.names(), list("abcde"))
+
+
 # Locales of both kinds, by the variable that names them last.
 UTF8 = {"LC_ALL": "C.UTF-8"}
 ASCII = {"LC_ALL": "C"}
@@ -3518,6 +3644,9 @@ class Large(Case):
         )) + f"aukpocket: {listing}: lines 1 to 40 were filled with blanks to column 80\n")
         self.assertEqual(new.read_bytes(), output.read_bytes())
         new.unlink()
+        self.assertEqual(self.terminal("compare", output, output), f"aukpocket: comparing {output} with {output}, 96 MB\n")
+        self.assertEqual(self.terminal("sort", output, output), (
+            f"aukpocket: judging {output}, 48 MB\n" * 2 + f"aukpocket: comparing {output} with {output}, 96 MB\n"))
         self.assertEqual(self.terminal("read", SAMPLE, self.folder / "small"), "")
         self.fine("read", self.reel, output, "--force")
         with open(self.reel, "rb") as file:
@@ -3567,7 +3696,20 @@ class Large(Case):
         self.assertFalse(output.exists())
         self.fine("write", record, 8, output, preexec_fn=limit)
         output.unlink()
-        record.unlink()
+        # Two records are mapped at a time, however many there are; where even they have no room, it is said.
+        last = self.length - 7 - 6
+        os.link(record, self.folder / "same")
+        with open(record, "rb") as file:
+            whole = file.read()
+        for name, m in (("less", -1), ("more", 3)):
+            self.file(name, with_bytes(whole, last, pair_bytes(0, m)))
+        names = ("more", "record", "less", "same", "record", "same")
+        self.assertEqual(self.fine("sort", *names, cwd=self.folder, preexec_fn=limited(resource.RLIMIT_AS, 110 * MEGABYTE)), (
+            "less\nrecord\n= record\n= same\n= same\nmore\n"))
+        self.assertIn(" is equal to ", self.fine("compare", record, self.folder / "same", preexec_fn=limited(resource.RLIMIT_AS, 110 * MEGABYTE)))
+        self.assertIn("record: too large for the memory that this run may have: 48 MB are needed", self.trouble(1, "compare", record, record, preexec_fn=limit))
+        for name in ("record", "same", "less", "more"):
+            (self.folder / name).unlink()
         huge = self.file("huge.sgy", SAMPLE.read_bytes())
         try:
             os.truncate(huge, 10**12)
@@ -3588,6 +3730,7 @@ class Built(Case):
 # A library that calls the proved one and is wrong in one way.
 WRONG_LIBRARY = r"""
 #include "aukpocket.h"
+#include <stdio.h>
 #include <stdlib.h>
 #include <string.h>
 struct aukpocket_reel_answer proved_read_reel(const uint8_t *, size_t, uint8_t *, size_t);
@@ -3595,6 +3738,7 @@ struct aukpocket_reel_answer proved_read_eagle(const uint8_t *, size_t, uint8_t 
 struct aukpocket_reel_answer proved_write_reel(const uint8_t *, size_t, uint32_t, uint8_t *, size_t);
 struct aukpocket_reel_answer proved_write_nearest(const uint8_t *, size_t, uint32_t, uint8_t *, size_t);
 struct aukpocket_reel_answer proved_list_cards(const uint8_t *, size_t, uint8_t *, size_t);
+struct aukpocket_order_answer proved_compare(const uint8_t *, size_t, const uint8_t *, size_t);
 uint64_t proved_blank_eight(uint64_t);
 static int wrong(const char *way) { return getenv("WRONG") != NULL && strcmp(getenv("WRONG"), way) == 0; }
 static int reads;
@@ -3655,6 +3799,36 @@ struct aukpocket_reel_answer aukpocket_list_cards(const uint8_t *record, size_t 
         answer.changed = 1;
     return answer;
 }
+struct aukpocket_order_answer aukpocket_compare(const uint8_t *first, size_t first_length, const uint8_t *second, size_t second_length)
+{
+    struct aukpocket_order_answer answer = proved_compare(first, first_length, second, second_length);
+    int fronts = first_length == 3273 && second_length == 3273;
+    if (wrong("order noted"))
+        fputc(fronts ? 'f' : second_length == 3273 ? 'j' : 'w', stderr);
+    if (wrong("order lesser"))
+        answer.order = -1;
+    if (wrong("order equal"))
+        answer.order = 0;
+    if (wrong("order turned"))
+        answer.order = -answer.order;
+    if (wrong("order two"))
+        answer.order = 2;
+    if (wrong("order place"))
+        answer.beside = 1;
+    if (wrong("order which"))
+        answer.which = 2;
+    if (wrong("order refused") && answer.number != 0)
+        answer.order = 1;
+    if (wrong("order cause") && answer.number != 0)
+        answer.number = 10;
+    if (wrong("order third") && answer.number != 0)
+        answer.which = 3;
+    if (wrong("order far") && answer.number != 0)
+        answer.beside = first_length + second_length + 1;
+    if ((wrong("order of fronts") && fronts) || (wrong("order of records") && first_length == second_length && !fronts))
+        answer.number = 12, answer.order = 0, answer.which = 1, answer.beside = 0;
+    return answer;
+}
 uint64_t aukpocket_blank_eight(uint64_t cards)
 {
     return wrong("zeros") ? cards : proved_blank_eight(cards);
@@ -3707,7 +3881,7 @@ class Wrong(Built):
 
     def test_verify_finds_a_difference(self):
         library, command = self.folder / "libaukpocket.a", self.folder / "command"
-        calls = ("read_reel", "read_eagle", "write_reel", "write_nearest", "list_cards", "blank_eight")
+        calls = ("read_reel", "read_eagle", "write_reel", "write_nearest", "list_cards", "compare", "blank_eight")
         self.built("objcopy", *(f"--redefine-sym=aukpocket_{call}=proved_{call}" for call in calls), ARCHIVE, library)
         wrong = self.file("wrong.c", WRONG_LIBRARY.encode())
         self.built("cc", "-I", TOP / "include", "-c", wrong, "-o", self.folder / "wrong.o")
@@ -3763,11 +3937,46 @@ class Wrong(Built):
             ("nearest many", ("write", record, "3", none, "--nearest"),
              "the library tells of 1441 samples that changed where 1440 were written by nearest values"),
             ("nearest normal", ("write", record, "3", none, "--nearest"), "the library tells of 1 words that aren't normal where 0 were read"),
+            ("order two", ("compare", record, record), "the library tells of the order 2, which is none"),
+            ("order place", ("compare", record, record), "the library tells of a place without a cause"),
+            ("order which", ("sort", record, record), "the library tells of a record without a cause"),
+            ("order refused", ("compare", record, cut), "the library tells of an order beside a refusal"),
+            ("order cause", ("sort", cut), "the library refuses a record by 10, which is no cause where two are compared"),
+            ("order third", ("compare", cut, record), "the library refuses record 3 of two"),
+            ("order far", ("compare", record, cut), "the library tells of place 23829 in a record of 10799 bytes"),
         ):
             run = subprocess.run([command, *words], capture_output=True, text=True, env={"WRONG": way}, timeout=SECONDS)
             self.assertNotIn(run.returncode, (0, 2))
             self.assertIn(said, run.stderr)
             self.assertFalse(none.exists())
+        # An order that the bytes don't bear out is never told, and no list is made of what contradicts itself.
+        less = self.file("less", with_bytes(record.read_bytes(), place_of_pair(6, 240, 240), pair_bytes(0, -1)))
+        sample = f"trace 6, sample 240 is {{}} in the first record and {{}} in the second (place {place_of_pair(6, 240, 240)})"
+        lesser, greater = sample.format("-1 * 2^0 (-1)", "0 * 2^0 (0)"), sample.format("0 * 2^0 (0)", "-1 * 2^0 (-1)")
+        same = "they hold the same, 6 traces of 240 samples, byte for byte"
+        says = "the library says that the first record is {} the second, and by their bytes it is {} it: {}"
+        front = "the library doesn't say that it is greater than the same record without traces"
+        for way, words, said in (
+            ("order turned", ("compare", less, record), f"{less}, {record}: {says.format('greater than', 'lesser than', lesser)}"),
+            ("order turned", ("compare", record, less), f"{record}, {less}: {says.format('lesser than', 'greater than', greater)}"),
+            ("order equal", ("compare", less, record), f"{less}, {record}: {says.format('equal to', 'lesser than', lesser)}"),
+            ("order lesser", ("compare", record, less), f"{record}, {less}: {says.format('lesser than', 'greater than', greater)}"),
+            ("order lesser", ("compare", record, record), f"{record}, {record}: {says.format('lesser than', 'equal to', same)}"),
+            ("order turned", ("sort", less, record), f"{less}: {front}"), ("order equal", ("sort", record), f"{record}: {front}"),
+        ):
+            run = subprocess.run([command, *words], capture_output=True, text=True, env={"WRONG": way}, timeout=SECONDS)
+            self.assertEqual((run.returncode, run.stdout, run.stderr), (3, "", f"aukpocket: {said}; report this\n"))
+        for way in ("order of fronts", "order of records"):
+            run = subprocess.run([command, "sort", record, less], capture_output=True, text=True, env={"WRONG": way}, timeout=SECONDS)
+            self.assertEqual((run.returncode, run.stdout), (3, ""))
+            self.assertRegex(run.stderr, r"^aukpocket: .*: refused by 12: .*; it was taken before; report this\n$")
+        # Each record is judged once; most are then told apart by their fronts, and whole only where these are the same.
+        numbered = [self.file(f"{i:02}", with_bytes(record.read_bytes(), 3, bytes([1 + 37 * i % 64]))) for i in range(64)]
+        for paths, fronts, whole in ((numbered, range(63, 64 * 6), (0,)), ([record, less], (1,), (1,)), ([record] * 32, (31,), (31,))):
+            run = subprocess.run([command, "sort", *paths], capture_output=True, text=True, env={"WRONG": "order noted"}, timeout=SECONDS)
+            self.assertEqual((run.returncode, run.stderr.count("j"), len(run.stdout.splitlines())), (0, len(paths), len(paths)))
+            self.assertIn(run.stderr.count("f"), fronts)
+            self.assertIn(run.stderr.count("w"), whole)
         # A reel by nearest values that isn't what was counted never gets its name.
         for way, code, said in (
             ("nearest fewer", 3, "342 samples changed, and 341 were counted"), ("nearest sample", 3, "343 samples changed, and 342 were counted"),
@@ -3864,6 +4073,92 @@ class Halfway(Built):
             self.output.unlink()
 
 
+# Stops a run where it has mapped a file as long as the sample's record, until it is told to go on.
+MAPPED = r"""
+#define _GNU_SOURCE
+#include <dlfcn.h>
+#include <signal.h>
+#include <sys/mman.h>
+void *mmap(void *at, size_t length, int access, int kind, int file, off_t place)
+{
+    void *(*next)(void *, size_t, int, int, int, off_t) = (void *(*)(void *, size_t, int, int, int, off_t))dlsym(RTLD_NEXT, "mmap");
+    void *mapped = next(at, length, access, kind, file, place);
+    if (length == 13029)
+        raise(SIGSTOP);
+    return mapped;
+}
+"""
+
+
+class Mapped(Built):
+    """Records that are changed or cut while they are compared. The run stops by itself where each is mapped, so that no clock plays a part."""
+
+    def setUp(self):
+        super().setUp()
+        library = Path(ROOM) / "mapped.so"
+        if not library.exists():
+            self.built("cc", "-shared", "-fPIC", "-o", library, self.file("mapped.c", MAPPED.encode()), "-ldl")
+            (self.folder / "mapped.c").unlink()
+        self.preload = {"LD_PRELOAD": str(library)}
+        self.record = reels.record_of(SAMPLE.read_bytes())
+        self.last = place_of_pair(6, 240, 240)
+
+    def stopped(self, *words, stops, then):
+        """Does something at one of the places where a run stops; what the run then says, and its status."""
+        for name, m in (("one", 1), ("other", 3)):
+            (self.folder / name).unlink(missing_ok=True)
+            self.file(name, with_bytes(self.record, self.last, pair_bytes(0, m)))
+        run = subprocess.Popen([str(COMMAND), *words], stdout=subprocess.PIPE, stderr=subprocess.PIPE, cwd=self.folder,
+                               env={**os.environ, **self.preload}, preexec_fn=with_signals())
+        self.addCleanup(lambda: (run.kill(), run.wait(SECONDS), run.stdout.close(), run.stderr.close()))
+        for stop in range(1, stops + 1):
+            self.assertTrue(os.WIFSTOPPED(os.waitpid(run.pid, os.WUNTRACED)[1]))
+            if stop == stops:
+                then()
+            run.send_signal(signal.SIGCONT)
+        while os.WIFSTOPPED(status := os.waitpid(run.pid, os.WUNTRACED)[1]):
+            run.send_signal(signal.SIGCONT)
+        run.returncode = os.waitstatus_to_exitcode(status)
+        return run.returncode, run.stdout.read().decode(), run.stderr.read().decode()
+
+    def change(self, name):
+        """Another state of a file, which has the same bytes."""
+        def then():
+            path = self.folder / name
+            path.write_bytes(path.read_bytes())
+            os.utime(path, ns=(0, 0))
+        return then
+
+    def cut(self, name):
+        return lambda: os.truncate(self.folder / name, 0)
+
+    def test_compare(self):
+        self.assertEqual(self.stopped("compare", "one", "other", stops=2, then=lambda: None)[0::2], (4, ""))
+        for name in ("one", "other"):
+            self.assertEqual(self.stopped("compare", "one", "other", stops=2, then=self.change(name)), (
+                1, "", f"aukpocket: {name}: was changed while it was read\n"))
+            self.assertEqual(self.stopped("compare", "one", "other", stops=2, then=self.cut(name)), (
+                1, "", "aukpocket: one or other: was cut while it was read, or can't be read from its disk\n"))
+        # One that is cut before the second is mapped.
+        self.assertEqual(self.stopped("compare", "one", "other", stops=1, then=self.cut("one"))[:2], (1, ""))
+
+    def test_sort(self):
+        """Each is mapped to be judged, and both once more, since their fronts are the same."""
+        self.assertEqual(self.stopped("sort", "one", "other", stops=4, then=lambda: None), (0, "one\nother\n", ""))
+        changed = "aukpocket: {}: was changed while it was read\n"
+        no_list = "aukpocket: sort: 1 of 2 wasn't taken, so there is no list\n"
+        lost = "aukpocket: {}: was cut while it was read, or can't be read from its disk\n"
+        for stops, then, said in (
+            (1, self.change("one"), changed.format("one") + no_list), (2, self.change("other"), changed.format("other") + no_list),
+            (2, self.change("one"), changed.format("one")), (3, self.change("one"), changed.format("one")),
+            (3, self.change("other"), changed.format("other")), (4, self.change("one"), changed.format("one")),
+            (4, self.change("other"), changed.format("other")), (1, self.cut("one"), lost.format("one")),
+            (2, self.cut("other"), lost.format("other")), (2, self.cut("one"), changed.format("one")),
+            (4, self.cut("one"), lost.format("one or other")), (4, self.cut("other"), lost.format("one or other")),
+        ):
+            self.assertEqual(self.stopped("sort", "other", "one", stops=stops, then=then), (1, "", said), (stops, said))
+
+
 # Notes each sync, link and rename of a run.
 NOTES = r"""
 #define _GNU_SOURCE
@@ -3926,6 +4221,7 @@ static unsigned char long_reel[9841], long_record[39469], earlier[39465], long_a
 static int long_trace(void)
 {
     struct aukpocket_reel_answer answer;
+    struct aukpocket_order_answer order;
     size_t k;
     memset(long_reel, 0x40, 3200);
     long_reel[3217] = 1, long_reel[3220] = 0x17, long_reel[3221] = 0x71, long_reel[3225] = 8;
@@ -3963,6 +4259,14 @@ static int long_trace(void)
     answer = aukpocket_write_reel(earlier, 39465, 8, long_again, 9841);
     if (answer.number != 12 || answer.beside != 3449)
         return 57;
+    earlier[3451] = 0xA6; /* the same record in either form, and one with a lesser sample */
+    order = aukpocket_compare(earlier, 39465, long_record, 39468);
+    if (order.number != 0 || order.order != 0 || order.which != 0 || order.beside != 0)
+        return 59;
+    earlier[39457] = 0xE1;
+    order = aukpocket_compare(earlier, 39465, long_record, 39468);
+    if (order.number != 0 || order.order != -1)
+        return 60;
     long_reel[3220] = 0x80;
     answer = aukpocket_read_reel(long_reel, 9841, long_record, 39469);
     return answer.number == 3 && answer.beside == 3220 ? 0 : 58;
@@ -3976,6 +4280,7 @@ int main(void)
     struct aukpocket_reel_answer read, written, listed, taken;
     struct aukpocket_field_answer field, none;
     struct aukpocket_sample_answer sample;
+    struct aukpocket_order_answer order;
 
     memset(reel, 0x40, 3200);
     reel[3216] = 0x07, reel[3217] = 0xD0, reel[3221] = 2, reel[3225] = 1;
@@ -3991,6 +4296,25 @@ int main(void)
         return 2;
     if (read.changed != 0 || written.changed != 0)
         return 34;
+    order = aukpocket_compare(record, 3471, record, 3471);
+    if (order.number != 0 || order.order != 0 || order.which != 0 || order.beside != 0)
+        return 61;
+    memcpy(out, record, 3471);
+    out[3463] = 0x4D; /* -947 * 2^-3 in place of -949 * 2^-3 */
+    order = aukpocket_compare(record, 3471, out, 3471);
+    if (order.number != 0 || order.order != -1 || order.which != 0 || order.beside != 0)
+        return 62;
+    out[3268 + 1] = 0xFF; /* the trace's number in the line is negative */
+    order = aukpocket_compare(record, 3471, out, 3471);
+    if (order.number != 0 || order.order != 1 || order.which != 0 || order.beside != 0)
+        return 63;
+    order = aukpocket_compare(record, 3471, out, 3470);
+    if (order.number != 12 || order.order != 0 || order.which != 2 || order.beside != 3464)
+        return 64;
+    out[3] = 0;
+    order = aukpocket_compare(out, 3471, record, 0);
+    if (order.number != 13 || order.order != 0 || order.which != 1 || order.beside != 3)
+        return 65;
     memcpy(eagle, reel, 3848); /* the same with a trailer and a check */
     memset(eagle + 3848, 0x5A, 958);
     eagle[3198] = 0xE7, eagle[3199] = 0xF3, eagle[4806] = eagle[4807] = 0xFF, out[3471] = 0xEE;
@@ -4243,7 +4567,8 @@ class Examples(Built):
 
     def test_the_header(self):
         """The sizes that cli/src/library.rs and the examples count on, in C and in C++. With other sizes the version is another."""
-        sizes = (("reel", 56, {"length": 24, "not_normal": 40, "changed": 48}), ("field", 16, {"value": 4}), ("sample", 24, {"not_normal": 16}))
+        sizes = (("reel", 56, {"length": 24, "not_normal": 40, "changed": 48}), ("field", 16, {"value": 4}),
+                 ("order", 24, {"order": 4, "which": 8, "beside": 16}), ("sample", 24, {"not_normal": 16}))
         source = '#include "aukpocket.h"\n#if AUKPOCKET_VERSION != 4\n#error another version\n#endif\n'
         for kind, size, places in sizes:
             answer = f"struct aukpocket_{kind}_answer"
