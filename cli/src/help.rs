@@ -46,7 +46,7 @@ With --eagle a reel is read as one of the Eagle recorder, which has a trailer be
 as a plain reel. info says when a file could be an Eagle reel. look and write know plain reels alone.
 
 Places are counted from 0, byte numbers, as in the standard, from 1. A whole reel and its record have
-to fit in memory.
+to fit in memory, but for the records that compare and sort are given, which are mapped.
 ",
         codes::numbers()
     )
