@@ -1,7 +1,7 @@
 //! SEG-Y revision 0 reels and their canonical records: the five calls of document 01, the two of
-//! document 02's CR 1, and the one of each of its CR 5, CR 6 and CR 7, with the scalars of CR 2, the
-//! count of CR 3, the codes of CR 4 and the sample fields of CR 8, in plain Rust, written from the papers
-//! alone. The differential test compares the library with them.
+//! document 02's CR 1, and the one of each of its CR 5, CR 6, CR 7 and CR 9, with the scalars of CR 2,
+//! the count of CR 3, the codes of CR 4 and the sample fields of CR 8, in plain Rust, written from the
+//! papers alone. The differential test compares the library with them.
 //!
 //! A refused call changes no byte of its output. So each call on a whole reel or record makes two
 //! passes: the first looks for causes to refuse, the second writes.
@@ -9,10 +9,13 @@
 use std::ops::Range;
 
 mod nearest;
+mod order;
 mod page;
 mod scalars;
 #[cfg(test)]
 mod tests;
+
+pub use order::{compare, RefusedOf};
 
 const CARD_BYTES: usize = 3_200;
 /// The cards and the binary header, after which the traces begin.

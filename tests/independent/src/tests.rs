@@ -1,9 +1,10 @@
-//! Document 01's samples at the edges and its example, and what document 02's CR 1 to CR 8 make of it.
+//! Document 01's samples at the edges and its example, and what document 02's CR 1 to CR 9 make of it.
 
 use super::*;
 
 mod eagle;
 mod long;
+mod order;
 
 const CODES: [u32; 6] = [1, 2, 3, 4, 5, 8];
 
