@@ -1,7 +1,9 @@
 //! Each call is made of the library and of the independent implementation, and everything that it
 //! gives is compared. The first difference is printed and ends the run.
 
-use crate::library::{self, pair_answer, word_answer, FieldAnswer, ReelAnswer, SampleAnswer};
+use crate::library::{
+    self, pair_answer, word_answer, FieldAnswer, OrderAnswer, ReelAnswer, SampleAnswer,
+};
 use crate::random::Random;
 use independent::WordRead;
 use std::fmt::Debug;
@@ -14,7 +16,7 @@ const ALIGNMENTS: usize = 16;
 /// The longest output that a call is lent.
 const MOST_ROOM: usize = 26_000_000;
 
-const CALLS: [&str; 10] = [
+const CALLS: [&str; 11] = [
     "read_word",
     "write_pair",
     "read_reel",
@@ -25,6 +27,7 @@ const CALLS: [&str; 10] = [
     "write_nearest",
     "blank_eight",
     "read_eagle",
+    "compare",
 ];
 const READ_WORD: usize = 0;
 const WRITE_PAIR: usize = 1;
@@ -36,6 +39,7 @@ const TAKE_CARDS: usize = 6;
 const WRITE_NEAREST: usize = 7;
 const BLANK_EIGHT: usize = 8;
 const READ_EAGLE: usize = 9;
+const COMPARE: usize = 10;
 
 /// The largest number of a cause.
 const MOST_NUMBER: usize = 20;
@@ -51,6 +55,7 @@ const CAUSES: [&[usize]; CALLS.len()] = [
     &[10, 11, 12, 13],
     &[],
     &[1, 2, 3, 4, 5, 6, 7, 8, 10, 18, 20],
+    &[12, 13],
 ];
 
 pub struct Comparison {
@@ -61,7 +66,7 @@ pub struct Comparison {
     random: Random,
     theirs: Vec<u8>,
     ours: Vec<u8>,
-    /// What a call is lent: a record and a listing at most.
+    /// What a call is lent: a record and a listing, or two records, at most.
     inputs: [Vec<u8>; 2],
     /// Where the latest output begins.
     front: usize,
@@ -300,6 +305,17 @@ impl Comparison {
         &self.theirs[self.front..][..answer.length as usize]
     }
 
+    /// Copies what a call is lent to any addresses, and gives where each copy begins.
+    fn lend<const I: usize>(&mut self, inputs: [&[u8]; I]) -> [usize; I] {
+        let shifts = array::from_fn(|_| self.random.below(ALIGNMENTS));
+        for ((copy, input), shift) in self.inputs.iter_mut().zip(inputs).zip(shifts) {
+            copy.clear();
+            copy.resize(shift, 0);
+            copy.extend_from_slice(input);
+        }
+        shifts
+    }
+
     fn reel_call<const I: usize>(
         &mut self,
         call: usize,
@@ -308,16 +324,11 @@ impl Comparison {
         room: usize,
         both: impl Fn([&[u8]; I], &mut [u8], &mut [u8]) -> (ReelAnswer, ReelAnswer),
     ) -> ReelAnswer {
-        let shifts: [usize; I] = array::from_fn(|_| self.random.below(ALIGNMENTS));
+        let shifts = self.lend(inputs);
         self.front = GUARD + self.random.below(ALIGNMENTS);
         let whole = self.front + room + GUARD;
         let start = self.random.below(self.pattern.len() - whole);
         let before = &self.pattern[start..start + whole];
-        for ((copy, input), shift) in self.inputs.iter_mut().zip(inputs).zip(shifts) {
-            copy.clear();
-            copy.resize(shift, 0);
-            copy.extend_from_slice(input);
-        }
         self.theirs.clear();
         self.theirs.extend_from_slice(before);
         self.ours.clear();
@@ -404,6 +415,31 @@ impl Comparison {
         ours
     }
 
+    /// Compares two records with both, and gives the answer.
+    pub fn order(&mut self, first: &[u8], second: &[u8]) -> OrderAnswer {
+        let shifts = self.lend([first, second]);
+        let copies = [0, 1].map(|index| &self.inputs[index][shifts[index]..]);
+        let theirs = library::compare(copies[0], copies[1]);
+        let ours = OrderAnswer::from(independent::compare(first, second));
+        let fault = if theirs != ours {
+            Some("the answers differ")
+        } else if copies != [first, second] {
+            Some("the library changed a record")
+        } else {
+            None
+        };
+        if let Some(fault) = fault {
+            let lengths = [first, second].map(<[u8]>::len);
+            self.differs(&format!("compare, inputs of {lengths:?} bytes"), || {
+                println!("{fault}");
+                print_answers(theirs, ours);
+                print_records(first, second, &[theirs.beside, ours.beside]);
+            });
+        }
+        self.count(COMPARE, u64::from(ours.number));
+        ours
+    }
+
     /// Prints a difference and ends the run.
     pub fn differs(&self, call: &str, details: impl FnOnce()) -> ! {
         println!(
@@ -423,6 +459,15 @@ impl Comparison {
 fn print_answers<T: Debug>(theirs: T, ours: T) {
     println!("library:     {theirs:?}");
     println!("independent: {ours:?}");
+}
+
+/// Prints two records, and the bytes of both around the first place at which they differ.
+pub fn print_records(first: &[u8], second: &[u8], places: &[u64]) {
+    let alike = first.iter().zip(second).take_while(|(a, b)| a == b).count();
+    println!("the records differ from place {alike} on");
+    let places = [places, &[alike as u64]].concat();
+    print_input(first, &places);
+    print_input(second, &places);
 }
 
 /// Prints the input: the cards are left out, the rest is cut after some lines. The bytes around the

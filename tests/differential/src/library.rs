@@ -1,6 +1,7 @@
 //! The calls of include/aukpocket.h, and the independent implementation's answers in their form.
 
-use independent::{NearestWritten, ReelRead, Refused, Taken, WordRead};
+use independent::{NearestWritten, ReelRead, Refused, RefusedOf, Taken, WordRead};
+use std::cmp::Ordering;
 
 #[repr(C)]
 #[derive(Clone, Copy, Debug, PartialEq, Eq)]
@@ -28,6 +29,15 @@ pub struct SampleAnswer {
     pub number: u64,
     pub beside: u64,
     pub not_normal: u64,
+}
+
+#[repr(C)]
+#[derive(Clone, Copy, Debug, PartialEq, Eq)]
+pub struct OrderAnswer {
+    pub number: u32,
+    pub order: i32,
+    pub which: u64,
+    pub beside: u64,
 }
 
 extern "C" {
@@ -80,6 +90,12 @@ extern "C" {
     fn aukpocket_read_word(code: u32, word: *const u8, pair: *mut u8) -> SampleAnswer;
     fn aukpocket_write_pair(code: u32, pair: *const u8, word: *mut u8) -> SampleAnswer;
     fn aukpocket_blank_eight(cards: u64) -> u64;
+    fn aukpocket_compare(
+        first: *const u8,
+        first_length: usize,
+        second: *const u8,
+        second_length: usize,
+    ) -> OrderAnswer;
 }
 
 pub fn read_reel(reel: &[u8], out: &mut [u8]) -> ReelAnswer {
@@ -145,6 +161,10 @@ pub fn write_pair(code: u32, pair: &[u8; 6], word: &mut [u8; 4]) -> SampleAnswer
 
 pub fn blank_eight(cards: u64) -> u64 {
     unsafe { aukpocket_blank_eight(cards) }
+}
+
+pub fn compare(first: &[u8], second: &[u8]) -> OrderAnswer {
+    unsafe { aukpocket_compare(first.as_ptr(), first.len(), second.as_ptr(), second.len()) }
 }
 
 /// Beside a refusal all that it doesn't name is 0.
@@ -254,6 +274,34 @@ impl From<Result<i32, Refused>> for FieldAnswer {
             Err(Refused { number, beside }) => FieldAnswer {
                 number: number as u32,
                 value: 0,
+                beside,
+            },
+        }
+    }
+}
+
+/// The order is -1 where the first record is the lesser, 1 where the second is.
+impl From<Result<Ordering, RefusedOf>> for OrderAnswer {
+    fn from(result: Result<Ordering, RefusedOf>) -> OrderAnswer {
+        match result {
+            Ok(order) => OrderAnswer {
+                number: 0,
+                order: match order {
+                    Ordering::Less => -1,
+                    Ordering::Equal => 0,
+                    Ordering::Greater => 1,
+                },
+                which: 0,
+                beside: 0,
+            },
+            Err(RefusedOf {
+                which,
+                number,
+                beside,
+            }) => OrderAnswer {
+                number: number as u32,
+                order: 0,
+                which,
                 beside,
             },
         }

@@ -31,7 +31,7 @@ fn earlier_form(samples: usize) -> Vec<usize> {
 }
 
 /// The forms of a record's traces, the earlier one where a bit is 1.
-fn pattern(bits: usize, samples: usize, traces: usize) -> Vec<Vec<usize>> {
+pub fn pattern(bits: usize, samples: usize, traces: usize) -> Vec<Vec<usize>> {
     let form = |trace: usize| match bits >> trace & 1 {
         0 => new_form(samples),
         _ => earlier_form(samples),
@@ -40,7 +40,7 @@ fn pattern(bits: usize, samples: usize, traces: usize) -> Vec<Vec<usize>> {
 }
 
 /// All patterns of the forms that so many traces of so many samples may have.
-fn patterns(samples: usize, traces: usize) -> usize {
+pub fn patterns(samples: usize, traces: usize) -> usize {
     if EARLIER.contains(&samples) {
         1 << traces
     } else {
@@ -237,7 +237,7 @@ fn reels_of_every_length(compare: &mut Comparison, random: &mut Random) {
 }
 
 /// The first and the last sample of each field, and those beside them.
-fn ends_of_fields(samples: usize) -> Vec<usize> {
+pub fn ends_of_fields(samples: usize) -> Vec<usize> {
     let mut ends = Vec::new();
     for first in (0..samples).step_by(6_000) {
         let last = samples.min(first + 6_000) - 1;

@@ -12,6 +12,7 @@ mod listings;
 mod long;
 mod nearest;
 mod normal;
+mod order;
 mod random;
 mod records;
 mod reels;
@@ -46,12 +47,14 @@ fn everything(compare: &mut compare::Comparison) {
     eights::eights(compare);
     eagle::eagle_reels(compare);
     long::long_traces(compare);
+    order::order(compare);
     reels::long_reels(compare);
     normal::long_reels(compare);
     records::long_records(compare);
     nearest::long_records(compare);
     listings::long_listings(compare);
     eagle::long_reels(compare);
+    order::long_records(compare);
 
     compare.stage("the whole run");
     if !compare.report() {
