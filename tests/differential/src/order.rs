@@ -295,6 +295,7 @@ pub fn order(compare: &mut Comparison) {
     long_traces(compare, &mut random);
     cut_and_changed(compare, &mut random);
     damaged(compare, &mut random);
+    one_fault_each(compare, &mut random);
     any_bytes(compare, &mut random);
     sets(compare, &mut random);
 }
@@ -316,9 +317,12 @@ fn cards(compare: &mut Comparison, random: &mut Random) {
         }
     }
     for place in 3..3203 {
-        let other = other_item(random, Kind::Card, &record[place..place + 1]);
-        let order = record[place].cmp(&other[0]);
-        ordered(compare, &record, &with(&record, place, &other), order);
+        let held = record[place];
+        for other in [1, held ^ 1, held ^ 0x80, 0xFF] {
+            let other = other.max(1);
+            let made = with(&record, place, &[other]);
+            ordered(compare, &record, &made, held.cmp(&other));
+        }
     }
 }
 
@@ -503,7 +507,7 @@ fn samples(compare: &mut Comparison, random: &mut Random) {
         }
     }
     let every_two = edges.len() * edges.len();
-    for turn in 0..every_two + 150_000 {
+    for turn in 0..every_two + 200_000 {
         let (one, other) = if turn < every_two {
             (edges[turn / edges.len()], edges[turn % edges.len()])
         } else {
@@ -631,7 +635,7 @@ fn some_items(random: &mut Random, items: &[Item], count: usize) -> Vec<Item> {
 fn several_items(compare: &mut Comparison, random: &mut Random) {
     compare.stage("records that differ in several items");
     let mut counts = [0; 3];
-    for _ in 0..1_500 {
+    for _ in 0..2_500 {
         let shape = Shape::any(random, 40);
         let record = Record::valid(random, shape, true);
         let items = items_of(&record);
@@ -753,6 +757,30 @@ fn long_traces(compare: &mut Comparison, random: &mut Random) {
         }
     }
 
+    compare.stage("records of long traces that differ in several items");
+    for _ in 0..250 {
+        let any = 6_001 + random.below(2_000);
+        let samples = random.pick(&[any, any, 6_000, 6_001, 8_000, 8_001, 12_001]);
+        let shape = Shape::new(random.pick(&CODES), samples, 1 + random.below(3));
+        let seed = random.next();
+        let fitting = random.once_in(2);
+        let [first, second] = [(); 2].map(|()| {
+            let bits = random.below(patterns(samples, shape.traces));
+            let forms = pattern(bits, samples, shape.traces);
+            Record::in_forms(&mut Random::seeded(seed), shape, fitting, &forms)
+        });
+        let items = items_of(&second);
+        for _ in 0..4 {
+            let count = random.pick(&[0, 1, 2, 4]);
+            let chosen = some_items(random, &items, count);
+            let (made, order) = changed(random, &second, &chosen);
+            let answer = both(compare, &first.bytes, &made);
+            let holds = answer.number != 0 || answer == OrderAnswer::from(Ok(order));
+            let records = [&first.bytes[..], &made];
+            must(compare, holds, "two long records", records, &[answer]);
+        }
+    }
+
     compare.stage("the order of records of 32,767 samples");
     for code in CODES {
         let shape = Shape::new(code, 32_767, 1 + random.below(2));
@@ -842,18 +870,35 @@ fn cut_and_changed(compare: &mut Comparison, random: &mut Random) {
     }
 }
 
-/// Any records, nearly equal ones mostly, the first damaged, the second, both or neither.
+/// Damages a record in some ways.
+fn damage(random: &mut Random, shape: Shape, record: &mut Record) {
+    for _ in 0..random.pick(&[1, 1, 2, 3]) {
+        let kind = random.below(DAMAGES_IN_PLACE);
+        damage_in_place(random, kind, shape, record);
+    }
+    if random.once_in(4) {
+        let kind = random.below(DAMAGES_OF_LENGTH);
+        damage_length(random, kind, record);
+    }
+}
+
+/// Any records, most of them equal but for some items, their forms and their counts of traces; the first
+/// is damaged, the second, both in their own ways or in one, or neither.
 fn damaged(compare: &mut Comparison, random: &mut Random) {
     compare.stage("two records, valid and damaged");
     let mut counts = [0; 3];
-    for turn in 0..40_000 {
-        let long = turn % 40 == 0;
+    for turn in 0..50_000 {
         let mut shape = Shape::any(random, 60);
-        if long {
+        if turn % 30 == 0 {
             shape.samples = random.pick(&[6_000, 6_001, 7_000, 8_000, 8_001, 12_001]);
             shape.traces = 1 + random.below(2);
+        } else if turn % 30 == 1 {
+            shape.samples = 1 + random.below(3);
+            shape.traces = 1 + random.below(60);
         }
         let seed = random.next();
+        let fewer = random.below(shape.traces + 1);
+        let traces = random.pick(&[shape.traces, shape.traces, fewer]);
         let mut made = |traces: usize| {
             let bits = random.below(patterns(shape.samples, traces));
             let forms = pattern(bits, shape.samples, traces);
@@ -862,22 +907,24 @@ fn damaged(compare: &mut Comparison, random: &mut Random) {
             let mut seeded = Random::seeded(if near { seed } else { own });
             Record::in_forms(&mut seeded, shape, true, &forms)
         };
-        let mut both_records = [made(shape.traces), made(shape.traces)];
-        let which = random.pick(&[0, 1, 1, 2, 2, 3]);
-        for (index, record) in both_records.iter_mut().enumerate() {
-            if which >> index & 1 == 0 {
-                continue;
-            }
-            for _ in 0..random.pick(&[1, 1, 2, 3]) {
-                let kind = random.below(DAMAGES_IN_PLACE);
-                damage_in_place(random, kind, shape, record);
-            }
-            if random.once_in(4) {
-                let kind = random.below(DAMAGES_OF_LENGTH);
-                damage_length(random, kind, record);
-            }
+        let [mut first, mut second] = [made(shape.traces), made(traces)];
+        let one_way = random.once_in(8);
+        if one_way {
+            let kind = random.below(DAMAGES_IN_PLACE);
+            damage_in_place(random, kind, shape, &mut first);
+            second = first.clone();
         }
-        let [first, second] = both_records;
+        let items = items_of(&second);
+        let count = random.pick(&[0, 0, 1, 2]);
+        let chosen = some_items(random, &items, count);
+        (second.bytes, _) = changed(random, &second, &chosen);
+        let which = random.pick(&[0, 1, 1, 2, 2, 3]);
+        if which & 1 == 1 && !one_way {
+            damage(random, shape, &mut first);
+        }
+        if which & 2 == 2 {
+            damage(random, shape, &mut second);
+        }
         let answer = both(compare, &first.bytes, &second.bytes);
         counts[answer.which as usize] += 1;
     }
@@ -886,7 +933,10 @@ fn damaged(compare: &mut Comparison, random: &mut Random) {
         println!("{counts:?}");
     }
     must(compare, holds, "too few of a kind", [&[], &[]], &[]);
+}
 
+/// Every two faults, each in its own record of two that are otherwise equal: the first record's counts.
+fn one_fault_each(compare: &mut Comparison, random: &mut Random) {
     compare.stage("two records, each with one fault");
     let shape = Shape::new(8, 2, 2);
     let record = Record::valid(random, shape, true);
@@ -946,7 +996,7 @@ fn any_bytes(compare: &mut Comparison, random: &mut Random) {
 /// at most the third, the first is at most the third, and less where one of the two is.
 fn sets(compare: &mut Comparison, random: &mut Random) {
     compare.stage("sets of records in one order");
-    for turn in 0..24 {
+    for turn in 0..32 {
         let mut shape = Shape::any(random, 4);
         let mut count = 40;
         if turn < 4 {
@@ -1009,6 +1059,10 @@ pub fn long_records(compare: &mut Comparison) {
     let order = order_of(Kind::Sample, held, &other);
     let changed = with(&record.bytes, last, &other);
     ordered(compare, &record.bytes, &changed, order);
+    for few in [34_500, 65_536] {
+        let shorter = first_traces(&record, few);
+        ordered(compare, &shorter, &record.bytes, Ordering::Less);
+    }
     let shorter = first_traces(&record, 99_999);
     ordered(compare, &shorter, &changed, Ordering::Less);
 
