@@ -201,7 +201,7 @@ class Test(Case):
     def test_a_step_that_fails(self):
         for failing in ("differential", "command", "byte_number_for_place", "samples.py", "check_reel.py", "bench/Cargo.toml",
                         "segyio_reels.py", "tests/make.py", "crates.txt", "make_sample_reel.py", "listing_vectors.py", "eagle_vectors.py",
-                        "code_page.py"):
+                        "order_vectors.py", "code_page.py"):
             status, said, _ = self.run_test(FAILING=failing)
             self.assertNotEqual(status, 0, (failing, said))
             self.assertRegex(said, r"FAILED: .*; all that it said is at the end of build/test.log\n$")
