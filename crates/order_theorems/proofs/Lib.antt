@@ -1,0 +1,2 @@
+-- The theorems about the order of records, and what they rest on.
+pub mod Chain

@@ -1,0 +1,1 @@
+-- What the theorems about the order of records are stated with.
