@@ -1,2 +1,3 @@
 -- The theorems about the order of records, and what they rest on.
 pub mod Chain
+pub mod Meanings

@@ -1,1 +1,2 @@
 -- What the theorems about the order of records are stated with.
+pub mod MeaningKey
