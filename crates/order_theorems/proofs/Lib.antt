@@ -1,3 +1,4 @@
 -- The theorems about the order of records, and what they rest on.
 pub mod Chain
 pub mod Meanings
+pub mod Refusals
