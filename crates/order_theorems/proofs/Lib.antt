@@ -2,3 +2,4 @@
 pub mod Chain
 pub mod Meanings
 pub mod Refusals
+pub mod WordOrder

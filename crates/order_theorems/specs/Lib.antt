@@ -1,3 +1,5 @@
--- What the theorems about the order of records are stated with: the order of meanings, and the table of the call.
+-- What the theorems about the order of records are stated with: the order of meanings, words read as sign and magnitude, and the table of the
+-- call.
 pub mod MeaningKey
+pub mod SignedWord
 pub mod CompareTable
