@@ -3,3 +3,4 @@ pub mod Chain
 pub mod Meanings
 pub mod Refusals
 pub mod WordOrder
+pub mod Fronts

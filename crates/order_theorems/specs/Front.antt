@@ -1,0 +1,19 @@
+-- The front of a record: what stands before its traces, as a record of its own.
+use Prim.Native.Nat.{ℕ}
+use mathlib.Core.List.{List, [], _∷_, _++_}
+use lib.ListN.{take}
+use lib.IntN.{ℤ}
+use Rattle.record.specs.Form.{tracesPlace, heldSamples, heldCount}
+use Rattle.compare.specs.Key.{cardKey, binaryKey, tracesKey}
+
+-- The first 3,266 bytes of a record, tags 01 and 02 with their content, and behind them tag 05 with its length and the count of no traces.
+unfoldable pub frontOf : List ℕ → List ℕ
+frontOf s = take tracesPlace s ++ (5 ∷ 0 ∷ 4 ∷ 0 ∷ 0 ∷ 0 ∷ 0 ∷ [])
+
+-- The numbers that stand there: card bytes, then the 27 binary numbers.
+abbrev pub frontKey : List ℕ → List ℤ
+frontKey s = cardKey s ++ binaryKey s
+
+-- The numbers of all its traces.
+abbrev pub restKey : List ℕ → List ℤ
+restKey s = tracesKey s (heldSamples s) (heldCount s (heldSamples s))
