@@ -4,3 +4,4 @@ pub mod Meanings
 pub mod Refusals
 pub mod WordOrder
 pub mod Fronts
+pub mod Theorems

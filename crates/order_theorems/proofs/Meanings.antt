@@ -1,10 +1,10 @@
 -- The key of a valid record is that of what it holds, and meanings with the same key are the same. Each byte of a record is below 256; nothing
 -- else is assumed.
 use mathlib.Core.Path.{_≡_, refl, sym, ap, ap₂, _∙_, subst}
-use mathlib.Core.List.{List, [], _∷_, _++_, map}
+use mathlib.Core.List.{List, [], _∷_, _++_, map, append-assoc, map-append}
 use mathlib.Core.Bool.{true}
 use Prim.Native.Nat.{ℕ, zero, suc, _+_, _*_, _<_}
-use native.Mathlib.Nat.{eq-of-mul-eq-mul-right}
+use native.Mathlib.Nat.{eq-of-mul-eq-mul-right, not-suc-le-zero}
 use native.Mathlib.Omega.{arith}
 use lib.IntN.{ℤ, pos, natAbs}
 use lib.ListN.{length, getD, take, drop, length-append, length-map, take-append-drop}
@@ -38,7 +38,11 @@ use Rattle.demands.proofs.Valid.{record-right}
 use borrow.Author.Tests.{not-false}
 use Rattle.compare.specs.Key.{cardKey, binaryKey, headerKey, traceKey, tracesKey, keyOf}
 use Rattle.compare.proofs.KeyLaws.{header-size}
-use Rattle.order_theorems.specs.MeaningKey.{traceNumbers, meaningKey}
+use Rattle.compare.proofs.LexLaws.{same-self}
+use Rattle.exact.specs.Order.{orElse, lexZ}
+use Rattle.exact.specs.declared.Order.{Order}
+use Rattle.exact.specs.declared.Order.the-variants.{Less}
+use Rattle.order_theorems.specs.MeaningKey.{traceNumbers, meaningKey, meaningOrder}
 
 -- ## Headers
 
@@ -164,3 +168,37 @@ module _ (n₁ i₁ n₂ i₂ : ℕ) (m₁ m₂ : Meaning) (p : Proper n₁ i₁
 pub held-only : (a b : List ℕ) → Bytes a → Bytes b → formCauses a ≡ Fine → formCauses b ≡ Fine → keyOf a ≡ keyOf b → heldBy a ≡ heldBy b
 held-only a b ba bb va vb e =
     key-only (heldSamples a) (heldInterval a) (heldSamples b) (heldInterval b) (heldBy a) (heldBy b) (held-proper a ba va) (held-proper b bb vb) (sym (key-of-held a ba va) ∙ e ∙ key-of-held b bb vb)
+
+-- ## Traces that end first
+
+-- a list and the same with more behind it
+more-less : (k x y : List ℤ) → 0 < length x → lexZ k (k ++ (x ++ y)) ≡ Less
+more-less [] [] y h = absurd (not-suc-le-zero h)
+more-less [] (z ∷ x) y h = refl
+more-less (z ∷ k) x y h = ap (λ (o : Order). orElse o (lexZ k (k ++ (x ++ y)))) (same-self z) ∙ more-less k x y h
+
+flat-append : (k l : List (List ℤ)) → flat (k ++ l) ≡ flat k ++ flat l
+flat-append [] l = refl
+flat-append (x ∷ k) l = ap (λ (z : List ℤ). x ++ z) (flat-append k l) ∙ sym (append-assoc x (flat k) (flat l))
+
+-- a trace has some numbers, its scalars among them
+trace-some : (t : Trace) → 0 < length (traceNumbers t)
+unfolding traceNumbers recordNumbers
+trace-some t = simp length-append (omega arith)
+
+-- LAW. A meaning with the same cards, binary numbers and traces, and some traces more, is the greater.
+pub later-less : (m₁ m₂ : Meaning) (t : Trace) (ts : List Trace) → m₁ .cards ≡ m₂ .cards → m₁ .binary ≡ m₂ .binary → m₂ .traces ≡ m₁ .traces ++ (t ∷ ts) → meaningOrder m₁ m₂ ≡ Less
+unfolding meaningKey
+later-less m₁ m₂ t ts c d e =
+    let front = map pos (m₁ .cards) in
+    let binary = withCode 0 (m₁ .binary) in
+    let traces = flat (map traceNumbers (m₁ .traces)) in
+    let more : flat (map traceNumbers (m₂ .traces)) ≡ traces ++ (traceNumbers t ++ flat (map traceNumbers ts)) =
+    ap (λ (l : List Trace). flat (map traceNumbers l)) e
+    ∙ ap flat (map-append traceNumbers (m₁ .traces) (t ∷ ts)) ∙ flat-append (map traceNumbers (m₁ .traces)) (map traceNumbers (t ∷ ts)) in
+    let key : meaningKey m₂ ≡ (front ++ (binary ++ traces)) ++ (traceNumbers t ++ flat (map traceNumbers ts)) =
+    ap₂ (λ (x : List ℕ) (y : List ℤ). map pos x ++ (withCode 0 y ++ flat (map traceNumbers (m₂ .traces)))) (sym c) (sym d)
+    ∙ ap (λ (x : List ℤ). front ++ (binary ++ x)) more
+    ∙ ap (λ (x : List ℤ). front ++ x) (sym (append-assoc binary traces (traceNumbers t ++ flat (map traceNumbers ts))))
+    ∙ sym (append-assoc front (binary ++ traces) (traceNumbers t ++ flat (map traceNumbers ts))) in
+    ap (lexZ (front ++ (binary ++ traces))) key ∙ more-less (front ++ (binary ++ traces)) (traceNumbers t) (flat (map traceNumbers ts)) (trace-some t)

@@ -1,6 +1,6 @@
 -- Refusals of the comparing call, row by row. Assumes nothing.
 use mathlib.Core.Path.{_≡_, refl, sym, ap, _∙_, subst}
-use mathlib.Core.Logic.{_⊎_, inl, inr}
+use mathlib.Core.Logic.{_⊎_, inl, inr, ⊎-elim}
 use mathlib.Core.List.{List, [], _∷_}
 use Prim.Native.Nat.{ℕ}
 use native.Mathlib.Omega.{arith}
@@ -78,6 +78,13 @@ module _ (a b : List ℕ) where
       first : (c : Check) → (firstFound a b c ≡ ordered (orderOf a b)) ⊎ ((which number place : ℕ) × (firstFound a b c ≡ refused which number place))
       first Fine = second (formCauses b)
       first (Refused n p) = inr (1, n, placeNo p, refl)
+
+  -- it says the order just where no row applies
+  pub no-rows : compareOutcome a b ≡ ordered (orderOf a b) → (which number place : ℕ) → ¬ (CompareRow a b which number place)
+  no-rows e which number place r = no-order (sym e ∙ from-row r)
+
+  pub rows-none : ((which number place : ℕ) → ¬ (CompareRow a b which number place)) → compareOutcome a b ≡ ordered (orderOf a b)
+  rows-none h = ⊎-elim (λ e. e) (λ r. absurd (h (r .0) (r .1) (r .2) (to-row (r .3)))) either-end
 
 -- a row of 12 and 13 has one of these numbers
 form-number : {s : List ℕ} {number place : ℕ} → FormRow s number place → Among number (12 ∷ 13 ∷ [])
