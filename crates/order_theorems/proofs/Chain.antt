@@ -1,5 +1,5 @@
 -- The order of lists of numbers is that of a line: it is transitive, and "not greater" is too. Assumes nothing.
-use mathlib.Core.Path.{_≡_, refl, sym, ap, _∙_, subst}
+use mathlib.Core.Path.{_≡_, refl, sym, ap, _∙_}
 use mathlib.Core.Logic.{_⊎_, inl, inr, ⊎-elim}
 use mathlib.Core.List.{List, [], _∷_}
 use Prim.Native.Nat.{ℕ, _≤_, _<_}
@@ -10,7 +10,7 @@ use Rattle.numbers.proofs.SignLaws.{below-or}
 use Rattle.exact.specs.Order.{orderN, orderZ, orElse, lexZ}
 use Rattle.exact.specs.declared.Order.{Order}
 use Rattle.exact.specs.declared.Order.the-variants.{Less, Same, More}
-use Rattle.compare.proofs.LexLaws.{turned, same-is, lex-is, lex-self, lex-turn}
+use Rattle.compare.proofs.LexLaws.{turned, same-is, lex-is, lex-turn}
 
 -- ## Orders that differ
 

@@ -1,18 +1,18 @@
 -- The front of a valid record is a valid record without traces, with the numbers that stand there. Assumes nothing.
-use mathlib.Core.Path.{_≡_, refl, sym, ap, ap₂, _∙_, subst}
+use mathlib.Core.Path.{_≡_, sym, ap, ap₂, _∙_, subst}
 use mathlib.Core.Logic.{inr}
-use mathlib.Core.List.{List, [], _∷_, _++_, map, append-assoc, append-nil}
-use Prim.Native.Nat.{ℕ, zero, suc, _+_, _*_, _≤_, _<_}
+use mathlib.Core.List.{List, [], _∷_, _++_, map, append-nil}
+use Prim.Native.Nat.{ℕ, _+_, _*_, _≤_, _<_}
 use native.Mathlib.Nat.{not-suc-le-zero}
 use native.Mathlib.Omega.{arith}
 use lib.Dec.{eqb}
 use lib.IntN.{ℤ, pos}
 use lib.ListN.{length, getD, take, length-append, List·getD-append}
 use lib.Seq.{length-take-le, getD-take, getD-append-add}
-use Rattle.numbers.specs.Walk.{walk, flat, bytesAt}
+use Rattle.numbers.specs.Walk.{flat, bytesAt}
 use Rattle.numbers.specs.BigEndian.{number}
 use Rattle.numbers.specs.TwosComplement.{signedOf}
-use Rattle.numbers.specs.Terms.{All, Bytes, Between}
+use Rattle.numbers.specs.Terms.{Bytes, Between}
 use Rattle.numbers.specs.declared.Check.the-variants.{Fine}
 use Rattle.numbers.proofs.WalkLaws.{walk-same, all-take}
 use Rattle.fields.specs.Fields.{each}
@@ -20,33 +20,29 @@ use Rattle.fields.proofs.EachLaws.{run-none}
 use Rattle.reel.specs.Layout.{number16}
 use Rattle.reel.specs.Causes.{mostTraces}
 use Rattle.record.specs.Kind.{tag04}
-use Rattle.record.specs.Form.{tracesPlace, heldSamples, heldInterval, heldCode, heldCount, tracePlaceIn, isTraceIn, formCauses}
-use Rattle.demands.specs.ValidRecord.{Stands, CardsRight, HeadRight, RecordRight}
+use Rattle.record.specs.Form.{tracesPlace, heldSamples, heldCount, tracePlaceIn, isTraceIn, formCauses}
+use Rattle.demands.specs.ValidRecord.{Stands, HeadRight, RecordRight}
 use Rattle.demands.proofs.Valid.{record-fine, record-right}
 use Rattle.compare.specs.Key.{cardKey, binaryKey, traceKey, tracesKey, keyOf}
 use Rattle.compare.specs.Parts.{longAt, shortAt}
 use Rattle.compare.proofs.KeyLaws.{binary-rows}
-use Rattle.order_theorems.specs.Front.{frontOf, frontKey}
+use Rattle.order_theorems.specs.Front.{endOfNone, frontOf, frontKey}
 
 -- ## Its bytes
-
--- tag 05 with its length and the count of no traces
-end : List ℕ
-end = 5 ∷ 0 ∷ 4 ∷ 0 ∷ 0 ∷ 0 ∷ 0 ∷ []
 
 module _ (s : List ℕ) (room : tracesPlace ≤ length s) where
   head-size : length (take tracesPlace s) ≡ tracesPlace
   head-size = length-take-le tracesPlace s room
 
   front-size : length (frontOf s) ≡ 3273
-  unfolding frontOf end
-  front-size = length-append (take tracesPlace s) end ∙ ap (λ (n : ℕ). n + 7) head-size
+  unfolding frontOf endOfNone
+  front-size = length-append (take tracesPlace s) endOfNone ∙ ap (λ (n : ℕ). n + 7) head-size
 
   -- those of the record, up to its traces
   front-byte : (j : ℕ) → j < tracesPlace → getD (frontOf s) j 0 ≡ getD s j 0
-  unfolding frontOf end
+  unfolding frontOf
   front-byte j h =
-      List·getD-append (take tracesPlace s) end 0 j (subst (λ (n : ℕ). j < n) (sym head-size) h) ∙ getD-take tracesPlace s j 0 h
+      List·getD-append (take tracesPlace s) endOfNone 0 j (subst (λ (n : ℕ). j < n) (sym head-size) h) ∙ getD-take tracesPlace s j 0 h
 
   front-part : (at k : ℕ) → at + k ≤ tracesPlace → bytesAt (frontOf s) at k ≡ bytesAt s at k
   unfolding bytesAt
@@ -54,20 +50,20 @@ module _ (s : List ℕ) (room : tracesPlace ≤ length s) where
       walk-same (λ a. getD (frontOf s) a 0) (λ a. getD s a 0) 1 1 k at at (λ j l. front-byte (at + j * 1) (omega arith))
 
   -- and the end behind them
-  end-byte : (j : ℕ) → getD (frontOf s) (tracesPlace + j) 0 ≡ getD end j 0
-  unfolding frontOf end
-  end-byte j = ap (λ (n : ℕ). getD (take tracesPlace s ++ end) (n + j) 0) (sym head-size) ∙ getD-append-add (take tracesPlace s) end j 0
+  end-byte : (j : ℕ) → getD (frontOf s) (tracesPlace + j) 0 ≡ getD endOfNone j 0
+  unfolding frontOf
+  end-byte j = ap (λ (n : ℕ). getD (take tracesPlace s ++ endOfNone) (n + j) 0) (sym head-size) ∙ getD-append-add (take tracesPlace s) endOfNone j 0
 
   end-tag : getD (frontOf s) 3266 0 ≡ 5
-  unfolding end
+  unfolding endOfNone
   end-tag = end-byte 0
 
   end-length : number16 (frontOf s) 3267 ≡ 4
-  unfolding end bytesAt
+  unfolding endOfNone bytesAt
   end-length = rw (end-byte 1, end-byte 2)
 
   end-count : number (bytesAt (frontOf s) 3269 4) ≡ 0
-  unfolding end bytesAt
+  unfolding endOfNone bytesAt
   end-count = rw (end-byte 3, end-byte 4, end-byte 5, end-byte 6)
 
   -- ## Its fields
@@ -163,9 +159,9 @@ front-none s v = no-traces s (has-front s v) (heldSamples (frontOf s))
 
 -- and its elements are bytes.
 pub front-bytes : (s : List ℕ) → Bytes s → Bytes (frontOf s)
-unfolding frontOf
+unfolding frontOf endOfNone
 front-bytes s b = join (take tracesPlace s) (all-take (λ x. x < 256) tracesPlace s b)
   where
-    join : (l : List ℕ) → Bytes l → Bytes (l ++ (5 ∷ 0 ∷ 4 ∷ 0 ∷ 0 ∷ 0 ∷ 0 ∷ []))
+    join : (l : List ℕ) → Bytes l → Bytes (l ++ endOfNone)
     join [] h = omega arith
     join (x ∷ l) h = (h .0, join l (h .1))

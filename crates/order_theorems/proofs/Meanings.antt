@@ -3,31 +3,31 @@
 use mathlib.Core.Path.{_≡_, refl, sym, ap, ap₂, _∙_, subst}
 use mathlib.Core.List.{List, [], _∷_, _++_, map, append-assoc, map-append}
 use mathlib.Core.Bool.{true}
-use Prim.Native.Nat.{ℕ, zero, suc, _+_, _*_, _<_}
+use Prim.Native.Nat.{ℕ, _+_, _<_}
 use native.Mathlib.Nat.{eq-of-mul-eq-mul-right, not-suc-le-zero}
 use native.Mathlib.Omega.{arith}
 use lib.IntN.{ℤ, pos, natAbs}
 use lib.ListN.{length, getD, take, drop, length-append, length-map, take-append-drop}
 use lib.Seq.{length-take-le}
-use Rattle.numbers.specs.Walk.{walk, flat, bytesAt}
+use Rattle.numbers.specs.Walk.{flat}
 use Rattle.numbers.specs.Terms.{All, Bytes}
 use Rattle.numbers.specs.TwosComplement.{signedOf}
 use Rattle.numbers.specs.declared.Check.the-variants.{Fine}
 use Rattle.numbers.proofs.CauseLaws.{then-fine, passed}
-use Rattle.numbers.proofs.WalkLaws.{map-walk, split, flat-size, flat-inj, cons-eq}
+use Rattle.numbers.proofs.WalkLaws.{map-walk, split, flat-size, flat-inj}
 use Rattle.fields.specs.Fields.{each}
 use Rattle.fields.proofs.FieldsLaws.{each-like}
-use Rattle.scalars.specs.Scalar.{groupNumbers, isSmallest}
+use Rattle.scalars.specs.Scalar.{isSmallest}
 use Rattle.scalars.proofs.Laws.{length-held}
-use Rattle.reel.specs.Layout.{Field, binaryFields, binaryWidths, traceFields, traceWidths, fieldNumber, elevationScalar}
+use Rattle.reel.specs.Layout.{binaryFields, binaryWidths, traceFields, traceWidths, fieldNumber, elevationScalar}
 use Rattle.reel.specs.Meaning.{Header, Trace, Meaning, headerOf, otherThan, elevationFields, coordinateFields}
 use Rattle.headers.specs.Header.{recordNumbers, smallestCause, smallestCauses}
-use Rattle.headers.proofs.Ranges.{Fit, fit-length}
+use Rattle.headers.proofs.Ranges.{fit-length}
 use Rattle.headers.proofs.Listed.{Scaled, header-listed, numbers-listed, numbers-only, elevationsIn, coordinatesIn, elevationScalarIn, coordinateScalarIn}
-use Rattle.headers.proofs.HeaderBytes.{HeaderFits, held-fit, listed-fits}
+use Rattle.headers.proofs.HeaderBytes.{held-fit, listed-fits}
 use Rattle.record.specs.Kind.{tag04}
 use Rattle.record.specs.Record.{withCode}
-use Rattle.record.specs.Form.{heldSamples, heldInterval, heldCode, heldCount, tracePlaceIn, tracePlace, formCauses}
+use Rattle.record.specs.Form.{heldSamples, heldInterval, heldCode, heldCount, tracePlace, formCauses}
 use Rattle.record.specs.Held.{heldTraceIn, heldByIn, heldBy, heldValuesIn}
 use Rattle.record.proofs.FormLaws.{scalars-fine, traces-fine}
 use Rattle.record.proofs.HeaderLaws.{binary-front, binary-back}

@@ -4,7 +4,6 @@ use mathlib.Core.Logic.{_⊎_, inl, inr, ⊎-elim}
 use mathlib.Core.List.{List, [], _∷_}
 use Prim.Native.Nat.{ℕ}
 use native.Mathlib.Omega.{arith}
-use Rattle.numbers.specs.Iff.{Iff}
 use Rattle.numbers.specs.Terms.{Among}
 use Rattle.numbers.specs.Places.{placeNo}
 use Rattle.numbers.specs.declared.Place.{Place}
@@ -15,7 +14,7 @@ use Rattle.demands.specs.Tables.{FormRow}
 use Rattle.demands.proofs.FormRefusals.{exact-form, no-form-cause}
 use Rattle.exact.specs.declared.Order.{Order}
 use Rattle.compare.specs.Key.{orderOf}
-use Rattle.compare.specs.Answer.{Compared, ordered, refused, secondFound, firstFound, compareOutcome}
+use Rattle.compare.specs.Answer.{ordered, refused, secondFound, firstFound, compareOutcome}
 use Rattle.order_theorems.specs.CompareTable.{CompareRow, first-record, second-record}
 
 -- an order is no refusal

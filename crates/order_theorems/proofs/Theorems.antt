@@ -21,19 +21,18 @@
 --   when the reels mean the same.
 -- - `normal-order`, `fits-normal`, `pairs-order`: two samples that fit code 1 are in the order of their normal words; `ieee-order`: so under code 5.
 -- - `compare-ends`, `compare-refused`, `compare-taken`, `compare-valid`, `compare-numbers`: demand 1 for the call.
--- - `front-valid`, `front-key`, `front-parts`, `front-decides`, `front-same`: the front of a record is a record itself, and where the fronts of two
+-- - `front-valid`, `front-key`, `front-parts`, `front-decides`, `front-same`, `front-said`: the front of a record is a record itself, and where the fronts of two
 --   records differ, they are in the order of these.
 --
 -- Where a theorem speaks of what a record holds, each byte of it is below 256; nothing else is assumed.
-use mathlib.Core.Path.{_≡_, refl, sym, ap, ap₂, _∙_, subst}
+use mathlib.Core.Path.{_≡_, refl, sym, ap, ap₂, _∙_}
 use mathlib.Core.Logic.{_⊎_}
 use mathlib.Core.Bool.{true}
-use mathlib.Core.List.{List, [], _∷_, _++_, map, append-assoc}
-use Prim.Native.Nat.{ℕ, _+_, _<_}
+use mathlib.Core.List.{List, [], _∷_, _++_, append-assoc}
+use Prim.Native.Nat.{ℕ, _+_}
 use native.Mathlib.Omega.{arith}
-use lib.IntN.{ℤ, pos}
+use lib.IntN.{ℤ}
 use lib.ListN.{length, take, length-append}
-use Rattle.numbers.specs.Walk.{flat}
 use Rattle.numbers.specs.Iff.{Iff}
 use Rattle.numbers.specs.Terms.{Among, Bytes}
 use Rattle.numbers.specs.Outcome.{taken}
@@ -66,7 +65,7 @@ use Rattle.compare.specs.Key.{cardKey, binaryKey, keyOf, orderOf}
 use Rattle.compare.specs.Answer.{ordered, refused, compareOutcome}
 use Rattle.compare.proofs.LexLaws.{turned, lex-is, lex-self, lex-turn, lex-append}
 use Rattle.compare.proofs.KeyLaws.{card-size, binary-size, record-parts}
-use Rattle.order_theorems.specs.MeaningKey.{traceNumbers, meaningKey, meaningOrder}
+use Rattle.order_theorems.specs.MeaningKey.{meaningKey, meaningOrder}
 use Rattle.order_theorems.specs.SignedWord.{wordSigned}
 use Rattle.order_theorems.specs.Front.{frontOf, frontKey, restKey}
 use Rattle.order_theorems.specs.CompareTable.{CompareRow}
@@ -282,3 +281,9 @@ module _ (a b : List ℕ) (va : formCauses a ≡ Fine) (vb : formCauses b ≡ Fi
   -- THEOREM. and where they are, the traces do.
   pub front-same : orderOf (frontOf a) (frontOf b) ≡ Same → orderOf a b ≡ lexZ (restKey a) (restKey b)
   front-same e = front-parts ∙ ap (λ (o : Order). orElse o (lexZ (restKey a) (restKey b))) e
+
+  -- THEOREM. So with what comparing says: an order of the fronts that decides is that of the records.
+  pub front-said : (o : Order) → ¬ (o ≡ Same) → compareOutcome (frontOf a) (frontOf b) ≡ ordered o → compareOutcome a b ≡ ordered o
+  front-said o n e =
+      let f = ordered-valid (frontOf a) (frontOf b) e .2 in
+      both-valid a b va vb ∙ ap ordered (front-decides (λ s. n (sym f ∙ s)) ∙ f)

@@ -1,10 +1,10 @@
 -- Values are in the order of their words read as sign and magnitude, in any format of sign and magnitude whose words have the characteristic
 -- above the fraction. Assumes nothing.
 use mathlib.Core.Path.{_≡_, refl, sym, ap, ap₂, _∙_, subst}
-use mathlib.Core.Logic.{_⊎_, inl, inr, ⊎-elim}
+use mathlib.Core.Logic.{_⊎_, ⊎-elim}
 use mathlib.Core.Bool.{Bool, true, false, _&&_}
 use Prim.Native.Nat.{ℕ, zero, suc, _+_, _-_, _*_, _%_, _^_, _≤_, _<_}
-use native.Mathlib.Nat.{le-trans, le-of-eq, lt-of-lt-of-le, mul-le-mul-left, mul-le-mul-right, mul-lt-mul-of-pos-right, mul-suc, suc-mul, mul-assoc, zero-mul, mod-eq-of-lt, add-mod-left, sub-add-cancel}
+use native.Mathlib.Nat.{le-trans, le-of-eq, lt-of-lt-of-le, mul-le-mul-left, mul-le-mul-right, mul-lt-mul-of-pos-right, mul-suc, suc-mul, zero-mul, mod-eq-of-lt, add-mod-left}
 use native.Mathlib.Omega.{arith}
 use borrow.Author.Tests.{le-leb, lt-leb}
 use lib.Dec.{T, leb}
@@ -16,13 +16,12 @@ use Rattle.numbers.proofs.SignLaws.{below-or}
 use Rattle.numbers.proofs.Magnitudes.{signed-back}
 use Rattle.formats.specs.Format.{unit, limit}
 use Rattle.formats.specs.Steps.{Float}
-use Rattle.formats.specs.Words.{floatBits, floatWord}
+use Rattle.formats.specs.Words.{floatWord}
 use Rattle.formats.specs.declared.Format.{Format}
 use Rattle.formats.specs.declared.Written.the-variants.{Word}
-use Rattle.formats.proofs.PlacedLaws.{Place, placed-normal}
+use Rattle.formats.proofs.PlacedLaws.{placed-normal}
 use Rattle.formats.proofs.WordLaws.{float-is, room-for}
 use Rattle.exact.specs.Order.{orderN, orderZ}
-use Rattle.exact.specs.declared.Order.{Order}
 use Rattle.exact.proofs.OrderLaws.{is-less, is-more, order-times, order-by, both-negative, negative-first, negative-last}
 use Rattle.order_theorems.specs.SignedWord.{wordSigned}
 

@@ -6,9 +6,13 @@ use lib.IntN.{ℤ}
 use Rattle.record.specs.Form.{tracesPlace, heldSamples, heldCount}
 use Rattle.compare.specs.Key.{cardKey, binaryKey, tracesKey}
 
--- The first 3,266 bytes of a record, tags 01 and 02 with their content, and behind them tag 05 with its length and the count of no traces.
+-- Tag 05 with its length, 4, and the count of no traces.
+unfoldable pub endOfNone : List ℕ
+endOfNone = 5 ∷ 0 ∷ 4 ∷ 0 ∷ 0 ∷ 0 ∷ 0 ∷ []
+
+-- The first 3,266 bytes of a record, tags 01 and 02 with their content, and that end behind them.
 unfoldable pub frontOf : List ℕ → List ℕ
-frontOf s = take tracesPlace s ++ (5 ∷ 0 ∷ 4 ∷ 0 ∷ 0 ∷ 0 ∷ 0 ∷ [])
+frontOf s = take tracesPlace s ++ endOfNone
 
 -- The numbers that stand there: card bytes, then the 27 binary numbers.
 abbrev pub frontKey : List ℕ → List ℤ

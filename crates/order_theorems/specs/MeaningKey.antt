@@ -1,7 +1,6 @@
 -- The order of what records hold. "Compare two valid records: card bytes first, then header numbers, bare as the record holds them and in its
 -- order (69 and 71 too), as signed, then trace by trace, header numbers before samples, samples by exact value; a record whose traces end first
 -- is the lesser" (document 02, CR 9). Here it is read of a meaning, with no byte of a record in it.
-use Prim.Native.Nat.{ℕ}
 use mathlib.Core.List.{List, _++_, map}
 use lib.IntN.{ℤ, pos}
 use Rattle.numbers.specs.Walk.{flat}
