@@ -37,12 +37,13 @@ use Rattle.demands.proofs.ProperLaws.{held-proper}
 use Rattle.demands.proofs.Valid.{record-right}
 use borrow.Author.Tests.{not-false}
 use Rattle.compare.specs.Key.{cardKey, binaryKey, headerKey, traceKey, tracesKey, keyOf}
-use Rattle.compare.proofs.KeyLaws.{header-size}
+use Rattle.compare.proofs.KeyLaws.{header-size, three-parts}
 use Rattle.compare.proofs.LexLaws.{same-self}
 use Rattle.exact.specs.Order.{orElse, lexZ}
 use Rattle.exact.specs.declared.Order.{Order}
 use Rattle.exact.specs.declared.Order.the-variants.{Less}
-use Rattle.order_theorems.specs.MeaningKey.{traceNumbers, meaningKey, meaningOrder}
+use Rattle.order_theorems.specs.MeaningKey.{traceNumbers, tracesNumbers, meaningKey, meaningOrder}
+use Rattle.order_theorems.specs.Front.{restKey}
 
 -- ## Headers
 
@@ -97,6 +98,13 @@ key-of-held s b v =
     let n = heldSamples s in
     ap₂ (λ (x y : List ℤ). cardKey s ++ (x ++ y)) (binary-held s (record-right s v .end .until .head .code))
     (traces-held s b n (heldCount s n) (λ j l. scalars-fine tag04 s n (heldInterval s) (tracePlace s n j) (traces-fine tag04 s v j l)))
+
+-- so that of its traces
+pub rest-of-held : (s : List ℕ) → Bytes s → formCauses s ≡ Fine → restKey s ≡ tracesNumbers (heldBy s .traces)
+unfolding heldByIn
+rest-of-held s b v =
+    let n = heldSamples s in
+    traces-held s b n (heldCount s n) (λ j l. scalars-fine tag04 s n (heldInterval s) (tracePlace s n j) (traces-fine tag04 s v j l))
 
 -- ## Meanings with the same key
 
@@ -168,6 +176,19 @@ module _ (n₁ i₁ n₂ i₂ : ℕ) (m₁ m₂ : Meaning) (p : Proper n₁ i₁
 pub held-only : (a b : List ℕ) → Bytes a → Bytes b → formCauses a ≡ Fine → formCauses b ≡ Fine → keyOf a ≡ keyOf b → heldBy a ≡ heldBy b
 held-only a b ba bb va vb e =
     key-only (heldSamples a) (heldInterval a) (heldSamples b) (heldInterval b) (heldBy a) (heldBy b) (held-proper a ba va) (held-proper b bb vb) (sym (key-of-held a ba va) ∙ e ∙ key-of-held b bb vb)
+
+-- ## Trace by trace
+
+-- LAW. Of traces with equally many samples the first decide, header numbers before samples, then the others.
+pub traces-by : (n i j : ℕ) (t u : Trace) (ts us : List Trace) → ProperTrace n i t → ProperTrace n j u
+    → lexZ (tracesNumbers (t ∷ ts)) (tracesNumbers (u ∷ us))
+    ≡ orElse (lexZ (recordNumbers (t .header)) (recordNumbers (u .header))) (orElse (lexZ (t .values) (u .values)) (lexZ (tracesNumbers ts) (tracesNumbers us)))
+unfolding traceNumbers
+traces-by n i j t u ts us p q =
+    let h = recordNumbers (t .header) in
+    let g = recordNumbers (u .header) in
+    ap₂ lexZ (append-assoc h (t .values) (tracesNumbers ts)) (append-assoc g (u .values) (tracesNumbers us))
+    ∙ three-parts h (t .values) (tracesNumbers ts) g (u .values) (tracesNumbers us) (numbers-count (t .header) (p .header .scaled) ∙ sym (numbers-count (u .header) (q .header .scaled))) (p .size ∙ sym (q .size))
 
 -- ## Traces that end first
 

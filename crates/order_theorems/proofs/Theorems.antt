@@ -14,6 +14,7 @@
 --   "not greater". Any bytes are meant.
 -- - `key-held`, `order-held`: the order of two valid records is that of what they hold, `meaningOrder`, whatever the form of each trace;
 --   `renewed-order`, `renewed-same`: so an earlier record stands where its newest form does, and counts as equal to it.
+-- - `rest-held`, `trace-by-trace`: traces decide one after the other, header numbers before samples.
 -- - `ends-first`: a record whose traces end first is the lesser.
 -- - `order-same`: two valid records count as equal exactly when they hold the same; `newest-same`: in the newest form, exactly when they are equal
 --   byte for byte.
@@ -51,10 +52,12 @@ use Rattle.value.proofs.WrittenLaws.{written-is}
 use Rattle.sample.specs.Calls.{singleWord}
 use Rattle.sample_theorems.proofs.Words.{single-number, single-bytes, writing-normal}
 use Rattle.reel.specs.Meaning.{Trace, Meaning, meaningOf, MeanTheSame}
+use Rattle.headers.specs.Header.{recordNumbers}
 use Rattle.record.specs.Form.{heldSamples, heldCount, formCauses}
 use Rattle.record.specs.Held.{heldBy, IsNewest, renewed}
 use Rattle.read_reel.specs.Reading.{readOutcome}
 use Rattle.demands.specs.Words.{HasWord}
+use Rattle.demands.proofs.Proper.{ProperTrace}
 use Rattle.demands.proofs.Renewed.{renewed-bytes, renewed-valid, renewed-holds}
 use Rattle.demands.proofs.Determined.{read-valid, held-same}
 use Rattle.demands.proofs.Demand3.{records-equal}
@@ -65,12 +68,12 @@ use Rattle.compare.specs.Key.{cardKey, binaryKey, keyOf, orderOf}
 use Rattle.compare.specs.Answer.{ordered, refused, compareOutcome}
 use Rattle.compare.proofs.LexLaws.{turned, lex-is, lex-self, lex-turn, lex-append}
 use Rattle.compare.proofs.KeyLaws.{card-size, binary-size, record-parts}
-use Rattle.order_theorems.specs.MeaningKey.{meaningKey, meaningOrder}
+use Rattle.order_theorems.specs.MeaningKey.{tracesNumbers, meaningKey, meaningOrder}
 use Rattle.order_theorems.specs.SignedWord.{wordSigned}
 use Rattle.order_theorems.specs.Front.{frontOf, frontKey, restKey}
 use Rattle.order_theorems.specs.CompareTable.{CompareRow}
 use Rattle.order_theorems.proofs.Chain.{lex-chain, most-chain, most-both, most-total}
-use Rattle.order_theorems.proofs.Meanings.{key-of-held, held-only, later-less}
+use Rattle.order_theorems.proofs.Meanings.{key-of-held, rest-of-held, held-only, traces-by, later-less}
 use Rattle.order_theorems.proofs.Refusals.{to-row, from-row, both-valid, ordered-valid, either-end, row-numbers, no-rows, rows-none}
 use Rattle.order_theorems.proofs.WordOrder.{words-order}
 use Rattle.order_theorems.proofs.Fronts.{front-fine, front-key-is, front-none}
@@ -120,6 +123,19 @@ key-held = key-of-held
 -- Rules out a call that compares the bytes of pairs, fields or tags.
 pub order-held : (a b : List ℕ) → Bytes a → Bytes b → formCauses a ≡ Fine → formCauses b ≡ Fine → orderOf a b ≡ meaningOrder (heldBy a) (heldBy b)
 order-held a b ba bb va vb = ap₂ lexZ (key-held a ba va) (key-held b bb vb)
+
+-- THEOREM. "then trace by trace, header numbers before samples, samples by exact value": the traces that follow the binary header are those that
+-- are held,
+pub rest-held : (s : List ℕ) → Bytes s → formCauses s ≡ Fine → restKey s ≡ tracesNumbers (heldBy s .traces)
+rest-held = rest-of-held
+
+-- THEOREM. and of traces with equally many samples, as two valid records with the same binary numbers have, the first two decide, by their header
+-- numbers and then by their values, and then those behind them.
+-- Rules out a call that looks at all headers before any sample.
+pub trace-by-trace : (n i j : ℕ) (t u : Trace) (ts us : List Trace) → ProperTrace n i t → ProperTrace n j u
+    → lexZ (tracesNumbers (t ∷ ts)) (tracesNumbers (u ∷ us))
+    ≡ orElse (lexZ (recordNumbers (t .header)) (recordNumbers (u .header))) (orElse (lexZ (t .values) (u .values)) (lexZ (tracesNumbers ts) (tracesNumbers us)))
+trace-by-trace = traces-by
 
 -- THEOREM. Records in an earlier form (document 02, CR 8) are in the order of the same records in the newest form,
 pub renewed-order : (a b : List ℕ) → Bytes a → Bytes b → formCauses a ≡ Fine → formCauses b ≡ Fine → orderOf (renewed a) (renewed b) ≡ orderOf a b

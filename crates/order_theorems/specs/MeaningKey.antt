@@ -15,10 +15,14 @@ use Rattle.exact.specs.declared.Order.{Order}
 unfoldable pub traceNumbers : Trace → List ℤ
 traceNumbers t = recordNumbers (t .header) ++ t .values
 
+-- Those of some traces, "trace by trace".
+abbrev pub tracesNumbers : List Trace → List ℤ
+tracesNumbers ts = flat (map traceNumbers ts)
+
 -- All numbers of a meaning: "card bytes first, then header numbers", the 27 of the binary header, with 0 for the format code as a record holds
--- it; "then trace by trace".
+-- it; then its traces.
 unfoldable pub meaningKey : Meaning → List ℤ
-meaningKey m = map pos (m .cards) ++ (withCode 0 (m .binary) ++ flat (map traceNumbers (m .traces)))
+meaningKey m = map pos (m .cards) ++ (withCode 0 (m .binary) ++ tracesNumbers (m .traces))
 
 -- The order of two meanings: the first numbers that differ decide, and numbers that end first are the lesser.
 abbrev pub meaningOrder : Meaning → Meaning → Order
