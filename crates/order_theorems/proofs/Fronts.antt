@@ -1,7 +1,7 @@
 -- The front of a valid record is a valid record without traces, with the numbers that stand there. Assumes nothing.
 use mathlib.Core.Path.{_≡_, sym, ap, ap₂, _∙_, subst}
 use mathlib.Core.Logic.{inr}
-use mathlib.Core.List.{List, [], _∷_, _++_, map, append-nil}
+use mathlib.Core.List.{List, [], _++_, map, append-nil}
 use Prim.Native.Nat.{ℕ, _+_, _*_, _≤_, _<_}
 use native.Mathlib.Nat.{not-suc-le-zero}
 use native.Mathlib.Omega.{arith}
@@ -12,9 +12,9 @@ use lib.Seq.{length-take-le, getD-take, getD-append-add}
 use Rattle.numbers.specs.Walk.{flat, bytesAt}
 use Rattle.numbers.specs.BigEndian.{number}
 use Rattle.numbers.specs.TwosComplement.{signedOf}
-use Rattle.numbers.specs.Terms.{Bytes, Between}
+use Rattle.numbers.specs.Terms.{Between}
 use Rattle.numbers.specs.declared.Check.the-variants.{Fine}
-use Rattle.numbers.proofs.WalkLaws.{walk-same, all-take}
+use Rattle.numbers.proofs.WalkLaws.{walk-same}
 use Rattle.fields.specs.Fields.{each}
 use Rattle.fields.proofs.EachLaws.{run-none}
 use Rattle.reel.specs.Layout.{number16}
@@ -153,15 +153,6 @@ front-fine s v = record-fine (frontOf s) 0 (front-right s (has-front s v) (recor
 pub front-key-is : (s : List ℕ) → formCauses s ≡ Fine → keyOf (frontOf s) ≡ frontKey s
 front-key-is s v = front-numbers s (has-front s v)
 
--- it has no traces,
+-- and it has no traces.
 pub front-none : (s : List ℕ) → formCauses s ≡ Fine → heldCount (frontOf s) (heldSamples (frontOf s)) ≡ 0
 front-none s v = no-traces s (has-front s v) (heldSamples (frontOf s))
-
--- and its elements are bytes.
-pub front-bytes : (s : List ℕ) → Bytes s → Bytes (frontOf s)
-unfolding frontOf endOfNone
-front-bytes s b = join (take tracesPlace s) (all-take (λ x. x < 256) tracesPlace s b)
-  where
-    join : (l : List ℕ) → Bytes l → Bytes (l ++ endOfNone)
-    join [] h = omega arith
-    join (x ∷ l) h = (h .0, join l (h .1))

@@ -22,8 +22,8 @@
 --   when the reels mean the same.
 -- - `normal-order`, `fits-normal`, `pairs-order`: two samples that fit code 1 are in the order of their normal words; `ieee-order`: so under code 5.
 -- - `compare-ends`, `compare-refused`, `compare-taken`, `compare-valid`, `compare-numbers`: demand 1 for the call.
--- - `front-valid`, `front-key`, `front-parts`, `front-decides`, `front-same`, `front-said`: the front of a record is a record itself, and where the fronts of two
---   records differ, they are in the order of these.
+-- - `front-valid`, `front-key`, `front-parts`, `front-decides`, `front-same`, `front-said`: the front of a record is a record itself, and two
+--   records whose fronts differ are in the order of these.
 --
 -- Where a theorem speaks of what a record holds, each byte of it is below 256; nothing else is assumed.
 use mathlib.Core.Path.{_≡_, refl, sym, ap, ap₂, _∙_}
