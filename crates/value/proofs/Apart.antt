@@ -1,6 +1,6 @@
 -- A pair taken apart: its sign, its magnitude and e + 280, as the code finds them in the bits. Assumes nothing.
 use mathlib.Core.Path.{_≡_, refl, sym, ap, _∙_, subst}
-use mathlib.Core.Bool.{true, false, _&&_}
+use mathlib.Core.Bool.{Bool, true, false, _&&_}
 use Prim.Native.Nat.{ℕ, suc, _+_, _-_, _%_, _^_, _≤_, _<_}
 use native.Mathlib.Omega.{arith}
 use borrow.Author.Tests.{ltb-true, ltb-false, leb-true, le-leb, lt-leb, ne-eqb}
@@ -53,6 +53,23 @@ pub bits-zero : (e : ℤ) → natAbs e ≡ 0 → bitsOf 16 e ≡ 0
 bits-zero (pos n) h = h
 bits-zero (negsuc n) h = omega arith
 
+-- a mantissa by its bits: whether it is odd, and whether it is 0
+pub bits-odd : (m : ℤ) → mag m < 2 ^ (mantissaBits - 1) → bitsOf mantissaBits m % 2 ≡ natAbs m % 2
+bits-odd (pos n) f = refl
+bits-odd (negsuc n) f = omega arith
+
+pub bits-none : (m : ℤ) → mag m < 2 ^ (mantissaBits - 1) → bitsOf mantissaBits m ≡ 0 → natAbs m ≡ 0
+bits-none (pos n) f h = h
+bits-none (negsuc n) f h = omega arith
+
+pub none-bits : (m : ℤ) → mag m < 2 ^ (mantissaBits - 1) → natAbs m ≡ 0 → bitsOf mantissaBits m ≡ 0
+none-bits (pos n) f h = h
+none-bits (negsuc n) f h = omega arith
+
+pub abs-most : (m : ℤ) → mag m < 2 ^ (mantissaBits - 1) → natAbs m ≤ 2 ^ (mantissaBits - 1)
+abs-most (pos n) f = omega arith
+abs-most (negsuc n) f = omega arith
+
 -- the pairs that are canonical, and those that are not, by what the code tests
 module _ (p : Pair) where
   pub zero-yes : natAbs (p .m) ≡ 0 → natAbs (p .e) ≡ 0 → isCanonical p ≡ true
@@ -71,6 +88,17 @@ module _ (p : Pair) where
   pub odd-yes : natAbs (p .m) % 2 ≡ 1 → natAbs (p .m) ≤ 2 ^ (mantissaBits - 1) - 1 → isExponent (p .e) ≡ true → isCanonical p ≡ true
   odd-yes o b l =
       rw (l, o, le-leb (natAbs (p .m)) (2 ^ (mantissaBits - 1) - 1) b) (or-true (eqb (natAbs (p .e)) 0 && eqb (natAbs (p .m)) 0))
+
+  -- with an odd mantissa the exponent decides
+  pub odd-is : natAbs (p .m) % 2 ≡ 1 → natAbs (p .m) ≤ 2 ^ (mantissaBits - 1) → isCanonical p ≡ isExponent (p .e)
+  odd-is o b = go (isExponent (p .e)) refl
+    where
+      some : natAbs (p .m) ≡ 0 → ⊥
+      some h = omega arith
+
+      go : (x : Bool) → isExponent (p .e) ≡ x → isCanonical p ≡ isExponent (p .e)
+      go true h = odd-yes o (omega arith) h ∙ sym h
+      go false h = high-no some h ∙ sym h
 
   -- a pair with m = 0 has the value zero
   pub zero-value : natAbs (p .m) ≡ 0 → valueOf p ≡ pos 0

@@ -257,15 +257,18 @@ impl Pair {
         Parts::NotCanonical
     }
 
-    // Whether the pair is canonical.
+    // Whether the pair is canonical. Nearly every mantissa is odd, so that is asked first.
     pub fn is_canonical(self) -> bool
         ensures { λ r. ⌜ r ≡ isCanonical self ⌝ }
     {
-        match self.parts() {
-            Parts::NotCanonical => false,
-            Parts::Zero => true,
-            Parts::Odd { neg: _, o: _, k: _ } => true,
+        let bits = numbers::bits32(self.m);
+        if bits % 2 == 1 {
+            return is_exponent(self.e);
         }
+        if bits != 0 {
+            return false;
+        }
+        numbers::bits16(self.e) == 0
     }
 
     // To each code's word: the normal word, the number itself of 32 and of 16 bits, the word of the smallest gain, the IEEE word, and the
