@@ -14,7 +14,7 @@ use lib.Signed.{ltZ}
 use Rattle.numbers.specs.Walk.{pick, walk}
 use Rattle.numbers.proofs.SignLaws.{below-or}
 use Rattle.numbers.proofs.WalkLaws.{walk-more, cons-eq}
-use Rattle.exact.specs.Order.{orderN, orderZ, orElse, lexZ}
+use Rattle.exact.specs.Order.{orderN, orderZ, turned, orElse, lexZ}
 use Rattle.compare.specs.Parts.{isDecided}
 use Rattle.exact.specs.declared.Order.{Order}
 use Rattle.exact.specs.declared.Order.the-variants.{Less, Same, More}
@@ -84,12 +84,6 @@ lex-append [] (b ∷ l) x y e = absurd (let z : 0 ≡ suc (length l) = e in omeg
 lex-append (a ∷ k) [] x y e = absurd (let z : suc (length k) ≡ 0 = e in omega arith)
 lex-append (a ∷ k) (b ∷ l) x y e = ap (orElse (orderZ a b)) (lex-append k l x y (omega arith)) ∙ sym (or-assoc (orderZ a b) (lexZ k l) (lexZ x y))
 
--- LAW. The order is total: seen from the other side it is turned.
-abbrev pub turned : Order → Order
-turned Less = More
-turned Same = Same
-turned More = Less
-
 number-turn : (a b : ℕ) → orderN b a ≡ turned (orderN a b)
 number-turn a b =
     ⊎-elim (λ (l : a < b). rw (lt-ltb a b l, le-ltb b a (omega arith)))
@@ -106,6 +100,7 @@ turned-or Less d = refl
 turned-or Same d = refl
 turned-or More d = refl
 
+-- LAW. The order is total: seen from the other side it is turned.
 pub lex-turn : (k l : List ℤ) → lexZ l k ≡ turned (lexZ k l)
 lex-turn [] [] = refl
 lex-turn [] (b ∷ l) = refl

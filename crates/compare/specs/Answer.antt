@@ -20,16 +20,16 @@ abbrev pub compareSaid : Answer → Compared
 compareSaid (Ordered o) = ordered o
 compareSaid (Refused which number place) = refused which number (placeNo place)
 
--- What is said where the second record has this cause, and no cause applies to the first;
+-- What is said where judging the second record finds this, and no cause applies to the first;
 abbrev pub secondFound : List ℕ → List ℕ → Check → Compared
 secondFound a b check.Fine = ordered (orderOf a b)
 secondFound a b (check.Refused number place) = refused 2 number (placeNo place)
 
--- where the first has this cause;
+-- where judging the first finds this;
 abbrev pub firstFound : List ℕ → List ℕ → Check → Compared
 firstFound a b check.Fine = secondFound a b (formCauses b)
 firstFound a b (check.Refused number place) = refused 1 number (placeNo place)
 
--- of any two.
+-- of any two records.
 abbrev pub compareOutcome : List ℕ → List ℕ → Compared
 compareOutcome a b = firstFound a b (formCauses a)

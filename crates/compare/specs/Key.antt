@@ -33,9 +33,13 @@ traceKey s n at = headerKey s (at + fieldHead) ++ heldValuesIn tag04 s n (at + t
 unfoldable pub tracesKey : List ℕ → ℕ → ℕ → List ℤ
 tracesKey s n t = flat (each (λ j. traceKey s n (tracePlace s n j)) t)
 
+-- All traces of a record.
+abbrev pub restKey : List ℕ → List ℤ
+restKey s = tracesKey s (heldSamples s) (heldCount s (heldSamples s))
+
 -- The whole record.
 unfoldable pub keyOf : List ℕ → List ℤ
-keyOf s = cardKey s ++ (binaryKey s ++ tracesKey s (heldSamples s) (heldCount s (heldSamples s)))
+keyOf s = cardKey s ++ (binaryKey s ++ restKey s)
 
 -- The order of two records: the first numbers of their keys that differ decide, and a key that ends first is the lesser. Records that agree in
 -- their binary numbers have the same N, and so traces of equally many numbers.

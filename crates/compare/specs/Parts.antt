@@ -21,7 +21,7 @@ use Rattle.exact.specs.declared.Order.{Order}
 use Rattle.exact.specs.declared.Order.the-variants.{Less, Same, More}
 use Rattle.compare.specs.Key.{traceKey}
 
--- An order decides where neither is the same as the other.
+-- An order decides where it isn't `Same`.
 abbrev pub isDecided : Order → Bool
 isDecided Less = true
 isDecided Same = false
@@ -34,7 +34,7 @@ sameBytes [] (y ∷ l) = false
 sameBytes (x ∷ k) [] = false
 sameBytes (x ∷ k) (y ∷ l) = eqb x y && sameBytes k l
 
--- The first n bytes of two lists are the same.
+-- The first n bytes of two lists, which have as many, are the same.
 abbrev pub Alike : List ℕ → List ℕ → ℕ → Type 0
 Alike a b n = (p : ℕ) → p < n → getD a p 0 ≡ getD b p 0
 

@@ -1,4 +1,5 @@
-// The order of two records (document 02, CR 9). Where the bytes of both are the same, the second is neither judged nor taken apart.
+// The order of two records (document 02, CR 9). As far as they have the same bytes from the front on, cards and binary header and then whole
+// traces, the second is neither judged nor taken apart.
 ghost use mathlib.Core.Path.{_≡_};
 ghost use mathlib.Core.Bool.{_&&_};
 ghost use Prim.Native.Nat.{_+_, _-_, _*_, _^_, _≤_, _<_, min};
@@ -16,7 +17,7 @@ ghost use Rattle.record.specs.Form.{binaryStart, behindTraceIn, cardsCauses, bi
 ghost use Rattle.record.specs.Parts.{formFrom};
 ghost use Rattle.record.specs.declared.Judged.the-variants.{Fine};
 ghost use Rattle.record.specs.Held.{heldValue};
-ghost use Rattle.exact.specs.Value.{valueAt};
+ghost use Rattle.exact.specs.Value.{valueBy};
 ghost use Rattle.exact.specs.Order.{orderZ, orElse, lexZ};
 ghost use Rattle.compare.specs.Key.{cardKey, binaryKey, headerKey, traceKey, orderOf};
 ghost use Rattle.compare.specs.Answer.{compareSaid, secondFound, firstFound, compareOutcome};
@@ -100,7 +101,7 @@ fn decides(c: Order) -> bool
 // The pair at a place, taken apart.
 fn exact_at(s: &[u8], at: usize) -> Exact
     requires { ⌜ at + 6 ≤ length (now s) ⌝ }
-    ensures { λ r. ⌜ valueAt r ≡ heldValue (now (s .entry)) at ⌝ }
+    ensures { λ r. ⌜ valueBy r ≡ heldValue (now (s .entry)) at ⌝ }
 {
     let p = value::pair_in([s[at], s[at + 1], s[at + 2], s[at + 3], s[at + 4], s[at + 5]]);
     exact::exact_of(p.e, p.m as i64)
@@ -180,7 +181,7 @@ fn short_at(s: &[u8], at: usize) -> i32
     numbers::signed16(slices::number16_at(s, Place(at))) as i32
 }
 
-// n samples that stand side by side in each record. Where their bytes are the same, so are they.
+// n samples that stand side by side in each record.
 fn compare_samples(a: &[u8], p: usize, b: &[u8], q: usize, n: usize) -> Order
     requires { ⌜ (p + n * 6 ≤ length (now a)) × (q + n * 6 ≤ length (now b)) ⌝ }
     ensures { λ r. ⌜ r ≡ lexZ (walk (heldValue (now (a .entry))) 6 n p) (walk (heldValue (now (b .entry))) 6 n q) ⌝ }
@@ -200,7 +201,7 @@ fn compare_samples(a: &[u8], p: usize, b: &[u8], q: usize, n: usize) -> Order
     Order::Same
 }
 
-// The same, with a look at the bytes first.
+// The same. Where their bytes are the same, so are they: these are looked at first.
 fn compare_run(a: &[u8], p: usize, b: &[u8], q: usize, n: usize) -> Order
     requires { ⌜ (p + n * 6 ≤ length (now a)) × (q + n * 6 ≤ length (now b)) ⌝ }
     ensures { λ r. ⌜ r ≡ lexZ (walk (heldValue (now (a .entry))) 6 n p) (walk (heldValue (now (b .entry))) 6 n q) ⌝ }

@@ -7,10 +7,10 @@ use native.Mathlib.Omega.{arith}
 use borrow.Author.Tests.{lt-ltb, le-ltb}
 use lib.IntN.{ℤ, pos, negsuc}
 use Rattle.numbers.proofs.SignLaws.{below-or}
-use Rattle.exact.specs.Order.{orderN, orderZ, orElse, lexZ}
+use Rattle.exact.specs.Order.{turned, orderN, orderZ, orElse, lexZ}
 use Rattle.exact.specs.declared.Order.{Order}
 use Rattle.exact.specs.declared.Order.the-variants.{Less, Same, More}
-use Rattle.compare.proofs.LexLaws.{turned, same-is, lex-is, lex-turn}
+use Rattle.compare.proofs.LexLaws.{same-is, lex-is, lex-turn}
 
 -- ## Orders that differ
 

@@ -36,14 +36,13 @@ use Rattle.demands.proofs.Proper.{Proper, ProperTrace}
 use Rattle.demands.proofs.ProperLaws.{held-proper}
 use Rattle.demands.proofs.Valid.{record-right}
 use borrow.Author.Tests.{not-false}
-use Rattle.compare.specs.Key.{cardKey, binaryKey, headerKey, traceKey, tracesKey, keyOf}
+use Rattle.compare.specs.Key.{cardKey, binaryKey, headerKey, traceKey, tracesKey, restKey, keyOf}
 use Rattle.compare.proofs.KeyLaws.{header-size, three-parts}
 use Rattle.compare.proofs.LexLaws.{same-self}
 use Rattle.exact.specs.Order.{orElse, lexZ}
 use Rattle.exact.specs.declared.Order.{Order}
 use Rattle.exact.specs.declared.Order.the-variants.{Less}
-use Rattle.order_theorems.specs.MeaningKey.{traceNumbers, tracesNumbers, meaningKey, meaningOrder}
-use Rattle.order_theorems.specs.Front.{restKey}
+use Rattle.order_theorems.specs.MeaningKey.{traceNumbers, tracesNumbers, IsSized, meaningKey, meaningOrder}
 
 -- ## Headers
 
@@ -180,15 +179,23 @@ held-only a b ba bb va vb e =
 -- ## Trace by trace
 
 -- LAW. Of traces with equally many samples the first decide, header numbers before samples, then the others.
-pub traces-by : (n i j : ℕ) (t u : Trace) (ts us : List Trace) → ProperTrace n i t → ProperTrace n j u
+pub traces-by : (n : ℕ) (t u : Trace) (ts us : List Trace) → IsSized n t → IsSized n u
     → lexZ (tracesNumbers (t ∷ ts)) (tracesNumbers (u ∷ us))
     ≡ orElse (lexZ (recordNumbers (t .header)) (recordNumbers (u .header))) (orElse (lexZ (t .values) (u .values)) (lexZ (tracesNumbers ts) (tracesNumbers us)))
 unfolding traceNumbers
-traces-by n i j t u ts us p q =
+traces-by n t u ts us p q =
     let h = recordNumbers (t .header) in
     let g = recordNumbers (u .header) in
     ap₂ lexZ (append-assoc h (t .values) (tracesNumbers ts)) (append-assoc g (u .values) (tracesNumbers us))
-    ∙ three-parts h (t .values) (tracesNumbers ts) g (u .values) (tracesNumbers us) (numbers-count (t .header) (p .header .scaled) ∙ sym (numbers-count (u .header) (q .header .scaled))) (p .size ∙ sym (q .size))
+    ∙ three-parts h (t .values) (tracesNumbers ts) g (u .values) (tracesNumbers us) (p .0 ∙ sym (q .0)) (p .1 ∙ sym (q .1))
+
+-- LAW. The traces of a valid record have as many header numbers and samples.
+pub sizes-held : (s : List ℕ) → Bytes s → formCauses s ≡ Fine → All (IsSized (heldSamples s)) (heldBy s .traces)
+sizes-held s b v = go (heldBy s .traces) (held-proper s b v .traces)
+  where
+    go : (ts : List Trace) → All (ProperTrace (heldSamples s) (heldInterval s)) ts → All (IsSized (heldSamples s)) ts
+    go [] h = tt
+    go (t ∷ ts) h = ((numbers-count (t .header) (h .0 .header .scaled), h .0 .size), go ts (h .1))
 
 -- ## Traces that end first
 

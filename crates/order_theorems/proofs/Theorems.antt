@@ -6,26 +6,28 @@
 -- samples both fit code 1, their order is that of their normal words read as sign and magnitude. (12 and 13 apply, the first record's before the
 -- second's; the answer says which.)"
 --
--- The theorems are over the outcome that the contract of the call gives, `compareOutcome`. A record's key is the list of its numbers as it is
--- read above, and the order of two records, `orderOf`, is that of their keys.
+-- Those about the call are over the outcome that its contract gives, `compareOutcome`; the others are over `orderOf`, which the call says of two
+-- valid records (`compare-valid`). A record's key is the list of its numbers as it is read above, and the order of two records is that of their keys.
 --
 -- - `order-parts`: card bytes decide first, then the binary header's numbers, then the traces.
 -- - `order-turn`, `order-self`, `order-chain`: the order is total and transitive; `at-most-chain`, `at-most-both`, `at-most-total`: the same of
---   "not greater". Any bytes are meant.
+--   not greater. Any bytes are meant.
 -- - `key-held`, `order-held`: the order of two valid records is that of what they hold, `meaningOrder`, whatever the form of each trace;
 --   `renewed-order`, `renewed-same`: so an earlier record stands where its newest form does, and counts as equal to it.
--- - `rest-held`, `trace-by-trace`: traces decide one after the other, header numbers before samples.
+-- - `rest-held`, `held-sizes`, `trace-by-trace`: traces decide one after the other, header numbers before samples.
 -- - `ends-first`: a record whose traces end first is the lesser.
 -- - `order-same`: two valid records count as equal exactly when they hold the same; `newest-same`: in the newest form, exactly when they are equal
 --   byte for byte.
--- - `reels-order`, `reels-same`: the records that reading two reels gives are in the order of what the reels mean, and count as equal exactly
+-- - `reels-order`, `reels-same`: the records that reading two plain reels gives are in the order of what the reels mean, and count as equal exactly
 --   when the reels mean the same.
 -- - `normal-order`, `fits-normal`, `pairs-order`: two samples that fit code 1 are in the order of their normal words; `ieee-order`: so under code 5.
--- - `compare-ends`, `compare-refused`, `compare-taken`, `compare-valid`, `compare-numbers`: demand 1 for the call.
+-- - `compare-ends`, `compare-refused`, `compare-taken`, `compare-valid`, `compare-numbers`: demand 1 for the call; `compare-turn`: that the order is
+--   total, of the call.
 -- - `front-valid`, `front-key`, `front-parts`, `front-decides`, `front-same`, `front-said`: the front of a record is a record itself, and two
 --   records whose fronts differ are in the order of these.
 --
--- Where a theorem speaks of what a record holds, each byte of it is below 256; nothing else is assumed.
+-- Besides what a statement names, as validity or a form, all that is assumed of a record or reel is that each byte of it is below 256, where what it
+-- holds or means is spoken of.
 use mathlib.Core.Path.{_≡_, refl, sym, ap, ap₂, _∙_}
 use mathlib.Core.Logic.{_⊎_}
 use mathlib.Core.Bool.{true}
@@ -35,7 +37,7 @@ use native.Mathlib.Omega.{arith}
 use lib.IntN.{ℤ}
 use lib.ListN.{length, take, length-append}
 use Rattle.numbers.specs.Iff.{Iff}
-use Rattle.numbers.specs.Terms.{Among, Bytes}
+use Rattle.numbers.specs.Terms.{All, Among, Bytes}
 use Rattle.numbers.specs.Outcome.{taken}
 use Rattle.numbers.specs.declared.Check.the-variants.{Fine}
 use Rattle.formats.specs.Codes.{ibmFormat, ieeeFormat}
@@ -57,23 +59,22 @@ use Rattle.record.specs.Form.{heldSamples, heldCount, formCauses}
 use Rattle.record.specs.Held.{heldBy, IsNewest, renewed}
 use Rattle.read_reel.specs.Reading.{readOutcome}
 use Rattle.demands.specs.Words.{HasWord}
-use Rattle.demands.proofs.Proper.{ProperTrace}
 use Rattle.demands.proofs.Renewed.{renewed-bytes, renewed-valid, renewed-holds}
 use Rattle.demands.proofs.Determined.{read-valid, held-same}
 use Rattle.demands.proofs.Demand3.{records-equal}
-use Rattle.exact.specs.Order.{orderZ, orElse, lexZ}
+use Rattle.exact.specs.Order.{orderZ, turned, orElse, lexZ}
 use Rattle.exact.specs.declared.Order.{Order}
 use Rattle.exact.specs.declared.Order.the-variants.{Less, Same, More}
-use Rattle.compare.specs.Key.{cardKey, binaryKey, keyOf, orderOf}
+use Rattle.compare.specs.Key.{cardKey, binaryKey, restKey, keyOf, orderOf}
 use Rattle.compare.specs.Answer.{ordered, refused, compareOutcome}
-use Rattle.compare.proofs.LexLaws.{turned, lex-is, lex-self, lex-turn, lex-append}
+use Rattle.compare.proofs.LexLaws.{lex-is, lex-self, lex-turn, lex-append}
 use Rattle.compare.proofs.KeyLaws.{card-size, binary-size, record-parts}
-use Rattle.order_theorems.specs.MeaningKey.{tracesNumbers, meaningKey, meaningOrder}
+use Rattle.order_theorems.specs.MeaningKey.{tracesNumbers, IsSized, meaningKey, meaningOrder}
 use Rattle.order_theorems.specs.SignedWord.{wordSigned}
-use Rattle.order_theorems.specs.Front.{frontOf, frontKey, restKey}
+use Rattle.order_theorems.specs.Front.{frontOf, frontKey}
 use Rattle.order_theorems.specs.CompareTable.{CompareRow}
 use Rattle.order_theorems.proofs.Chain.{lex-chain, most-chain, most-both, most-total}
-use Rattle.order_theorems.proofs.Meanings.{key-of-held, rest-of-held, held-only, traces-by, later-less}
+use Rattle.order_theorems.proofs.Meanings.{key-of-held, rest-of-held, sizes-held, held-only, traces-by, later-less}
 use Rattle.order_theorems.proofs.Refusals.{to-row, from-row, both-valid, ordered-valid, either-end, row-numbers, no-rows, rows-none}
 use Rattle.order_theorems.proofs.WordOrder.{words-order}
 use Rattle.order_theorems.proofs.Fronts.{front-fine, front-key-is, front-none}
@@ -100,7 +101,7 @@ order-self a = lex-self (keyOf a)
 pub order-chain : (a b c : List ℕ) → orderOf a b ≡ Less → orderOf b c ≡ Less → orderOf a c ≡ Less
 order-chain a b c p q = lex-chain (keyOf a) (keyOf b) (keyOf c) p q
 
--- THEOREM. So with "not greater": it goes on from one to the next,
+-- THEOREM. So with not greater: it goes on from one to the next,
 pub at-most-chain : (a b c : List ℕ) → ¬ (orderOf a b ≡ More) → ¬ (orderOf b c ≡ More) → ¬ (orderOf a c ≡ More)
 at-most-chain a b c p q = most-chain (keyOf a) (keyOf b) (keyOf c) p q
 
@@ -129,10 +130,13 @@ order-held a b ba bb va vb = ap₂ lexZ (key-held a ba va) (key-held b bb vb)
 pub rest-held : (s : List ℕ) → Bytes s → formCauses s ≡ Fine → restKey s ≡ tracesNumbers (heldBy s .traces)
 rest-held = rest-of-held
 
--- THEOREM. and of traces with equally many samples, as two valid records with the same binary numbers have, the first two decide, by their header
--- numbers and then by their values, and then those behind them.
+-- THEOREM. each of them has 71 header numbers and as many samples as the record says,
+pub held-sizes : (s : List ℕ) → Bytes s → formCauses s ≡ Fine → All (IsSized (heldSamples s)) (heldBy s .traces)
+held-sizes = sizes-held
+
+-- THEOREM. and of such traces the first two decide, by their header numbers and then by their values, and then those behind them.
 -- Rules out a call that looks at all headers before any sample.
-pub trace-by-trace : (n i j : ℕ) (t u : Trace) (ts us : List Trace) → ProperTrace n i t → ProperTrace n j u
+pub trace-by-trace : (n : ℕ) (t u : Trace) (ts us : List Trace) → IsSized n t → IsSized n u
     → lexZ (tracesNumbers (t ∷ ts)) (tracesNumbers (u ∷ us))
     ≡ orElse (lexZ (recordNumbers (t .header)) (recordNumbers (u .header))) (orElse (lexZ (t .values) (u .values)) (lexZ (tracesNumbers ts) (tracesNumbers us)))
 trace-by-trace = traces-by
@@ -176,7 +180,7 @@ newest-same a b ba bb va vb na nb = (
 
 module _ (s₁ s₂ out₁ out₂ : List ℕ) (t₁ n₁ l₁ c₁ t₂ n₂ l₂ c₂ : ℕ) (b₁ : Bytes s₁) (b₂ : Bytes s₂)
     (e₁ : readOutcome s₁ out₁ .said ≡ taken (t₁ ∷ n₁ ∷ l₁ ∷ c₁ ∷ [])) (e₂ : readOutcome s₂ out₂ .said ≡ taken (t₂ ∷ n₂ ∷ l₂ ∷ c₂ ∷ [])) where
-  -- THEOREM. Where the readings of two reels are taken, comparing the two records says the order of what the reels mean.
+  -- THEOREM. Where the readings of two plain reels are taken, comparing the two records says the order of what the reels mean.
   pub reels-order : compareOutcome (take l₁ (readOutcome s₁ out₁ .bytes)) (take l₂ (readOutcome s₂ out₂ .bytes)) ≡ ordered (meaningOrder (meaningOf s₁) (meaningOf s₂))
   reels-order =
       let a = take l₁ (readOutcome s₁ out₁ .bytes) in
@@ -201,7 +205,7 @@ module _ (s₁ s₂ out₁ out₂ : List ℕ) (t₁ n₁ l₁ c₁ t₂ n₂ l�
 
 -- THEOREM. "their order is that of their normal words read as sign and magnitude": where n and m are the normal words of two values. What a normal
 -- word is, in document 01's words, is `normal-is` of `sample_theorems`; that a value has no other is `normal-only`.
--- Rules out an order by pairs, exponent first, and one that takes minus zero for less than zero.
+-- Rules out an order by pairs, exponent first, and one that reads the words in two's complement.
 pub normal-order : (v u : ℤ) (n m : ℕ) → NormalOf v n → NormalOf u m → orderZ v u ≡ orderZ (wordSigned 32 n) (wordSigned 32 m)
 normal-order v u n m p q = words-order ibmFormat 32 24 ibm-float (omega arith) (omega arith) v u n m (word v n p) (word u m q)
   where
@@ -258,6 +262,10 @@ module _ (a b : List ℕ) where
   -- THEOREM. "Compare two valid records": it says an order exactly when both are valid, and then theirs.
   pub compare-valid : (o : Order) → Iff (compareOutcome a b ≡ ordered o) ((formCauses a ≡ Fine) × (formCauses b ≡ Fine) × (orderOf a b ≡ o))
   compare-valid o = (ordered-valid a b, λ h. both-valid a b (h .0) (h .1) ∙ ap ordered (h .2))
+
+  -- THEOREM. "The order is total": asked the other way round, it says the order turned.
+  pub compare-turn : (o : Order) → compareOutcome a b ≡ ordered o → compareOutcome b a ≡ ordered (turned o)
+  compare-turn o e = let h = ordered-valid a b e in both-valid b a (h .1) (h .0) ∙ ap ordered (order-turn a b ∙ ap turned (h .2))
 
   -- THEOREM. The answer says 1 or 2, and 12 or 13.
   pub compare-numbers : (which number place : ℕ) → compareOutcome a b ≡ refused which number place → Among which (1 ∷ 2 ∷ []) × Among number (12 ∷ 13 ∷ [])

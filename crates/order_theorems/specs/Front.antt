@@ -3,8 +3,8 @@ use Prim.Native.Nat.{ℕ}
 use mathlib.Core.List.{List, [], _∷_, _++_}
 use lib.ListN.{take}
 use lib.IntN.{ℤ}
-use Rattle.record.specs.Form.{tracesPlace, heldSamples, heldCount}
-use Rattle.compare.specs.Key.{cardKey, binaryKey, tracesKey}
+use Rattle.record.specs.Form.{tracesPlace}
+use Rattle.compare.specs.Key.{cardKey, binaryKey}
 
 -- Tag 05 with its length, 4, and the count of no traces.
 unfoldable pub endOfNone : List ℕ
@@ -17,7 +17,3 @@ frontOf s = take tracesPlace s ++ endOfNone
 -- The numbers that stand there: card bytes, then the 27 binary numbers.
 abbrev pub frontKey : List ℕ → List ℤ
 frontKey s = cardKey s ++ binaryKey s
-
--- The numbers of all its traces.
-abbrev pub restKey : List ℕ → List ℤ
-restKey s = tracesKey s (heldSamples s) (heldCount s (heldSamples s))

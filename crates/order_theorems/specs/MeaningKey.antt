@@ -1,7 +1,10 @@
 -- The order of what records hold. "Compare two valid records: card bytes first, then header numbers, bare as the record holds them and in its
 -- order (69 and 71 too), as signed, then trace by trace, header numbers before samples, samples by exact value; a record whose traces end first
 -- is the lesser" (document 02, CR 9). Here it is read of a meaning, with no byte of a record in it.
+use mathlib.Core.Path.{_≡_}
 use mathlib.Core.List.{List, _++_, map}
+use Prim.Native.Nat.{ℕ}
+use lib.ListN.{length}
 use lib.IntN.{ℤ, pos}
 use Rattle.numbers.specs.Walk.{flat}
 use Rattle.reel.specs.Meaning.{Trace, Meaning}
@@ -15,7 +18,11 @@ use Rattle.exact.specs.declared.Order.{Order}
 unfoldable pub traceNumbers : Trace → List ℤ
 traceNumbers t = recordNumbers (t .header) ++ t .values
 
--- Those of some traces, "trace by trace".
+-- A trace has 71 header numbers and n values.
+abbrev pub IsSized : ℕ → Trace → Type 0
+IsSized n t = (length (recordNumbers (t .header)) ≡ 71) × (length (t .values) ≡ n)
+
+-- The numbers of some traces, "trace by trace".
 abbrev pub tracesNumbers : List Trace → List ℤ
 tracesNumbers ts = flat (map traceNumbers ts)
 
