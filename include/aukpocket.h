@@ -97,9 +97,9 @@
  * Valid records have an order, that of their card bytes, taken as unsigned numbers; then of the 27 numbers of the binary header; then, trace
  * by trace, of the 71 numbers of its header and of its samples, by exact value. Header numbers are signed and count as they stand in the
  * record, elevations and coordinates without their scalars, and 69 and 71 like the others. The first that differs decides; where everything
- * that both have agrees, the record with fewer traces is the lesser. The form of a trace plays no part. Any two records have an order, and
- * they are equal just when they hold the same: cards, header numbers, count of traces and values of samples. Where two samples both fit code
- * 1, their order is that of their normal words read as sign and magnitude.
+ * that both have agrees, the record with fewer traces is the lesser. The form of a trace plays no part. Any two valid records have an order,
+ * and they are equal just when they hold the same: cards, header numbers, count of traces and values of samples. Where two samples both fit
+ * code 1, their order is that of their normal words read as sign and magnitude.
  *
  * Elevations and depths (trace fields 41 to 65) have the scalar in field 69, coordinates (73 to 85) that in field 71: a positive one
  * multiplies, a negative one divides, 0 is taken as 1. Two reels count as equal by the scaled values of these fields, exactly, and not by
@@ -168,7 +168,8 @@ struct aukpocket_field_answer {
 };
 
 /* What comparing two records answers: `order` is -1 where the first is the lesser, 0 where they are equal, and 1 where the second is the
- * lesser. Where one is refused, `which` says which, 1 or 2, `beside` is a place in that record, and `order` is 0. */
+ * lesser. Where one is refused, `which` says which, 1 or 2, `beside` is a place in that record, and `order` is 0, so `number` has to be looked
+ * at first. */
 struct aukpocket_order_answer {
     uint32_t number;
     int32_t order;

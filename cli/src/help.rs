@@ -273,8 +273,9 @@ traces is the lesser. Two records are equal just when they hold the same, whatev
 ";
 
 const MAPPED: &str = "
-Files are mapped, not loaded: the records don't have to fit in memory. They must not be changed meanwhile. Where
-the system tells of a change, or a file was cut or can't be read any more, the run ends with 1 and no answer.
+Files are mapped: the records don't have to fit in memory. What can't be mapped, as a pipe, is loaded. They must
+not be changed meanwhile. Where the system tells of a change, or a file was cut or can't be read any more, the run
+ends with 1 and no answer.
 ";
 
 pub fn compare() -> String {
