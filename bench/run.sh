@@ -4,7 +4,8 @@
 #
 #   sh bench/run.sh                         the whole
 #   sh bench/run.sh --mb 16 --runs 3        on reels of 16 MB and less, to try it
-#   sh bench/run.sh eagle                   the table of one part: nearest, growth, cards, eagle or long
+#   sh bench/run.sh eagle                   the table of one part: nearest, growth, cards, eagle, long or
+#                                           order
 set -eu
 cd "$(dirname "$0")/.."
 
@@ -21,7 +22,7 @@ model=$(sed -n 's/^model name[^:]*: *//p' /proc/cpuinfo | head -n 1)
 memory=$(awk '/^MemTotal/ { printf "%.0f", $2 / 1e6 }' /proc/meminfo)
 echo "Processor: $model, $(nproc) cores; memory: $memory GB; $(rustc --version | cut -d ' ' -f 1-2)."
 case ${1:-} in
-    nearest | growth | cards | eagle | long)
+    nearest | growth | cards | eagle | long | order)
         build/cargo/bench/release/bench "$@"
         exit
         ;;
@@ -32,3 +33,4 @@ build/cargo/bench/release/bench growth "$@"
 build/cargo/bench/release/bench cards "$@"
 build/cargo/bench/release/bench eagle "$@"
 build/cargo/bench/release/bench long "$@"
+build/cargo/bench/release/bench order "$@"

@@ -1,7 +1,9 @@
-//! The four calls of the library that are measured, through the safe module over its C interface.
+//! The calls of the library that are measured, through the safe module over its C interface.
 //! Their answers are given in the terms that all contenders share.
 
-use independent::{NearestWritten, ReelRead, Refused, Taken};
+use aukpocket::Which;
+use independent::{NearestWritten, ReelRead, Refused, RefusedOf, Taken};
+use std::cmp::Ordering;
 
 pub fn read_reel(reel: &[u8], out: &mut [u8]) -> Result<ReelRead, Refused> {
     read(aukpocket::read_reel(reel, out))
@@ -53,6 +55,26 @@ pub fn write_nearest(record: &[u8], code: u32, out: &mut [u8]) -> Result<Nearest
         samples,
         length: length as u64,
         changed,
+    })
+}
+
+/// Comparing two records.
+pub fn compare(first: &[u8], second: &[u8]) -> Result<Ordering, RefusedOf> {
+    aukpocket::compare(first, second).map_err(|refusal| {
+        let aukpocket::RecordRefusal {
+            which,
+            number,
+            beside,
+        } = refusal;
+        let which = match which {
+            Which::First => 1,
+            Which::Second => 2,
+        };
+        RefusedOf {
+            which,
+            number,
+            beside,
+        }
     })
 }
 

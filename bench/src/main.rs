@@ -1,12 +1,13 @@
 //! Measures the library's reading and writing of whole reels, exactly and to the nearest, beside other ways
 //! to do the same; all its calls that put or judge cards, on a small reel; its reading of Eagle reels beside
-//! that of plain ones; and long traces beside short ones.
+//! that of plain ones; long traces beside short ones; and its comparing of two records.
 
 mod cards;
 mod eagle;
 mod library;
 mod long;
 mod nearest;
+mod order;
 mod passes;
 mod reels;
 mod same;
@@ -32,6 +33,7 @@ const USAGE: &str = "usage: bench [--mb SIZE] [--runs COUNT] [--codes 1,2,3,...]
        bench cards [--runs COUNT]
        bench eagle [--mb SIZE] [--runs COUNT]
        bench long [--mb SIZE] [--runs COUNT] [--codes 1,2,3,...]
+       bench order [--mb SIZE] [--runs COUNT]
        bench versions OLD OLD NEW NEW [--mb SIZE] [--runs COUNT] [--codes 1,2,3,...] [--samples N]
        bench versions OLD OLD NEW NEW --small [--runs COUNT]
        bench one read|eagle|write|nearest CODE [--not-normal] [--kind fit|half|rounded|beyond]
@@ -167,6 +169,7 @@ fn main() {
         ["cards"] => cards::compare(&options),
         ["eagle"] => eagle::compare(&options),
         ["long"] => long::compare(&options),
+        ["order"] => order::compare(&options),
         ["versions", old, old_again, new, new_again] => {
             let paths = [old, old_again, new, new_again];
             if options.small {

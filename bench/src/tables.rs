@@ -3,6 +3,7 @@
 use crate::cards::{self, CALLS, PLACES};
 use crate::eagle::{self, Seconds};
 use crate::nearest::Rounding;
+use crate::order::{self, SECONDS};
 use crate::reels::{Kind, KINDS, ZEROS};
 use crate::versions::{Compared, ComparedSmall};
 use crate::{long, reels, Who, ALL, SAMPLES_IN_GROWTH};
@@ -198,6 +199,57 @@ pub fn long(rows: &[long::Row], megabytes: usize, runs: usize) {
             );
         }
     }
+}
+
+/// Comparing two records: large ones by their N, and a small one.
+pub fn order(large: &[order::Row], runs: usize, small: &order::Row, small_runs: usize) {
+    println!("\nComparing two records beside memcmp of two that are equal, and beside judging the first alone: nearest writing of it into no room. Best of {runs} runs, of the small record best of {small_runs} runs of {CALLS} calls in a row; all calls in turn in each run, each run beginning with another.");
+    println!("\nMs a call, and times over one another:\n");
+    println!("| N | each record | call | order | ms | over memcmp | over judging |");
+    println!("|---|---|---|---|---|---|---|");
+    for row in large {
+        let megabytes = row.bytes as f64 / 1e6;
+        for (call, order, seconds) in order_calls(row) {
+            println!(
+                "| {} | {megabytes:.0} MB | {call} | {order} | {:.1} | {} |",
+                row.samples,
+                seconds * 1e3,
+                order_ratios(row, seconds)
+            );
+        }
+    }
+    println!(
+        "\nRecords of 1 trace of {} samples, ns a call, and times over one another:\n",
+        small.samples
+    );
+    println!("| call | order | ns | over memcmp | over judging |");
+    println!("|---|---|---|---|---|");
+    for (call, order, seconds) in order_calls(small) {
+        println!(
+            "| {call} | {order} | {:.0} | {} |",
+            seconds * 1e9,
+            order_ratios(small, seconds)
+        );
+    }
+}
+
+/// The calls of a row by their names, with the order that is found and the seconds.
+fn order_calls(row: &order::Row) -> Vec<(&'static str, String, f64)> {
+    let mut calls = vec![
+        ("memcmp", "-".into(), row.memcmp),
+        ("judging", "-".into(), row.judging),
+    ];
+    calls.extend(row.comparing.iter().map(|&(kind, seconds)| {
+        let (_, name, order) = SECONDS[kind as usize];
+        (name, (order as i32).to_string(), seconds)
+    }));
+    calls
+}
+
+/// Seconds over those of memcmp and of judging.
+fn order_ratios(row: &order::Row, seconds: f64) -> String {
+    let [memcmp, judging] = [row.memcmp, row.judging].map(|yardstick| seconds / yardstick);
+    format!("{memcmp:.2} | {judging:.2}")
 }
 
 fn small_reel() -> String {

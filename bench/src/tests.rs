@@ -2,6 +2,7 @@
 //! refusals and every byte of the output too; and so does the library.
 
 mod long;
+mod order;
 
 use crate::cards::{self, LOOPS};
 use crate::eagle::{self, Reading};
