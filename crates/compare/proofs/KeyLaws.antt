@@ -22,7 +22,7 @@ use Rattle.exact.specs.Order.{orElse, lexZ}
 use Rattle.exact.specs.declared.Order.{Order}
 use Rattle.exact.specs.declared.Order.the-variants.{Less, Same, More}
 use Rattle.compare.specs.Key.{cardKey, binaryKey, headerKey, traceKey, tracesKey, keyOf}
-use Rattle.compare.specs.Parts.{isDecided, byteAt, byteRow, longAt, shortAt, lowRows, highRows, behindTraces, keyFrom}
+use Rattle.compare.specs.Parts.{isDecided, numberAt, rowOf, lowRows, highRows, behindTraces, keyFrom}
 use Rattle.compare.proofs.LexLaws.{lex-append, lex-is, decided, undecided}
 
 -- ## One part after the other
@@ -42,18 +42,22 @@ pub three-parts : (x₁ x₂ x₃ y₁ y₂ y₃ : List ℤ) → length x₁ ≡
     → lexZ (x₁ ++ (x₂ ++ x₃)) (y₁ ++ (y₂ ++ y₃)) ≡ orElse (lexZ x₁ y₁) (orElse (lexZ x₂ y₂) (lexZ x₃ y₃))
 three-parts x₁ x₂ x₃ y₁ y₂ y₃ e f = lex-append x₁ y₁ (x₂ ++ x₃) (y₂ ++ y₃) e ∙ ap (orElse (lexZ x₁ y₁)) (lex-append x₂ y₂ x₃ y₃ f)
 
-same-size : (f g : ℕ → ℤ) (w v k p q : ℕ) → length (walk f w k p) ≡ length (walk g v k q)
-same-size f g w v k p q = size-walk f w k p ∙ sym (size-walk g v k q)
+row-size : (s : List ℕ) (w k p : ℕ) → length (rowOf s w k p) ≡ k
+unfolding rowOf
+row-size s w k p = size-walk (numberAt s w) w k p
+
+same-row : (a b : List ℕ) (w k p q : ℕ) → length (rowOf a w k p) ≡ length (rowOf b w k q)
+same-row a b w k p q = row-size a w k p ∙ sym (row-size b w k q)
 
 -- ## Rows
 
 -- k fields of w bytes are a walk
-numberAt : List ℕ → ℕ → ℕ → ℤ
-numberAt s w x = signedOf (8 * w) (number (bytesAt s x w))
+signedAt : List ℕ → ℕ → ℕ → ℤ
+signedAt s w x = signedOf (8 * w) (number (bytesAt s x w))
 
 fields-row : (s : List ℕ) (start w k b : ℕ) (ws : List ℕ) → 1 ≤ b
-    → map (fieldNumber s start) (fieldsFrom b (replicate k w ++ ws)) ≡ walk (numberAt s w) w k (start + (b - 1)) ++ map (fieldNumber s start) (fieldsFrom (b + k * w) ws)
-unfolding numberAt
+    → map (fieldNumber s start) (fieldsFrom b (replicate k w ++ ws)) ≡ walk (signedAt s w) w k (start + (b - 1)) ++ map (fieldNumber s start) (fieldsFrom (b + k * w) ws)
+unfolding signedAt
 fields-row s start w zero b ws h =
     let e : b ≡ b + 0 * w = rw (zero-mul w) (omega arith) in
     ap (λ (x : ℕ). map (fieldNumber s start) (fieldsFrom x ws)) e
@@ -61,42 +65,39 @@ fields-row s start w (suc k) b ws h =
     let p : start + (b + w - 1) ≡ start + (b - 1) + w = omega arith in
     let e : b + w + k * w ≡ b + suc k * w = rw (suc-mul k w) (omega arith) in
     ap (λ (l : List ℤ). fieldNumber s start (record { begins = b; width = w }) ∷ l)
-    (fields-row s start w k (b + w) ws (omega arith) ∙ ap₂ (λ (x y : ℕ). walk (numberAt s w) w k x ++ map (fieldNumber s start) (fieldsFrom y ws)) p e)
+    (fields-row s start w k (b + w) ws (omega arith) ∙ ap₂ (λ (x y : ℕ). walk (signedAt s w) w k x ++ map (fieldNumber s start) (fieldsFrom y ws)) p e)
 
 pub header-rows : (s : List ℕ) (p : ℕ) → headerKey s p ≡ lowRows s p ++ highRows s p
-unfolding headerKey lowRows highRows traceFields traceWidths numberAt
+unfolding headerKey lowRows highRows rowOf traceFields traceWidths signedAt
 header-rows s p =
-    let l = longAt s in
-    let h = shortAt s in
     let z : p + 0 ≡ p = omega arith in
     let f : List ℕ → ℕ → List ℤ = λ ws b. map (fieldNumber s p) (fieldsFrom b ws) in
-    let r₆ : f (replicate 46 2) 89 ≡ walk h 2 46 (p + 88) = ap (λ (ws : List ℕ). f ws 89) (sym (append-nil (replicate 46 2))) ∙ fields-row s p 2 46 89 [] (omega arith) ∙ append-nil (walk h 2 46 (p + 88)) in
-    let r₅ : f (replicate 4 4 ++ replicate 46 2) 73 ≡ walk l 4 4 (p + 72) ++ walk h 2 46 (p + 88) = fields-row s p 4 4 73 (replicate 46 2) (omega arith) ∙ ap (λ (x : List ℤ). walk l 4 4 (p + 72) ++ x) r₆ in
-    let r₄ : f (replicate 2 2 ++ (replicate 4 4 ++ replicate 46 2)) 69 ≡ walk h 2 2 (p + 68) ++ (walk l 4 4 (p + 72) ++ walk h 2 46 (p + 88)) = fields-row s p 2 2 69 (replicate 4 4 ++ replicate 46 2) (omega arith) ∙ ap (λ (x : List ℤ). walk h 2 2 (p + 68) ++ x) r₅ in
-    let high = walk h 2 2 (p + 68) ++ (walk l 4 4 (p + 72) ++ walk h 2 46 (p + 88)) in
+    let r₆ : f (replicate 46 2) 89 ≡ rowOf s 2 46 (p + 88) = ap (λ (ws : List ℕ). f ws 89) (sym (append-nil (replicate 46 2))) ∙ fields-row s p 2 46 89 [] (omega arith) ∙ append-nil (rowOf s 2 46 (p + 88)) in
+    let r₅ : f (replicate 4 4 ++ replicate 46 2) 73 ≡ rowOf s 4 4 (p + 72) ++ rowOf s 2 46 (p + 88) = fields-row s p 4 4 73 (replicate 46 2) (omega arith) ∙ ap (λ (x : List ℤ). rowOf s 4 4 (p + 72) ++ x) r₆ in
+    let r₄ : f (replicate 2 2 ++ (replicate 4 4 ++ replicate 46 2)) 69 ≡ rowOf s 2 2 (p + 68) ++ (rowOf s 4 4 (p + 72) ++ rowOf s 2 46 (p + 88)) = fields-row s p 2 2 69 (replicate 4 4 ++ replicate 46 2) (omega arith) ∙ ap (λ (x : List ℤ). rowOf s 2 2 (p + 68) ++ x) r₅ in
+    let high = rowOf s 2 2 (p + 68) ++ (rowOf s 4 4 (p + 72) ++ rowOf s 2 46 (p + 88)) in
     let w₄ : List ℕ = replicate 2 2 ++ (replicate 4 4 ++ replicate 46 2) in
-    let r₃ : f (replicate 8 4 ++ w₄) 37 ≡ walk l 4 8 (p + 36) ++ high = fields-row s p 4 8 37 w₄ (omega arith) ∙ ap (λ (x : List ℤ). walk l 4 8 (p + 36) ++ x) r₄ in
-    let r₂ : f (replicate 4 2 ++ (replicate 8 4 ++ w₄)) 29 ≡ walk h 2 4 (p + 28) ++ (walk l 4 8 (p + 36) ++ high) = fields-row s p 2 4 29 (replicate 8 4 ++ w₄) (omega arith) ∙ ap (λ (x : List ℤ). walk h 2 4 (p + 28) ++ x) r₃ in
-    let r₁ : f (replicate 7 4 ++ (replicate 4 2 ++ (replicate 8 4 ++ w₄))) 1 ≡ walk l 4 7 p ++ (walk h 2 4 (p + 28) ++ (walk l 4 8 (p + 36) ++ high)) =
-    fields-row s p 4 7 1 (replicate 4 2 ++ (replicate 8 4 ++ w₄)) (omega arith) ∙ ap₂ (λ (x : ℕ) (y : List ℤ). walk l 4 7 x ++ y) z r₂ in
-    r₁ ∙ sym (append-assoc (walk l 4 7 p) (walk h 2 4 (p + 28) ++ walk l 4 8 (p + 36)) high ∙ ap (λ (x : List ℤ). walk l 4 7 p ++ x) (append-assoc (walk h 2 4 (p + 28)) (walk l 4 8 (p + 36)) high))
+    let r₃ : f (replicate 8 4 ++ w₄) 37 ≡ rowOf s 4 8 (p + 36) ++ high = fields-row s p 4 8 37 w₄ (omega arith) ∙ ap (λ (x : List ℤ). rowOf s 4 8 (p + 36) ++ x) r₄ in
+    let r₂ : f (replicate 4 2 ++ (replicate 8 4 ++ w₄)) 29 ≡ rowOf s 2 4 (p + 28) ++ (rowOf s 4 8 (p + 36) ++ high) = fields-row s p 2 4 29 (replicate 8 4 ++ w₄) (omega arith) ∙ ap (λ (x : List ℤ). rowOf s 2 4 (p + 28) ++ x) r₃ in
+    let r₁ : f (replicate 7 4 ++ (replicate 4 2 ++ (replicate 8 4 ++ w₄))) 1 ≡ rowOf s 4 7 p ++ (rowOf s 2 4 (p + 28) ++ (rowOf s 4 8 (p + 36) ++ high)) =
+    fields-row s p 4 7 1 (replicate 4 2 ++ (replicate 8 4 ++ w₄)) (omega arith) ∙ ap₂ (λ (x : ℕ) (y : List ℤ). rowOf s 4 7 x ++ y) z r₂ in
+    r₁ ∙ sym (append-assoc (rowOf s 4 7 p) (rowOf s 2 4 (p + 28) ++ rowOf s 4 8 (p + 36)) high ∙ ap (λ (x : List ℤ). rowOf s 4 7 p ++ x) (append-assoc (rowOf s 2 4 (p + 28)) (rowOf s 4 8 (p + 36)) high))
 
-pub binary-rows : (s : List ℕ) → binaryKey s ≡ walk (longAt s) 4 3 3206 ++ walk (shortAt s) 2 24 3218
-unfolding binaryKey binaryFields binaryWidths numberAt
+pub binary-rows : (s : List ℕ) → binaryKey s ≡ rowOf s 4 3 3206 ++ rowOf s 2 24 3218
+unfolding binaryKey rowOf binaryFields binaryWidths signedAt
 binary-rows s =
-    let h = shortAt s in
     let f : List ℕ → ℕ → List ℤ = λ ws b. map (fieldNumber s 6) (fieldsFrom b ws) in
-    let r₂ : f (replicate 24 2) 3213 ≡ walk h 2 24 3218 = ap (λ (ws : List ℕ). f ws 3213) (sym (append-nil (replicate 24 2))) ∙ fields-row s 6 2 24 3213 [] (omega arith) ∙ append-nil (walk h 2 24 3218) in
-    fields-row s 6 4 3 3201 (replicate 24 2) (omega arith) ∙ ap (λ (x : List ℤ). walk (longAt s) 4 3 3206 ++ x) r₂
+    let r₂ : f (replicate 24 2) 3213 ≡ rowOf s 2 24 3218 = ap (λ (ws : List ℕ). f ws 3213) (sym (append-nil (replicate 24 2))) ∙ fields-row s 6 2 24 3213 [] (omega arith) ∙ append-nil (rowOf s 2 24 3218) in
+    fields-row s 6 4 3 3201 (replicate 24 2) (omega arith) ∙ ap (λ (x : List ℤ). rowOf s 4 3 3206 ++ x) r₂
 
 -- ## Lengths
 
 low-size : (s : List ℕ) (p : ℕ) → length (lowRows s p) ≡ 19
-unfolding lowRows
+unfolding lowRows rowOf
 low-size s p = refl
 
 high-size : (s : List ℕ) (p : ℕ) → length (highRows s p) ≡ 52
-unfolding highRows
+unfolding highRows rowOf
 high-size s p = refl
 
 pub header-size : (s : List ℕ) (p : ℕ) → length (headerKey s p) ≡ 71
@@ -113,34 +114,31 @@ trace-size s n at =
     length-append (headerKey s (at + 3)) (heldValuesIn tag04 s n (at + 183)) ∙ ap₂ (λ (x y : ℕ). x + y) (header-size s (at + 3)) (values-size s n (at + 183))
 
 pub binary-size : (s : List ℕ) → length (binaryKey s) ≡ 27
+unfolding rowOf
 binary-size s = ap length (binary-rows s)
 
 -- card bytes are a row
-pub card-row : (s : List ℕ) → cardKey s ≡ byteRow s 3200 3
-unfolding cardKey byteRow bytesAt
+pub card-row : (s : List ℕ) → cardKey s ≡ rowOf s 1 3200 3
+unfolding cardKey rowOf bytesAt
 card-row s = map-walk pos (λ a. getD s a 0) 1 3200 3
 
-byte-size : (s : List ℕ) (n p : ℕ) → length (byteRow s n p) ≡ n
-unfolding byteRow
-byte-size s n p = size-walk (byteAt s) 1 n p
-
 pub card-size : (s : List ℕ) → length (cardKey s) ≡ 3200
-card-size s = ap length (card-row s) ∙ byte-size s 3200 3
+card-size s = ap length (card-row s) ∙ row-size s 1 3200 3
 
 -- ## The parts that the code compares
 
 module _ (a b : List ℕ) (p q : ℕ) where
   pub low-parts : lexZ (lowRows a p) (lowRows b q)
-      ≡ orElse (lexZ (walk (longAt a) 4 7 p) (walk (longAt b) 4 7 q)) (orElse (lexZ (walk (shortAt a) 2 4 (p + 28)) (walk (shortAt b) 2 4 (q + 28))) (lexZ (walk (longAt a) 4 8 (p + 36)) (walk (longAt b) 4 8 (q + 36))))
+      ≡ orElse (lexZ (rowOf a 4 7 p) (rowOf b 4 7 q)) (orElse (lexZ (rowOf a 2 4 (p + 28)) (rowOf b 2 4 (q + 28))) (lexZ (rowOf a 4 8 (p + 36)) (rowOf b 4 8 (q + 36))))
   unfolding lowRows
   low-parts =
-      three-parts (walk (longAt a) 4 7 p) (walk (shortAt a) 2 4 (p + 28)) (walk (longAt a) 4 8 (p + 36)) (walk (longAt b) 4 7 q) (walk (shortAt b) 2 4 (q + 28)) (walk (longAt b) 4 8 (q + 36)) (same-size (longAt a) (longAt b) 4 4 7 p q) (same-size (shortAt a) (shortAt b) 2 2 4 (p + 28) (q + 28))
+      three-parts (rowOf a 4 7 p) (rowOf a 2 4 (p + 28)) (rowOf a 4 8 (p + 36)) (rowOf b 4 7 q) (rowOf b 2 4 (q + 28)) (rowOf b 4 8 (q + 36)) (same-row a b 4 7 p q) (same-row a b 2 4 (p + 28) (q + 28))
 
   pub high-parts : lexZ (highRows a p) (highRows b q)
-      ≡ orElse (lexZ (walk (shortAt a) 2 2 (p + 68)) (walk (shortAt b) 2 2 (q + 68))) (orElse (lexZ (walk (longAt a) 4 4 (p + 72)) (walk (longAt b) 4 4 (q + 72))) (lexZ (walk (shortAt a) 2 46 (p + 88)) (walk (shortAt b) 2 46 (q + 88))))
+      ≡ orElse (lexZ (rowOf a 2 2 (p + 68)) (rowOf b 2 2 (q + 68))) (orElse (lexZ (rowOf a 4 4 (p + 72)) (rowOf b 4 4 (q + 72))) (lexZ (rowOf a 2 46 (p + 88)) (rowOf b 2 46 (q + 88))))
   unfolding highRows
   high-parts =
-      three-parts (walk (shortAt a) 2 2 (p + 68)) (walk (longAt a) 4 4 (p + 72)) (walk (shortAt a) 2 46 (p + 88)) (walk (shortAt b) 2 2 (q + 68)) (walk (longAt b) 4 4 (q + 72)) (walk (shortAt b) 2 46 (q + 88)) (same-size (shortAt a) (shortAt b) 2 2 2 (p + 68) (q + 68)) (same-size (longAt a) (longAt b) 4 4 4 (p + 72) (q + 72))
+      three-parts (rowOf a 2 2 (p + 68)) (rowOf a 4 4 (p + 72)) (rowOf a 2 46 (p + 88)) (rowOf b 2 2 (q + 68)) (rowOf b 4 4 (q + 72)) (rowOf b 2 46 (q + 88)) (same-row a b 2 2 (p + 68) (q + 68)) (same-row a b 4 4 (p + 72) (q + 72))
 
   pub header-parts : lexZ (headerKey a p) (headerKey b q) ≡ orElse (lexZ (lowRows a p) (lowRows b q)) (lexZ (highRows a p) (highRows b q))
   header-parts = ap₂ lexZ (header-rows a p) (header-rows b q) ∙ two-parts (lowRows a p) (highRows a p) (lowRows b q) (highRows b q) (low-size a p ∙ sym (low-size b q))
@@ -223,8 +221,8 @@ behind-walk s n (suc k) t =
 
 -- ## Records
 
-pub binary-parts : (a b : List ℕ) → lexZ (binaryKey a) (binaryKey b) ≡ orElse (lexZ (walk (longAt a) 4 3 3206) (walk (longAt b) 4 3 3206)) (lexZ (walk (shortAt a) 2 24 3218) (walk (shortAt b) 2 24 3218))
-binary-parts a b = ap₂ lexZ (binary-rows a) (binary-rows b) ∙ two-parts (walk (longAt a) 4 3 3206) (walk (shortAt a) 2 24 3218) (walk (longAt b) 4 3 3206) (walk (shortAt b) 2 24 3218) (same-size (longAt a) (longAt b) 4 4 3 3206 3206)
+pub binary-parts : (a b : List ℕ) → lexZ (binaryKey a) (binaryKey b) ≡ orElse (lexZ (rowOf a 4 3 3206) (rowOf b 4 3 3206)) (lexZ (rowOf a 2 24 3218) (rowOf b 2 24 3218))
+binary-parts a b = ap₂ lexZ (binary-rows a) (binary-rows b) ∙ two-parts (rowOf a 4 3 3206) (rowOf a 2 24 3218) (rowOf b 4 3 3206) (rowOf b 2 24 3218) (same-row a b 4 3 3206 3206)
 
 pub record-parts : (a b : List ℕ) (x y : List ℤ)
     → lexZ (cardKey a ++ (binaryKey a ++ x)) (cardKey b ++ (binaryKey b ++ y)) ≡ orElse (lexZ (cardKey a) (cardKey b)) (orElse (lexZ (binaryKey a) (binaryKey b)) (lexZ x y))
@@ -242,8 +240,9 @@ low-signed : (n : ℕ) → n ≤ 2 ^ 15 - 1 → natAbs (signedOf 16 n) ≡ n
 low-signed n h = rw (lt-ltb n (2 ^ 15) (omega arith))
 
 pub same-samples : (a b : List ℕ) → heldSamples a ≤ 2 ^ 15 - 1 → heldSamples b ≤ 2 ^ 15 - 1 → lexZ (binaryKey a) (binaryKey b) ≡ Same → heldSamples a ≡ heldSamples b
+unfolding rowOf
 same-samples a b h k e =
     let r = sym (binary-rows a) ∙ lex-is (binaryKey a) (binaryKey b) e ∙ binary-rows b in
-    let w = split (walk (longAt a) 4 3 3206) (walk (longAt b) 4 3 3206) (walk (shortAt a) 2 24 3218) (walk (shortAt b) 2 24 3218) (same-size (longAt a) (longAt b) 4 4 3 3206 3206) r .1 in
-    let n : shortAt a 3226 ≡ shortAt b 3226 = walk-each (shortAt a) (shortAt b) 2 2 24 24 3218 3218 w 4 (omega arith) in
+    let w = split (rowOf a 4 3 3206) (rowOf b 4 3 3206) (rowOf a 2 24 3218) (rowOf b 2 24 3218) (same-row a b 4 3 3206 3206) r .1 in
+    let n : numberAt a 2 3226 ≡ numberAt b 2 3226 = walk-each (numberAt a 2) (numberAt b 2) 2 2 24 24 3218 3218 w 4 (omega arith) in
     sym (low-signed (heldSamples a) h) ∙ ap natAbs n ∙ low-signed (heldSamples b) k

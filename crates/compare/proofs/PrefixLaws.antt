@@ -28,7 +28,7 @@ use Rattle.record.specs.Form.{fieldCause, cardCause, cardsCauses, numberCauses,
 use Rattle.record.specs.Held.{heldValue, heldValuesIn}
 use Rattle.record.proofs.FormLaws.{share-some}
 use Rattle.compare.specs.Key.{cardKey, binaryKey, headerKey, traceKey}
-use Rattle.compare.specs.Parts.{Alike, longAt, shortAt, lowRows, highRows}
+use Rattle.compare.specs.Parts.{Alike, numberAt, rowOf, lowRows, highRows}
 use Rattle.compare.proofs.KeyLaws.{header-rows, binary-rows}
 
 -- 13 of a header's scalars, by its numbers
@@ -71,11 +71,13 @@ module _ (a b : List ℕ) (e : ℕ) (ea : e ≤ length a) (eb : e ≤ length b) 
 
   -- ## Numbers in a row
 
-  long-like : (k p : ℕ) → p + k * 4 ≤ e → walk (longAt a) 4 k p ≡ walk (longAt b) 4 k p
-  long-like k p h = walk-same (longAt a) (longAt b) 4 4 k p p (λ j l. ap (λ (x : List ℕ). signedOf 32 (number x)) (bytes-like (p + j * 4) 4 (omega arith)))
+  long-like : (k p : ℕ) → p + k * 4 ≤ e → rowOf a 4 k p ≡ rowOf b 4 k p
+  unfolding rowOf
+  long-like k p h = walk-same (numberAt a 4) (numberAt b 4) 4 4 k p p (λ j l. ap (λ (x : List ℕ). signedOf 32 (number x)) (bytes-like (p + j * 4) 4 (omega arith)))
 
-  short-like : (k p : ℕ) → p + k * 2 ≤ e → walk (shortAt a) 2 k p ≡ walk (shortAt b) 2 k p
-  short-like k p h = walk-same (shortAt a) (shortAt b) 2 2 k p p (λ j l. ap (λ (x : List ℕ). signedOf 16 (number x)) (bytes-like (p + j * 2) 2 (omega arith)))
+  short-like : (k p : ℕ) → p + k * 2 ≤ e → rowOf a 2 k p ≡ rowOf b 2 k p
+  unfolding rowOf
+  short-like k p h = walk-same (numberAt a 2) (numberAt b 2) 2 2 k p p (λ j l. ap (λ (x : List ℕ). signedOf 16 (number x)) (bytes-like (p + j * 2) 2 (omega arith)))
 
   low-like : (p : ℕ) → p + 180 ≤ e → lowRows a p ≡ lowRows b p
   unfolding lowRows

@@ -6,7 +6,7 @@ use Prim.Native.Nat.{ℕ, zero, suc, _+_, _-_, _%_, _≤_, _<_, min}
 use lib.Dec.{eqb, leb, ltb}
 use lib.IntN.{ℤ, pos}
 use lib.ListN.{length, getD, take, drop}
-use Rattle.numbers.specs.Walk.{walk, bytesAt}
+use Rattle.numbers.specs.Walk.{pick, walk, bytesAt}
 use Rattle.numbers.specs.BigEndian.{number}
 use Rattle.numbers.specs.TwosComplement.{signedOf}
 use Rattle.numbers.specs.declared.Check.{Check}
@@ -45,26 +45,25 @@ isFine (Refused number place) = false
 
 -- ## Numbers in a row
 
--- The byte at a place; the signed number in four bytes, and in two.
+-- The byte at a place.
 abbrev pub byteAt : List ℕ → ℕ → ℤ
 byteAt s at = pos (getD s at 0)
 
-abbrev pub longAt : List ℕ → ℕ → ℤ
-longAt s at = signedOf 32 (number (bytesAt s at 4))
+-- The number at a place in a row of that width: of four bytes and of two with its sign, of one, a card byte, without.
+abbrev pub numberAt : List ℕ → ℕ → ℕ → ℤ
+numberAt s w at =
+    pick (eqb w 4) (signedOf 32 (number (bytesAt s at 4))) (pick (eqb w 2) (signedOf 16 (number (bytesAt s at 2))) (byteAt s at))
 
-abbrev pub shortAt : List ℕ → ℕ → ℤ
-shortAt s at = signedOf 16 (number (bytesAt s at 2))
-
--- n bytes from a place on.
-unfoldable pub byteRow : List ℕ → ℕ → ℕ → List ℤ
-byteRow s n at = walk (byteAt s) 1 n at
+-- n of them.
+unfoldable pub rowOf : List ℕ → ℕ → ℕ → ℕ → List ℤ
+rowOf s w n at = walk (numberAt s w) w n at
 
 -- The numbers of a trace header before field 69, and those from there on, in rows of one width.
 unfoldable pub lowRows : List ℕ → ℕ → List ℤ
-lowRows s p = walk (longAt s) 4 7 p ++ (walk (shortAt s) 2 4 (p + 28) ++ walk (longAt s) 4 8 (p + 36))
+lowRows s p = rowOf s 4 7 p ++ (rowOf s 2 4 (p + 28) ++ rowOf s 4 8 (p + 36))
 
 unfoldable pub highRows : List ℕ → ℕ → List ℤ
-highRows s p = walk (shortAt s) 2 2 (p + 68) ++ (walk (longAt s) 4 4 (p + 72) ++ walk (shortAt s) 2 46 (p + 88))
+highRows s p = rowOf s 2 2 (p + 68) ++ (rowOf s 4 4 (p + 72) ++ rowOf s 2 46 (p + 88))
 
 -- ## Traces, one after the other
 

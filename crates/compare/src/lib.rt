@@ -4,7 +4,6 @@ ghost use mathlib.Core.Path.{_≡_};
 ghost use mathlib.Core.Bool.{_&&_};
 ghost use Prim.Native.Nat.{_+_, _-_, _*_, _^_, _≤_, _<_, min};
 ghost use mathlib.Core.List.{_++_};
-ghost use lib.IntN.{pos};
 ghost use lib.ListN.{length};
 ghost use Rattle.numbers.specs.Walk.{walk, bytesAt};
 ghost use Rattle.numbers.specs.Cause.{then};
@@ -21,7 +20,7 @@ ghost use Rattle.exact.specs.Value.{valueBy};
 ghost use Rattle.exact.specs.Order.{orderZ, orElse, lexZ};
 ghost use Rattle.compare.specs.Key.{cardKey, binaryKey, headerKey, traceKey, orderOf};
 ghost use Rattle.compare.specs.Answer.{compareSaid, secondFound, firstFound, compareOutcome};
-ghost use Rattle.compare.specs.Parts.{Alike, isDecided, sameBytes, byteRow, longAt, shortAt, lowRows, highRows, behindTraces, keyFrom, isShared, Shared, runOf};
+ghost use Rattle.compare.specs.Parts.{Alike, isDecided, sameBytes, byteAt, numberAt, rowOf, lowRows, highRows, behindTraces, keyFrom, isShared, Shared, runOf};
 use exact::Exact;
 use exact::Order;
 use numbers::ByteNo;
@@ -63,18 +62,6 @@ fn same_bytes(a: &[u8], b: &[u8]) -> bool
 // ## Numbers
 
 // Which of two numbers is the lesser.
-fn compare_bytes(x: u8, y: u8) -> Order
-    ensures { λ r. ⌜ r ≡ orderZ (pos x) (pos y) ⌝ }
-{
-    if x < y {
-        return Order::Less;
-    }
-    if y < x {
-        return Order::More;
-    }
-    Order::Same
-}
-
 fn compare_numbers(x: i32, y: i32) -> Order
     ensures { λ r. ⌜ r ≡ orderZ x y ⌝ }
 {
@@ -109,76 +96,47 @@ fn exact_at(s: &[u8], at: usize) -> Exact
 
 // ## Rows
 
-// n bytes from a place on, of each record.
-fn compare_cards(a: &[u8], p: usize, b: &[u8], q: usize, n: usize) -> Order
-    requires { ⌜ (p + n ≤ length (now a)) × (q + n ≤ length (now b)) ⌝ }
-    ensures { λ r. ⌜ r ≡ lexZ (byteRow (now (a .entry)) n p) (byteRow (now (b .entry)) n q) ⌝ }
+// The byte at a place, 0 where there is none.
+fn byte_at(s: &[u8], at: usize) -> i32
+    ensures { λ r. ⌜ r ≡ byteAt (now (s .entry)) at ⌝ }
+{
+    if s.len() <= at {
+        return 0;
+    }
+    s[at] as i32
+}
+
+// The number of a row of that width: of four bytes and of two with its sign, of one without.
+fn number_at(s: &[u8], w: usize, at: usize) -> i32
+    ensures { λ r. ⌜ r ≡ numberAt (now (s .entry)) w at ⌝ }
+{
+    if w == 4 {
+        return numbers::signed32(slices::number32_at(s, Place(at)));
+    }
+    if w == 2 {
+        return numbers::signed16(slices::number16_at(s, Place(at))) as i32;
+    }
+    byte_at(s, at)
+}
+
+// n numbers of w bytes from a place on, of each record.
+fn compare_row(a: &[u8], p: usize, b: &[u8], q: usize, w: usize, n: usize) -> Order
+    requires { ⌜ (p + n * w ≤ length (now a)) × (q + n * w ≤ length (now b)) ⌝ }
+    ensures { λ r. ⌜ r ≡ lexZ (rowOf (now (a .entry)) w n p) (rowOf (now (b .entry)) w n q) ⌝ }
 {
     let mut i = p;
     let mut j = q;
     let mut left = n;
     while 0 < left {
-        let c = compare_bytes(a[i], b[j]);
+        let c = compare_numbers(number_at(a, w, i), number_at(b, w, j));
         if decides(c) {
             return c;
         }
-        i += 1;
-        j += 1;
+        i += w;
+        j += w;
         left -= 1;
     }
     Order::Same
-}
-
-// n numbers of four bytes, and of two.
-fn compare_longs(a: &[u8], p: usize, b: &[u8], q: usize, n: usize) -> Order
-    requires { ⌜ (p + n * 4 ≤ length (now a)) × (q + n * 4 ≤ length (now b)) ⌝ }
-    ensures { λ r. ⌜ r ≡ lexZ (walk (longAt (now (a .entry))) 4 n p) (walk (longAt (now (b .entry))) 4 n q) ⌝ }
-{
-    let mut i = p;
-    let mut j = q;
-    let mut left = n;
-    while 0 < left {
-        let c = compare_numbers(long_at(a, i), long_at(b, j));
-        if decides(c) {
-            return c;
-        }
-        i += 4;
-        j += 4;
-        left -= 1;
-    }
-    Order::Same
-}
-
-fn compare_shorts(a: &[u8], p: usize, b: &[u8], q: usize, n: usize) -> Order
-    requires { ⌜ (p + n * 2 ≤ length (now a)) × (q + n * 2 ≤ length (now b)) ⌝ }
-    ensures { λ r. ⌜ r ≡ lexZ (walk (shortAt (now (a .entry))) 2 n p) (walk (shortAt (now (b .entry))) 2 n q) ⌝ }
-{
-    let mut i = p;
-    let mut j = q;
-    let mut left = n;
-    while 0 < left {
-        let c = compare_numbers(short_at(a, i), short_at(b, j));
-        if decides(c) {
-            return c;
-        }
-        i += 2;
-        j += 2;
-        left -= 1;
-    }
-    Order::Same
-}
-
-// The number of four bytes, and of two.
-fn long_at(s: &[u8], at: usize) -> i32
-    ensures { λ r. ⌜ r ≡ longAt (now (s .entry)) at ⌝ }
-{
-    numbers::signed32(slices::number32_at(s, Place(at)))
-}
-
-fn short_at(s: &[u8], at: usize) -> i32
-    ensures { λ r. ⌜ r ≡ shortAt (now (s .entry)) at ⌝ }
-{
-    numbers::signed16(slices::number16_at(s, Place(at))) as i32
 }
 
 // n samples that stand side by side in each record.
@@ -221,30 +179,30 @@ fn compare_low(a: &[u8], p: usize, b: &[u8], q: usize) -> Order
     requires { ⌜ (p + 180 ≤ length (now a)) × (q + 180 ≤ length (now b)) ⌝ }
     ensures { λ r. ⌜ r ≡ lexZ (lowRows (now (a .entry)) p) (lowRows (now (b .entry)) q) ⌝ }
 {
-    let c = compare_longs(a, p, b, q, 7);
+    let c = compare_row(a, p, b, q, 4, 7);
     if decides(c) {
         return c;
     }
-    let d = compare_shorts(a, p + 28, b, q + 28, 4);
+    let d = compare_row(a, p + 28, b, q + 28, 2, 4);
     if decides(d) {
         return d;
     }
-    compare_longs(a, p + 36, b, q + 36, 8)
+    compare_row(a, p + 36, b, q + 36, 4, 8)
 }
 
 fn compare_high(a: &[u8], p: usize, b: &[u8], q: usize) -> Order
     requires { ⌜ (p + 180 ≤ length (now a)) × (q + 180 ≤ length (now b)) ⌝ }
     ensures { λ r. ⌜ r ≡ lexZ (highRows (now (a .entry)) p) (highRows (now (b .entry)) q) ⌝ }
 {
-    let c = compare_shorts(a, p + 68, b, q + 68, 2);
+    let c = compare_row(a, p + 68, b, q + 68, 2, 2);
     if decides(c) {
         return c;
     }
-    let d = compare_longs(a, p + 72, b, q + 72, 4);
+    let d = compare_row(a, p + 72, b, q + 72, 4, 4);
     if decides(d) {
         return d;
     }
-    compare_shorts(a, p + 88, b, q + 88, 46)
+    compare_row(a, p + 88, b, q + 88, 2, 46)
 }
 
 // Two trace headers.
@@ -342,11 +300,11 @@ fn compare_binary(a: &[u8], b: &[u8]) -> Order
     requires { ⌜ (3266 ≤ length (now a)) × (3266 ≤ length (now b)) ⌝ }
     ensures { λ r. ⌜ r ≡ lexZ (binaryKey (now (a .entry))) (binaryKey (now (b .entry))) ⌝ }
 {
-    let c = compare_longs(a, 3206, b, 3206, 3);
+    let c = compare_row(a, 3206, b, 3206, 4, 3);
     if decides(c) {
         return c;
     }
-    compare_shorts(a, 3218, b, 3218, 24)
+    compare_row(a, 3218, b, 3218, 2, 24)
 }
 
 // Two valid records of s and t traces; n is the N of the first.
@@ -354,7 +312,7 @@ fn compare_valid(a: &[u8], s: usize, b: &[u8], t: usize, n: u16) -> Order
     requires { ⌜ (formCauses (now a) ≡ check.Fine) × (formCauses (now b) ≡ check.Fine) × (n ≡ heldSamples (now a)) × (s ≡ heldCount (now a) n) × (t ≡ heldCount (now b) (heldSamples (now b))) ⌝ }
     ensures { λ r. ⌜ r ≡ orderOf (now (a .entry)) (now (b .entry)) ⌝ }
 {
-    let c = compare_cards(a, 3, b, 3, 3200);
+    let c = compare_row(a, 3, b, 3, 1, 3200);
     if decides(c) {
         return c;
     }

@@ -3,7 +3,7 @@ use Rattle.compare.proofs.LexLaws.{undecided}
 use Rattle.compare.proofs.KeyLaws.{first-decides, then-second, card-row, key-is, record-parts, same-samples}
 use Rattle.compare.proofs.SharedLaws.{front-fine, all-room}
 use Rattle.compare.specs.Key.{cardKey, binaryKey, orderOf}
-use Rattle.compare.specs.Parts.{byteRow, behindTraces, keyFrom}
+use Rattle.compare.specs.Parts.{rowOf, behindTraces, keyFrom}
 use Rattle.record.proofs.FormLaws.{Headed, headed}
 use Rattle.record.specs.Form.{heldSamples, heldCount, tracesPlace}
 use Rattle.exact.specs.Order.{orElse, lexZ}
@@ -28,7 +28,7 @@ second c = headed (c .args .b .now) (front-fine (c .args .b .now) (c .pre .1))
 parts : (c : tie.Start)
     → let a = c .args in
     orderOf (a .a .now) (a .b .now)
-    ≡ orElse (lexZ (byteRow (a .a .now) 3200 3) (byteRow (a .b .now) 3200 3)) (orElse (lexZ (binaryKey (a .a .now)) (binaryKey (a .b .now))) (lexZ (keyFrom (a .a .now) (a .n) (a .s) tracesPlace) (keyFrom (a .b .now) (heldSamples (a .b .now)) (a .t) tracesPlace)))
+    ≡ orElse (lexZ (rowOf (a .a .now) 1 3200 3) (rowOf (a .b .now) 1 3200 3)) (orElse (lexZ (binaryKey (a .a .now)) (binaryKey (a .b .now))) (lexZ (keyFrom (a .a .now) (a .n) (a .s) tracesPlace) (keyFrom (a .b .now) (heldSamples (a .b .now)) (a .t) tracesPlace)))
 parts c =
     let a = c .args in
     let x = a .a .now in
@@ -42,14 +42,14 @@ parts c =
 returns : tie.Need-returns
 returns c =
     let g = c .before .before in
-    first-decides _ _ _ (g .compare-cards .ensures) (sym (c .before .decides .ensures) ∙ c .if1 .taken) ∙ sym (parts (g .before .before .before))
+    first-decides _ _ _ (g .compare-row .ensures) (sym (c .before .decides .ensures) ∙ c .if1 .taken) ∙ sym (parts (g .before .before .before))
 
 returns-2 : tie.Need-returns-2
 returns-2 c =
     let h = c .before .before in
     let e = h .before in
     let g = e .before .before in
-    then-second _ _ _ _ (g .compare-cards .ensures) (sym (e .before .decides .ensures) ∙ e .if1 .left) (first-decides _ _ _ (h .compare-binary .ensures) (sym (c .before .decides2 .ensures) ∙ c .if2 .taken))
+    then-second _ _ _ _ (g .compare-row .ensures) (sym (e .before .decides .ensures) ∙ e .if1 .left) (first-decides _ _ _ (h .compare-binary .ensures) (sym (c .before .decides2 .ensures) ∙ c .if2 .taken))
     ∙ sym (parts (g .before .before .before))
 
 -- both have the same N
@@ -80,7 +80,7 @@ returns-3 c =
     let g = e .before .before in
     let s = g .before .before .before in
     let a = s .args in
-    then-second _ _ _ _ (g .compare-cards .ensures) (sym (e .before .decides .ensures) ∙ e .if1 .left)
+    then-second _ _ _ _ (g .compare-row .ensures) (sym (e .before .decides .ensures) ∙ e .if1 .left)
     (then-second _ _ _ _ (h .compare-binary .ensures) (sym (f .before .decides2 .ensures) ∙ f .if2 .left)
     (c .compare-traces .ensures ∙ ap (λ (n : ℕ). lexZ (keyFrom (a .a .now) (a .n) (a .s) tracesPlace) (keyFrom (a .b .now) n (a .t) tracesPlace)) (sym (same f))))
     ∙ sym (parts s)
