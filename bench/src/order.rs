@@ -48,23 +48,23 @@ pub const SECONDS: [(Second, &str, Ordering); 5] = [
     ),
 ];
 
+/// The kinds that a record of every N has.
+const ONE_FORM: &[Second] = &[
+    Second::Equal,
+    Second::OtherSample,
+    Second::OtherHeader,
+    Second::OtherCard,
+];
+
 /// N of the large records, and what each is compared with.
 pub const LARGE: [(u16, &[Second]); 3] = [
-    (
-        2_000,
-        &[
-            Second::Equal,
-            Second::OtherSample,
-            Second::OtherHeader,
-            Second::OtherCard,
-        ],
-    ),
+    (2_000, ONE_FORM),
     (8_000, &[Second::Equal, Second::OtherForm]),
     (100, &[Second::Equal]),
 ];
 
 /// The same of the small record, which has one trace.
-pub const SMALL: (u16, &[Second]) = (cards::SAMPLES, LARGE[0].1);
+pub const SMALL: (u16, &[Second]) = (cards::SAMPLES, ONE_FORM);
 
 /// A record, and those that it is compared with.
 pub struct Held {
