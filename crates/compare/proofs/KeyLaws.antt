@@ -1,6 +1,6 @@
 -- The key of a record by rows of numbers of one width, and trace by trace. Assumes nothing.
-use mathlib.Core.Path.{_≡_, refl, sym, ap, ap₂, _∙_, subst}
-use mathlib.Core.Bool.{Bool, true, false}
+use mathlib.Core.Path.{_≡_, refl, sym, ap, ap₂, _∙_}
+use mathlib.Core.Bool.{true, false}
 use mathlib.Core.List.{List, [], _∷_, _++_, map, append-assoc, append-nil}
 use Prim.Native.Nat.{ℕ, zero, suc, _+_, _-_, _*_, _^_, _≤_, _<_}
 use native.Mathlib.Nat.{not-suc-le-zero, zero-mul, suc-mul, add-zero}
@@ -12,8 +12,8 @@ use Rattle.numbers.specs.Walk.{walk, flat, bytesAt}
 use Rattle.numbers.specs.BigEndian.{number}
 use Rattle.numbers.specs.TwosComplement.{signedOf}
 use Rattle.numbers.proofs.WalkLaws.{size-walk, map-walk, walk-each, split}
-use Rattle.fields.specs.Fields.{each, pairPlace}
-use Rattle.reel.specs.Layout.{Field, fieldsFrom, binaryWidths, binaryFields, traceWidths, traceFields, fieldNumber}
+use Rattle.fields.specs.Fields.{pairPlace}
+use Rattle.reel.specs.Layout.{fieldsFrom, binaryWidths, binaryFields, traceWidths, traceFields, fieldNumber}
 use Rattle.record.specs.Kind.{tag04}
 use Rattle.record.specs.Form.{heldSamples, heldCount, shareIn, behindTraceIn, tracePlaceIn, tracePlace, tracesPlace}
 use Rattle.record.specs.Held.{heldValue, heldValuesIn}

@@ -1,6 +1,6 @@
 -- Two lists that have their first e bytes in common, and what is found and held there. Assumes nothing.
 use mathlib.Core.Path.{_≡_, refl, sym, ap, ap₂, _∙_}
-use mathlib.Core.Bool.{Bool, true, not, _&&_}
+use mathlib.Core.Bool.{Bool, not, _&&_}
 use mathlib.Core.List.{List, _++_, map}
 use Prim.Native.Nat.{ℕ, _+_, _*_, _≤_, _<_, min}
 use native.Mathlib.Omega.{arith}
@@ -17,7 +17,7 @@ use Rattle.numbers.specs.declared.Check.{Check}
 use Rattle.numbers.proofs.WalkLaws.{walk-same, cons-eq}
 use Rattle.fields.specs.Fields.{each, pairPlace, fieldsLength, inFields}
 use Rattle.fields.proofs.FieldsLaws.{by-fields, length-more, fields-more, in-none, in-next, pairs-in-fields}
-use Rattle.reel.specs.Layout.{Field, number16, fieldNumber, traceFields, traceWidths, elevationScalar, coordinateScalar}
+use Rattle.reel.specs.Layout.{number16, traceFields, traceWidths}
 use Rattle.reel.specs.Meaning.{elevationFields, coordinateFields}
 use Rattle.scalars.specs.Scalar.{isSmallest}
 use Rattle.headers.specs.Header.{smallestCauses}

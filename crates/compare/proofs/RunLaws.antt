@@ -1,14 +1,14 @@
 -- Samples that stand side by side, and the runs of them in fields. Assumes nothing.
-use mathlib.Core.Path.{_≡_, refl, sym, ap, ap₂, _∙_}
-use mathlib.Core.List.{List, _++_}
-use Prim.Native.Nat.{ℕ, _+_, _-_, _*_, _/_, _%_, _≤_, _<_, min}
-use native.Mathlib.Nat.{div-add-mod', mod-lt, add-mul, div-mul-le-self}
+use mathlib.Core.Path.{_≡_, sym, ap, ap₂, _∙_}
+use mathlib.Core.List.{List}
+use Prim.Native.Nat.{ℕ, _+_, _-_, _*_, _/_, _%_, _≤_, _<_}
+use native.Mathlib.Nat.{div-add-mod', mod-lt}
 use native.Mathlib.Omega.{arith}
 use lib.IntN.{ℤ}
-use lib.ListN.{length, getD}
+use lib.ListN.{getD}
 use Rattle.numbers.specs.Walk.{walk, bytesAt}
 use Rattle.numbers.proofs.WalkLaws.{walk-each, walk-same, size-walk}
-use Rattle.fields.specs.Fields.{each, fieldsIn, fieldsLength, pairPlace}
+use Rattle.fields.specs.Fields.{fieldsLength, pairPlace}
 use Rattle.fields.proofs.FieldsLaws.{walk-like, walk-parts, field-of, field-in}
 use Rattle.record.specs.Kind.{tag04}
 use Rattle.record.specs.Held.{heldValue}

@@ -1,15 +1,13 @@
 -- The traces that two records have in common, one after the other. Assumes nothing.
 use mathlib.Core.Path.{_≡_, refl, sym, ap, ap₂, _∙_, subst}
 use mathlib.Core.Bool.{Bool, true, false, _&&_}
-use mathlib.Core.List.{List, _++_}
+use mathlib.Core.List.{List}
 use Prim.Native.Nat.{ℕ, suc, _+_, _-_, _≤_, _<_}
 use native.Mathlib.Nat.{zero-add}
 use native.Mathlib.Omega.{arith}
 use borrow.Author.Tests.{leb-true, ltb-true}
 use lib.Dec.{T, leb, ltb, eqb}
-use lib.IntN.{ℤ}
 use lib.ListN.{length, getD, take, drop}
-use Rattle.numbers.specs.Walk.{bytesAt}
 use Rattle.numbers.specs.Cause.{then}
 use Rattle.numbers.specs.declared.Check.{Check}
 use Rattle.numbers.specs.declared.Check.the-variants.{Fine, Refused}
@@ -22,14 +20,13 @@ use Rattle.reel.specs.Causes.{mostTraces}
 use Rattle.record.specs.Kind.{tag04}
 use Rattle.record.specs.Form.{cardsCauses, binaryCauses, heldSamples, heldInterval, heldCount, traceFormIn, heldStrideIn, behindTraceIn, isTraceIn, tracePlace, tracePlaceIn, tracesPlace, formCausesIn, formCauses, numbersIn}
 use Rattle.record.specs.Parts.{formFrom}
-use Rattle.record.proofs.FormLaws.{form-room, isMore, form-more, form-is, form-stop, headed, place-next, held-length, held-count}
+use Rattle.record.proofs.FormLaws.{form-room, isMore, form-more, form-is, place-next, held-length, held-count}
 use Rattle.exact.specs.Order.{orElse, lexZ}
 use Rattle.exact.specs.declared.Order.{Order}
-use Rattle.exact.specs.declared.Order.the-variants.{Same}
-use Rattle.compare.specs.Key.{cardKey, binaryKey, traceKey, keyOf, orderOf}
+use Rattle.compare.specs.Key.{cardKey, binaryKey, traceKey, orderOf}
 use Rattle.compare.specs.Parts.{Alike, sameBytes, isFine, isShared, moreTraces, keyFrom, behindTraces, Passed, Shared}
 use Rattle.compare.proofs.LexLaws.{lex-self}
-use Rattle.compare.proofs.KeyLaws.{traces-next, key-is, record-parts, behind-walk, same-samples}
+use Rattle.compare.proofs.KeyLaws.{traces-next, key-is, record-parts, behind-walk}
 use Rattle.compare.proofs.BytesLaws.{same-are, more-alike}
 use Rattle.compare.proofs.PrefixLaws.{number-like, cards-like, binary-like, card-key-like, binary-key-like, behind-like, trace-like, trace-key-like}
 

@@ -1,17 +1,16 @@
 -- The front of a valid record is a valid record without traces, with the numbers that stand there. Assumes nothing.
 use mathlib.Core.Path.{_≡_, sym, ap, ap₂, _∙_, subst}
 use mathlib.Core.Logic.{inr}
-use mathlib.Core.List.{List, [], _++_, map, append-nil}
+use mathlib.Core.List.{List, [], _++_, append-nil}
 use Prim.Native.Nat.{ℕ, _+_, _*_, _≤_, _<_}
 use native.Mathlib.Nat.{not-suc-le-zero}
 use native.Mathlib.Omega.{arith}
 use lib.Dec.{eqb}
-use lib.IntN.{ℤ, pos}
+use lib.IntN.{ℤ}
 use lib.ListN.{length, getD, take, length-append, List·getD-append}
 use lib.Seq.{length-take-le, getD-take, getD-append-add}
 use Rattle.numbers.specs.Walk.{flat, bytesAt}
 use Rattle.numbers.specs.BigEndian.{number}
-use Rattle.numbers.specs.TwosComplement.{signedOf}
 use Rattle.numbers.specs.Terms.{Between}
 use Rattle.numbers.specs.declared.Check.the-variants.{Fine}
 use Rattle.numbers.proofs.WalkLaws.{walk-same}
@@ -24,8 +23,7 @@ use Rattle.record.specs.Form.{tracesPlace, heldSamples, heldCount, tracePlaceIn
 use Rattle.demands.specs.ValidRecord.{Stands, HeadRight, RecordRight}
 use Rattle.demands.proofs.Valid.{record-fine, record-right}
 use Rattle.compare.specs.Key.{cardKey, binaryKey, traceKey, tracesKey, keyOf}
-use Rattle.compare.specs.Parts.{longAt, shortAt}
-use Rattle.compare.proofs.KeyLaws.{binary-rows}
+use Rattle.compare.proofs.PrefixLaws.{card-key-like, binary-key-like}
 use Rattle.order_theorems.specs.Front.{endOfNone, frontOf, frontKey}
 
 -- ## Its bytes
@@ -118,16 +116,10 @@ module _ (s : List ℕ) (room : tracesPlace ≤ length s) where
   no-traces n = run-none (isTraceIn tag04 (frontOf s) n) mostTraces 0 (ap (λ (x : ℕ). eqb x 3) end-tag)
 
   front-cards : cardKey (frontOf s) ≡ cardKey s
-  unfolding cardKey
-  front-cards = ap (map pos) (front-part 3 3200 (omega arith))
+  front-cards = card-key-like (frontOf s) s tracesPlace (omega (arith, front-size)) room front-byte (omega arith)
 
   front-binary : binaryKey (frontOf s) ≡ binaryKey s
-  front-binary =
-      binary-rows (frontOf s)
-      ∙ ap₂ (λ (x y : List ℤ). x ++ y)
-      (walk-same (longAt (frontOf s)) (longAt s) 4 4 3 3206 3206 (λ j l. ap (λ (b : List ℕ). signedOf 32 (number b)) (front-part (3206 + j * 4) 4 (omega arith))))
-      (walk-same (shortAt (frontOf s)) (shortAt s) 2 2 24 3218 3218 (λ j l. ap (λ (b : List ℕ). signedOf 16 (number b)) (front-part (3218 + j * 2) 2 (omega arith))))
-      ∙ sym (binary-rows s)
+  front-binary = binary-key-like (frontOf s) s tracesPlace (omega (arith, front-size)) room front-byte (omega arith)
 
   no-key : (n : ℕ) → tracesKey (frontOf s) n (heldCount (frontOf s) n) ≡ []
   unfolding tracesKey

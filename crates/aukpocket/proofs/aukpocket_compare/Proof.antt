@@ -4,7 +4,7 @@ use Rattle.aukpocket.specs.declared.OrderAnswer.{OrderAnswer}
 use Rattle.compare.specs.Answer.{compareSaid}
 use lib.IntN.{ℤ}
 use mir.Facts.{toZ-ofZ}
-use mathlib.Core.Path.{_≡_, ap, sym, _∙_}
+use mathlib.Core.Path.{ap, sym, _∙_}
 use borrow.Author.Needs.{needs, sfits-of}
 use Rattle.aukpocket.proofs.aukpocket_compare.Statement.{statement}
 use Rattle.aukpocket.proofs.aukpocket_compare.Tie as tie

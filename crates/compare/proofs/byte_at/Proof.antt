@@ -1,10 +1,10 @@
 -- `compare::byte_at` meets its contract. Assumes nothing.
 use lib.IntN.{pos}
 use lib.ListN.{getD, List·getD-eq-default}
-use Prim.Native.Nat.{ℕ, _^_, _<_}
+use Prim.Native.Nat.{_^_, _<_}
 use mir.Facts.{toZ-pos}
 use mir.Syntax.{w32}
-use mathlib.Core.Path.{_≡_, sym, ap}
+use mathlib.Core.Path.{sym, ap}
 use native.Mathlib.Omega.{arith}
 use borrow.Author.Needs.{needs}
 use Rattle.compare.proofs.byte_at.Statement.{statement}

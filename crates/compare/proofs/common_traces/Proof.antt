@@ -1,15 +1,10 @@
 -- `compare::common_traces` meets its contract. Assumes nothing.
 use Rattle.compare.proofs.SharedLaws.{shared-none, shared-next}
-use Rattle.compare.specs.Parts.{isShared, Shared}
-use Rattle.record.proofs.FormLaws.{isMore, more-few}
-use Rattle.record.specs.Kind.{tag04}
+use Rattle.compare.specs.Parts.{Shared}
 use Rattle.record.specs.Form.{behindTraceIn}
 use Rattle.reel.specs.Causes.{mostTraces}
-use Rattle.numbers.proofs.BoolLaws.{and-true}
-use lib.ListN.{length}
-use mathlib.Core.Bool.{true}
-use Prim.Native.Nat.{ℕ, _+_, _-_, _≤_, _<_}
-use mathlib.Core.Path.{_≡_, sym, ap, subst, _∙_}
+use Prim.Native.Nat.{ℕ, _+_, _-_}
+use mathlib.Core.Path.{sym, subst, _∙_}
 use native.Mathlib.Omega.{arith}
 use borrow.Author.Needs.{needs}
 use Rattle.compare.proofs.common_traces.Statement.{statement}

@@ -1,8 +1,7 @@
 -- `compare::compare_alike` meets its contract. Assumes nothing.
 use Rattle.compare.specs.Answer.{firstFound}
 use Rattle.record.proofs.FormLaws.{form-stop}
-use Rattle.record.specs.Form.{formCauses}
-use mathlib.Core.Path.{_≡_, sym, ap, _∙_}
+use mathlib.Core.Path.{sym, ap, _∙_}
 use borrow.Author.Needs.{needs}
 use Rattle.compare.proofs.compare_alike.Statement.{statement}
 use Rattle.compare.proofs.compare_alike.Tie as tie

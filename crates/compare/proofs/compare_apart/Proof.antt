@@ -2,7 +2,7 @@
 use Rattle.compare.specs.Answer.{firstFound}
 use Rattle.record.specs.Form.{formCauses}
 use Rattle.record.proofs.JudgedLaws.{Own, own, refused-is}
-use mathlib.Core.Path.{_≡_, sym, ap, _∙_}
+use mathlib.Core.Path.{sym, ap, _∙_}
 use borrow.Author.Needs.{needs}
 use Rattle.compare.proofs.compare_apart.Statement.{statement}
 use Rattle.compare.proofs.compare_apart.Tie as tie

@@ -1,9 +1,9 @@
 -- `compare::compare_bodies` meets its contract. Assumes nothing.
 use Rattle.compare.proofs.SharedLaws.{samples-alike, interval-alike, front-alike, form-passed}
 use Rattle.compare.specs.Answer.{ordered, firstFound, secondFound}
-use Rattle.compare.specs.Parts.{Passed, Shared}
+use Rattle.compare.specs.Parts.{Shared}
 use Rattle.record.proofs.FormLaws.{headed}
-use Rattle.record.specs.Form.{heldSamples, heldInterval, formCauses}
+use Rattle.record.specs.Form.{formCauses}
 use Rattle.record.specs.Parts.{formFrom}
 use Rattle.reel.specs.Causes.{mostTraces}
 use Rattle.numbers.specs.declared.Check.the-variants.{Fine}

@@ -2,18 +2,17 @@
 use Rattle.compare.proofs.LexLaws.{undecided}
 use Rattle.compare.proofs.KeyLaws.{first-decides}
 use Rattle.compare.proofs.RunLaws.{run-room, run-some, run-next}
-use Rattle.compare.specs.Parts.{isDecided, runOf}
+use Rattle.compare.specs.Parts.{runOf}
 use Rattle.exact.specs.Order.{orElse, lexZ}
 use Rattle.exact.specs.declared.Order.{Order}
-use Rattle.exact.specs.declared.Order.the-variants.{Same}
 use Rattle.record.specs.Held.{heldValue}
-use Rattle.fields.specs.Fields.{each, pairPlace, fieldsLength}
+use Rattle.fields.specs.Fields.{each, pairPlace}
 use Rattle.numbers.specs.Walk.{walk}
 use lib.IntN.{ℤ}
 use lib.ListN.{length}
-use mathlib.Core.List.{List, []}
-use Prim.Native.Nat.{ℕ, _+_, _-_, _*_, _^_, _≤_, _<_}
-use mathlib.Core.Path.{_≡_, refl, sym, ap, ap₂, _∙_}
+use mathlib.Core.List.{List}
+use Prim.Native.Nat.{ℕ, _+_, _-_, _*_, _≤_, _<_}
+use mathlib.Core.Path.{_≡_, sym, ap, ap₂, _∙_}
 use native.Mathlib.Omega.{arith}
 use borrow.Author.Needs.{needs}
 use Rattle.compare.proofs.compare_fields.Statement.{statement}

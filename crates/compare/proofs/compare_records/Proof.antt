@@ -1,8 +1,8 @@
 -- `compare::compare_records` meets its contract. Assumes nothing.
 use Rattle.compare.proofs.BytesLaws.{part-bytes, more-alike, none-alike}
 use lib.ListN.{length}
-use Prim.Native.Nat.{ℕ, _≤_}
-use mathlib.Core.Path.{_≡_, refl, sym, _∙_}
+use Prim.Native.Nat.{_≤_}
+use mathlib.Core.Path.{refl, sym, _∙_}
 use native.Mathlib.Omega.{arith}
 use borrow.Author.Needs.{needs}
 use Rattle.compare.proofs.compare_records.Statement.{statement}

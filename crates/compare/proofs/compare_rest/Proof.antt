@@ -2,13 +2,12 @@
 use Rattle.compare.proofs.SharedLaws.{front-fine, samples-alike, order-alike, rest-room, count-rest}
 use Rattle.compare.specs.Parts.{behindTraces, keyFrom, moreTraces}
 use Rattle.record.proofs.FormLaws.{headed}
-use Rattle.record.specs.Form.{heldSamples, numbersIn}
+use Rattle.record.specs.Form.{heldSamples}
 use Rattle.record.specs.declared.Numbers.{Numbers}
 use Rattle.exact.specs.Order.{lexZ}
 use lib.ListN.{length}
-use Prim.Native.Nat.{ℕ, _+_, _-_, _≤_}
-use mathlib.Core.Path.{_≡_, sym, ap, ap₂, _∙_, subst}
-use native.Mathlib.Omega.{arith}
+use Prim.Native.Nat.{ℕ, _-_, _≤_}
+use mathlib.Core.Path.{_≡_, sym, ap₂, _∙_, subst}
 use borrow.Author.Needs.{needs}
 use Rattle.compare.proofs.compare_rest.Statement.{statement}
 use Rattle.compare.proofs.compare_rest.Tie as tie

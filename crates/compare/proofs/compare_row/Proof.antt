@@ -2,15 +2,13 @@
 use Rattle.compare.proofs.LexLaws.{lex-next, lex-stop, lex-none}
 use Rattle.compare.specs.Parts.{isDecided, numberAt, rowOf}
 use Rattle.exact.specs.Order.{orderZ, lexZ}
-use Rattle.exact.specs.declared.Order.{Order}
-use lib.IntN.{ℤ}
 use mir.Facts.{toZ-ofZ}
 use mir.Syntax.{w32}
 use mir.Val.{SFits}
 use Rattle.numbers.specs.Walk.{walk}
 use Rattle.numbers.proofs.WalkLaws.{times-more}
 use lib.ListN.{length}
-use Prim.Native.Nat.{ℕ, _+_, _-_, _*_, _≤_}
+use Prim.Native.Nat.{_+_, _-_, _*_, _≤_}
 use mathlib.Core.Path.{_≡_, refl, sym, ap, ap₂, _∙_}
 use native.Mathlib.Omega.{arith}
 use borrow.Author.Needs.{needs, sfits-of}

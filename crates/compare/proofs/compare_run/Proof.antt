@@ -1,9 +1,8 @@
 -- `compare::compare_run` meets its contract. Assumes nothing.
 use Rattle.compare.proofs.BytesLaws.{part-bytes}
 use Rattle.compare.proofs.RunLaws.{run-same}
-use Prim.Native.Nat.{ℕ, _+_, _*_, _≤_}
-use mathlib.Core.Path.{_≡_, refl, sym, ap, _∙_}
-use native.Mathlib.Omega.{arith}
+use Prim.Native.Nat.{_+_, _*_}
+use mathlib.Core.Path.{refl, sym, _∙_}
 use borrow.Author.Needs.{needs}
 use Rattle.compare.proofs.compare_run.Statement.{statement}
 use Rattle.compare.proofs.compare_run.Tie as tie

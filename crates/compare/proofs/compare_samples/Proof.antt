@@ -2,15 +2,14 @@
 use Rattle.compare.proofs.LexLaws.{lex-next, lex-stop, lex-none}
 use Rattle.compare.specs.Parts.{isDecided}
 use Rattle.exact.specs.Order.{orderZ, lexZ}
-use Rattle.exact.specs.declared.Order.{Order}
 use Rattle.record.specs.Held.{heldValue}
 use Rattle.numbers.specs.Walk.{walk}
 use Rattle.numbers.proofs.WalkLaws.{times-more}
 use lib.ListN.{length}
-use Prim.Native.Nat.{ℕ, _+_, _-_, _*_, _≤_}
+use Prim.Native.Nat.{_+_, _-_, _*_, _≤_}
 use mathlib.Core.Path.{_≡_, refl, sym, ap, ap₂, _∙_}
 use native.Mathlib.Omega.{arith}
-use borrow.Author.Needs.{needs, sfits-of}
+use borrow.Author.Needs.{needs}
 use Rattle.compare.proofs.compare_samples.Statement.{statement}
 use Rattle.compare.proofs.compare_samples.Tie as tie
 

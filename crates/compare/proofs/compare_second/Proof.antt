@@ -1,10 +1,8 @@
 -- `compare::compare_second` meets its contract. Assumes nothing.
 use Rattle.compare.specs.Answer.{ordered, secondFound}
-use Rattle.record.specs.Form.{formCauses, heldSamples, heldCount}
+use Rattle.record.specs.Form.{formCauses, heldCount}
 use Rattle.record.proofs.JudgedLaws.{Own, own, refused-is}
-use Prim.Native.Nat.{ℕ}
-use mathlib.Core.Path.{_≡_, sym, ap, _∙_}
-use native.Mathlib.Omega.{arith}
+use mathlib.Core.Path.{sym, ap, _∙_}
 use borrow.Author.Needs.{needs}
 use Rattle.compare.proofs.compare_second.Statement.{statement}
 use Rattle.compare.proofs.compare_second.Tie as tie

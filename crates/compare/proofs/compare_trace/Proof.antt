@@ -6,10 +6,9 @@ use Rattle.record.specs.Form.{shareIn, behindTraceIn}
 use Rattle.record.specs.Held.{heldValue, heldValuesIn}
 use Rattle.fields.specs.Fields.{each, pairPlace, fieldsLength}
 use Rattle.exact.specs.Order.{lexZ}
-use lib.IntN.{ℤ}
 use lib.ListN.{length}
-use Prim.Native.Nat.{ℕ, _+_, _*_, _≤_, _<_}
-use mathlib.Core.Path.{_≡_, sym, ap, ap₂, _∙_, subst}
+use Prim.Native.Nat.{ℕ, _+_, _≤_, _<_}
+use mathlib.Core.Path.{_≡_, sym, ap₂, _∙_, subst}
 use native.Mathlib.Omega.{arith}
 use borrow.Author.Needs.{needs}
 use Rattle.compare.proofs.compare_trace.Statement.{statement}

@@ -4,11 +4,11 @@ use Rattle.compare.proofs.KeyLaws.{first-decides, behind-one, next-room
 use Rattle.compare.specs.Key.{traceKey}
 use Rattle.compare.specs.Parts.{behindTraces, keyFrom}
 use Rattle.record.specs.Kind.{tag04}
-use Rattle.record.specs.Form.{heldStrideIn, behindTraceIn}
+use Rattle.record.specs.Form.{behindTraceIn}
 use Rattle.exact.specs.Order.{orElse, lexZ}
 use Rattle.exact.specs.declared.Order.{Order}
 use lib.ListN.{length}
-use Prim.Native.Nat.{ℕ, _+_, _-_, _*_, _≤_, _<_}
+use Prim.Native.Nat.{ℕ, _+_, _-_, _≤_, _<_}
 use mathlib.Core.Path.{_≡_, refl, sym, ap, ap₂, _∙_, subst}
 use native.Mathlib.Omega.{arith}
 use borrow.Author.Needs.{needs}

@@ -2,7 +2,7 @@
 use Rattle.compare.proofs.LexLaws.{undecided}
 use Rattle.compare.proofs.KeyLaws.{first-decides, then-second, card-row, key-is, record-parts, same-samples}
 use Rattle.compare.proofs.SharedLaws.{front-fine, all-room}
-use Rattle.compare.specs.Key.{cardKey, binaryKey, orderOf}
+use Rattle.compare.specs.Key.{binaryKey, orderOf}
 use Rattle.compare.specs.Parts.{rowOf, behindTraces, keyFrom}
 use Rattle.record.proofs.FormLaws.{Headed, headed}
 use Rattle.record.specs.Form.{heldSamples, heldCount, tracesPlace}
@@ -10,7 +10,7 @@ use Rattle.exact.specs.Order.{orElse, lexZ}
 use Rattle.exact.specs.declared.Order.{Order}
 use Rattle.exact.specs.declared.Order.the-variants.{Same}
 use lib.ListN.{length}
-use Prim.Native.Nat.{ℕ, _+_, _*_, _≤_}
+use Prim.Native.Nat.{ℕ, _≤_}
 use mathlib.Core.Path.{_≡_, refl, sym, ap, ap₂, _∙_, subst}
 use native.Mathlib.Omega.{arith}
 use borrow.Author.Needs.{needs}

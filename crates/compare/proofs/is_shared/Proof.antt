@@ -6,12 +6,10 @@ use Rattle.record.specs.Kind.{tag04}
 use Rattle.record.specs.Form.{traceFormIn, heldStrideIn, behindTraceIn}
 use Rattle.numbers.specs.declared.Check.the-variants.{Fine}
 use borrow.Author.Tests.{not-true, not-false, le-leb, lt-leb}
-use lib.Dec.{leb}
 use lib.ListN.{length, take, drop}
-use mathlib.Core.Bool.{Bool, true, false}
-use mathlib.Core.List.{List}
-use Prim.Native.Nat.{ℕ, _+_, _-_, _≤_, _<_}
-use mathlib.Core.Path.{_≡_, sym, ap, ap₂, subst, _∙_}
+use mathlib.Core.Bool.{true}
+use Prim.Native.Nat.{ℕ, _+_, _-_, _≤_}
+use mathlib.Core.Path.{_≡_, sym, ap, _∙_}
 use native.Mathlib.Omega.{arith}
 use borrow.Author.Needs.{needs}
 use Rattle.compare.proofs.is_shared.Statement.{statement}

@@ -7,7 +7,7 @@ use mir.Facts.{toZ-ofZ}
 use mir.Val.{SFits}
 use mir.Syntax.{w16, w32}
 use lib.Signed.{mag}
-use lib.IntN.{ℤ, natAbs}
+use lib.IntN.{natAbs}
 use native.Mathlib.Omega.{arith}
 use Prim.Native.Nat.{ℕ, _%_, _^_, _-_, _<_}
 use mathlib.Core.Path.{_≡_, refl, sym, ap, _∙_}
