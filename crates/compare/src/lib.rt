@@ -1,25 +1,21 @@
 // The order of two records (document 02, CR 9). As far as they have the same bytes from the front on, cards and binary header and then whole
 // traces, the second is neither judged nor taken apart.
 ghost use mathlib.Core.Path.{_≡_};
-ghost use mathlib.Core.Bool.{_&&_};
-ghost use Prim.Native.Nat.{_+_, _-_, _*_, _^_, _≤_, _<_, min};
-ghost use mathlib.Core.List.{_++_};
+ghost use Prim.Native.Nat.{_+_, _*_, _^_, _≤_, _<_};
 ghost use lib.ListN.{length};
-ghost use Rattle.numbers.specs.Walk.{walk, bytesAt};
+ghost use Rattle.numbers.specs.Walk.{walk};
 ghost use Rattle.numbers.specs.Cause.{then};
 ghost use Rattle.numbers.specs.Places.{byteNo, bytePlace};
 ghost use Rattle.numbers.specs.declared.Check.the-variants as check;
 ghost use Rattle.fields.specs.Fields.{each, pairPlace, fieldsLength};
 ghost use Rattle.reel.specs.Layout.{number16};
 ghost use Rattle.record.specs.Kind.{tag04};
-ghost use Rattle.record.specs.Form.{binaryStart, behindTraceIn, cardsCauses, binaryCauses, heldSamples, heldInterval, heldCount, formCauses, recordFound, tracesPlace};
-ghost use Rattle.record.specs.Parts.{formFrom};
-ghost use Rattle.record.specs.declared.Judged.the-variants.{Fine};
+ghost use Rattle.record.specs.Form.{binaryStart, behindTraceIn, cardsCauses, binaryCauses, heldSamples, heldInterval, heldCount, formCauses};
 ghost use Rattle.record.specs.Held.{heldValue};
 ghost use Rattle.exact.specs.Value.{valueBy};
-ghost use Rattle.exact.specs.Order.{orderZ, orElse, lexZ};
-ghost use Rattle.compare.specs.Key.{cardKey, binaryKey, headerKey, traceKey, orderOf};
-ghost use Rattle.compare.specs.Answer.{compareSaid, secondFound, firstFound, compareOutcome};
+ghost use Rattle.exact.specs.Order.{orderZ, lexZ};
+ghost use Rattle.compare.specs.Key.{binaryKey, headerKey, traceKey, orderOf};
+ghost use Rattle.compare.specs.Answer.{compareSaid, secondFound, compareOutcome};
 ghost use Rattle.compare.specs.Parts.{Alike, isDecided, sameBytes, byteAt, numberAt, rowOf, lowRows, highRows, behindTraces, keyFrom, isShared, Shared, runOf};
 use exact::Exact;
 use exact::Order;
