@@ -27,7 +27,7 @@ use sample::WordAnswer;
 // length alone; of reading a reel how many of its words are not normal, and of nearest writing how many samples have another value; or the
 // number of the cause, and what stands beside it.
 #[repr(C)]
-#[derive(Drop)]
+#[derive(Clone, Copy)]
 pub struct ReelAnswer {
     pub number: u64,
     pub traces: u64,
@@ -40,7 +40,7 @@ pub struct ReelAnswer {
 
 // What looking up a field answers: its signed number; or the number of the cause, and what stands beside it.
 #[repr(C)]
-#[derive(Drop)]
+#[derive(Clone, Copy)]
 pub struct FieldAnswer {
     pub number: u32,
     pub value: i32,
@@ -50,7 +50,7 @@ pub struct FieldAnswer {
 // What comparing two records answers: -1 where the first is the lesser, 0 where they count as equal, 1 where the second is the lesser; or which
 // record is refused, 1 or 2, the number of the cause, and what stands beside it.
 #[repr(C)]
-#[derive(Drop)]
+#[derive(Clone, Copy)]
 pub struct OrderAnswer {
     pub number: u32,
     pub order: i32,
@@ -60,7 +60,7 @@ pub struct OrderAnswer {
 
 // What checking a box of reels answers: the number of reels and of traces; or the number of the cause, and what stands beside it.
 #[repr(C)]
-#[derive(Drop)]
+#[derive(Clone, Copy)]
 pub struct BoxAnswer {
     pub number: u64,
     pub reels: u64,
@@ -70,7 +70,7 @@ pub struct BoxAnswer {
 
 // What a single-sample call answers: that it was taken, and of reading a word whether it isn't normal; or the number of the cause, and 0.
 #[repr(C)]
-#[derive(Drop)]
+#[derive(Clone, Copy)]
 pub struct SampleAnswer {
     pub number: u64,
     pub beside: u64,

@@ -21,14 +21,14 @@ use numbers::{ByteNo, Check, Place};
 use record::{Judged, Target};
 
 // What comparing answers: the order of the first record to the second, or which of them is refused, 1 or 2, with number and place.
-#[derive(Drop)]
+#[derive(Clone, Copy)]
 pub enum Answer {
     Ordered(Order),
     Refused { which: u8, number: u8, place: Place },
 }
 
 // The first traces of two records that are the same in both, and the place behind them.
-#[derive(Drop)]
+#[derive(Clone, Copy)]
 pub struct Common {
     pub traces: usize,
     pub place: usize,

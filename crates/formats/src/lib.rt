@@ -4,7 +4,7 @@ ghost use Rattle.formats.specs.Codes.{is_code, sample_bytes, whole_format, forma
 
 // The five numbers of a format: r bits to a digit, p bits to a fraction, m characteristics, the base power b, and whether it has one more
 // number below zero.
-#[derive(Drop)]
+#[derive(Clone, Copy)]
 pub struct Format {
     pub digit: u32,
     pub fraction: u32,
@@ -14,14 +14,14 @@ pub struct Format {
 }
 
 // A value's place in a format: its characteristic and its fraction, or none.
-#[derive(Drop)]
+#[derive(Clone, Copy)]
 pub enum Placed {
     At { c: u32, f: u32 },
     Nowhere,
 }
 
 // What writing a value finds: its word, or the number of the refusal.
-#[derive(Drop)]
+#[derive(Clone, Copy)]
 pub enum Written {
     Word { bits: u32 },
     Refused { number: u8 },

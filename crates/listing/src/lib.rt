@@ -14,7 +14,7 @@ use numbers::{Check, Place};
 use record::{Answer, Judged};
 
 // What listing a record's cards answers: taken with the length of the listing, or refused with number and place.
-#[derive(Drop)]
+#[derive(Clone, Copy)]
 pub enum Listed {
     Taken { length: usize },
     Refused { number: u8, place: Place },

@@ -10,7 +10,7 @@ use numbers::{ByteNo, Check, Located, Place};
 use reel::Judged;
 
 // What looking up answers: the signed number, or refused with number and place.
-#[derive(Drop)]
+#[derive(Clone, Copy)]
 pub enum Answer {
     Taken { value: i32 },
     Refused { number: u8, place: Place },

@@ -4,24 +4,24 @@ ghost use Rattle.numbers.specs.BigEndian.{number, bytes_of};
 ghost use Rattle.numbers.specs.TwosComplement.{signed_of, bits_of};
 
 // A byte number, document 01's own term: the standard's, counted from 1.
-#[derive(Drop)]
+#[derive(Clone, Copy)]
 pub struct ByteNo(pub u32);
 
 // A place, document 01's own term: an offset in the input, counted from 0. A length is the place
 // behind the last byte.
-#[derive(Drop)]
+#[derive(Clone, Copy)]
 pub struct Place(pub usize);
 
 // What a check finds: nothing against the input, or the first cause against it by its number, with
 // the place that stands beside it in the table, which is a length for numbers 1 and 10.
-#[derive(Drop)]
+#[derive(Clone, Copy)]
 pub enum Check {
     Fine,
     Refused { number: u8, place: Place },
 }
 
 // Where a byte number stands in the input.
-#[derive(Drop)]
+#[derive(Clone, Copy)]
 pub enum Located {
     At(Place),
     Nowhere,

@@ -14,7 +14,7 @@ use numbers::{ByteNo, Check, Place};
 use value::Pair;
 
 // What a call on a whole reel or record answers: taken with T, N and the length of what it wrote, or refused with number and place.
-#[derive(Drop)]
+#[derive(Clone, Copy)]
 pub enum Answer {
     Taken {
         traces: usize,
@@ -28,7 +28,7 @@ pub enum Answer {
 }
 
 // The same with a count: reading a reel counts its words that are not normal, nearest writing the samples whose value changed.
-#[derive(Drop)]
+#[derive(Clone, Copy)]
 pub enum Counted {
     Taken {
         traces: usize,
@@ -43,21 +43,21 @@ pub enum Counted {
 }
 
 // N, and the count of traces that a record says.
-#[derive(Drop)]
+#[derive(Clone, Copy)]
 pub struct Numbers {
     pub samples: usize,
     pub traces: usize,
 }
 
 // What judging a record finds: N and T, where no cause applies, or the first cause.
-#[derive(Drop)]
+#[derive(Clone, Copy)]
 pub enum Judged {
     Fine { samples: usize, traces: usize },
     Refused { number: u8, place: Place },
 }
 
 // What a record's samples are judged for: that their pairs are canonical, or also that they fit a code.
-#[derive(Drop)]
+#[derive(Clone, Copy)]
 pub enum Target {
     None,
     Code { code: u32 },

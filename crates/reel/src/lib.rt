@@ -15,7 +15,7 @@ use sample::Sample;
 
 // The layouts of reels: plain, that of 1975; and Eagle, that of source document 004 (document 02, CR 7), where a trailer of 960 bytes stands
 // behind the samples of each trace, and columns 79 and 80 of card 40 hold a check.
-#[derive(Drop)]
+#[derive(Clone, Copy)]
 pub enum Layout {
     Plain,
     Eagle,
@@ -23,7 +23,7 @@ pub enum Layout {
 
 // What checking a reel finds: its own numbers, where no cause applies, or the first cause. The numbers are the format code, N, the
 // interval, the bytes of a sample, the bytes from trace to trace, and T.
-#[derive(Drop)]
+#[derive(Clone, Copy)]
 pub enum Judged {
     Fine {
         code: usize,

@@ -17,35 +17,35 @@ use numbers::Place;
 use value::Pair;
 
 // What reading a word finds: the numbers e and m of its canonical pair, or the number of the refusal.
-#[derive(Drop)]
+#[derive(Clone, Copy)]
 pub enum Sample {
     Taken { e: i16, m: i32 },
     Refused { number: u8 },
 }
 
 // The answer of writing a single pair.
-#[derive(Drop)]
+#[derive(Clone, Copy)]
 pub enum Answer {
     Taken,
     Refused { number: u8, place: Place },
 }
 
 // The answer of reading a single word: taken, with 1 for an IBM word other than the normal word of its value, else 0; or refused.
-#[derive(Drop)]
+#[derive(Clone, Copy)]
 pub enum WordAnswer {
     Taken { not_normal: u8 },
     Refused { number: u8, place: Place },
 }
 
 // What reading a single word hands out: beside a refusal the bytes are all 00.
-#[derive(Drop)]
+#[derive(Clone, Copy)]
 pub struct WordRead {
     pub answer: WordAnswer,
     pub pair: [u8; 6],
 }
 
 // What writing a single pair hands out: beside a refusal the bytes are all 00.
-#[derive(Drop)]
+#[derive(Clone, Copy)]
 pub struct PairWritten {
     pub answer: Answer,
     pub word: [u8; 4],

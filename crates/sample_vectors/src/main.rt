@@ -17,28 +17,28 @@ use libc::{STDIN_FILENO, STDOUT_FILENO};
 use sample::{Answer, WordAnswer};
 
 // What two hexadecimal digits spell: a byte, or 0 where they are not both digits.
-#[derive(Drop)]
+#[derive(Clone, Copy)]
 struct Byte {
     good: bool,
     value: u8,
 }
 
 // The format code of a line.
-#[derive(Drop)]
+#[derive(Clone, Copy)]
 struct Code {
     good: bool,
     value: u32,
 }
 
 // The word of a line.
-#[derive(Drop)]
+#[derive(Clone, Copy)]
 struct Word {
     good: bool,
     bytes: [u8; 4],
 }
 
 // The pair of a line.
-#[derive(Drop)]
+#[derive(Clone, Copy)]
 struct Pair {
     good: bool,
     bytes: [u8; 6],

@@ -5,7 +5,7 @@ ghost use Rattle.scalars.specs.Scalar.{powers, is_allowed, zeros_in, power_of, s
 ghost use Rattle.scalars.specs.Parts.{largest, Raised};
 
 // What takes a group to its smallest power: the factor of its numbers, and the scalar of that power.
-#[derive(Drop)]
+#[derive(Clone, Copy)]
 pub struct Scale {
     pub factor: i32,
     pub scalar: i16,

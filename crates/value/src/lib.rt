@@ -15,7 +15,7 @@ ghost use Rattle.value.specs.Parts.{PartsOf, NearPlace};
 use formats::{DENOMINATOR_POWER, Format, Placed, Written};
 
 // A sample as exponent and mantissa: the value m × 2^e.
-#[derive(Drop)]
+#[derive(Clone, Copy)]
 pub struct Pair {
     pub e: i16,
     pub m: i32,
@@ -220,7 +220,7 @@ fn shift(e: i16) -> u32
 }
 
 // A pair taken apart: not canonical, zero, or V = ± o × 2^k with an odd o.
-#[derive(Drop)]
+#[derive(Clone, Copy)]
 enum Parts {
     NotCanonical,
     Zero,
@@ -388,14 +388,14 @@ pub fn bits(code: u32, p: Pair) -> u32
 // ## The nearest value
 
 // What nearest writing makes of a pair: the bits of the word of the nearest value, and 1 where that is another value than the pair's.
-#[derive(Drop)]
+#[derive(Clone, Copy)]
 pub struct Rounded {
     pub bits: u32,
     pub changed: u32,
 }
 
 // A place of the nearest value in a format, and 1 where that is another value.
-#[derive(Drop)]
+#[derive(Clone, Copy)]
 struct RoundedPlace {
     c: u32,
     f: u32,
