@@ -1,5 +1,7 @@
 // The C interface: an exported function for each public call. A slice is a pointer and a length; an answer is a structure of numbers,
 // whose `number` is 0 where the call was taken, else the number of the cause.
+#![tactic(auto)]
+
 ghost use Rattle.std.specs.Prelude.{◌≡◌, map};
 ghost use Rattle.numbers.specs.Places.{place_no};
 ghost use Rattle.numbers.specs.BigEndian.{number, bytes_of};

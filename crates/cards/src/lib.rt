@@ -1,6 +1,8 @@
 // Card bytes, a word of eight at a time: 40 in place of each 00, and whether any is 00. A word is one number, in which no loop and no test
 // goes over single bytes. The first card byte of a word is the number's highest; but each byte is replaced where it stands, so reading
 // fetches and stores its words with the first byte lowest, as the processor does.
+#![tactic(auto)]
+
 ghost use Rattle.std.specs.Prelude.{◌≡◌, map, reverse, length};
 ghost use Rattle.numbers.specs.BigEndian.{number, bytes_of};
 ghost use Rattle.cards.specs.Cards.{blank, is_card_text, cards_put};

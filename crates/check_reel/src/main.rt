@@ -1,5 +1,7 @@
 // The small program of document 01: reads a reel from standard input, and prints one line that says
 // whether it is taken.
+#![tactic(auto)]
+
 ghost use Rattle.std.specs.Prelude.{◌≡◌, length, ◌≤◌};
 
 use libc::{STDIN_FILENO, STDOUT_FILENO};

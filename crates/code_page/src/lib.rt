@@ -1,4 +1,6 @@
 // EBCDIC code page 037 and ISO 8859-1, by a table of 256 entries each way.
+#![tactic(auto)]
+
 ghost use Rattle.std.specs.Prelude.{◌≡◌};
 ghost use Rattle.code_page.specs.Page.{latin, inverse};
 

@@ -1,5 +1,7 @@
 // The order of two records (document 02, CR 9). As far as they have the same bytes from the front on, cards and binary header and then whole
 // traces, the second is neither judged nor taken apart.
+#![tactic(auto)]
+
 ghost use Rattle.std.specs.Prelude.{◌≡◌, ◌+◌, ◌*◌, ◌^◌, ◌≤◌, ◌<◌, length};
 ghost use Rattle.numbers.specs.Walk.{walk};
 ghost use Rattle.numbers.specs.Cause.{then};

@@ -1,5 +1,7 @@
 // How many IBM words of a trace are not normal. They are counted in a loop of their own, which the compiler turns into one over several
 // words at once: in the loop that reads them, it would cost three tenths of the speed.
+#![tactic(auto)]
+
 ghost use Rattle.std.specs.Prelude.{◌≡◌, ◌+◌, ◌*◌, ◌^◌, ◌≤◌, ◌<◌, eqb, length};
 ghost use Rattle.numbers.specs.Walk.{pick};
 ghost use Rattle.numbers.specs.Places.{place_no};

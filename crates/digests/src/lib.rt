@@ -1,4 +1,6 @@
 // What the programs that run vectors do with bytes: the digest of some, and an output filled before a call.
+#![tactic(auto)]
+
 ghost use Rattle.std.specs.Prelude.{◌≡◌, length, replicate};
 ghost use Rattle.digests.specs.Digest.{digest_of};
 

@@ -1,4 +1,6 @@
 // Whether a record can be written under a target code: the causes 11 to 14.
+#![tactic(auto)]
+
 ghost use Rattle.std.specs.Prelude.{◌≡◌, true, ◌-◌};
 ghost use Rattle.numbers.specs.Cause.{then};
 ghost use Rattle.formats.specs.Codes.{is_code};

@@ -1,4 +1,6 @@
 // Sample formats: the codes, and what a format and a word are. The definitions and laws of values and words stand beside it.
+#![tactic(auto)]
+
 ghost use Rattle.std.specs.Prelude.{◌≡◌, ◌<◌, ◌≤◌};
 ghost use Rattle.formats.specs.Codes.{is_code, sample_bytes, whole_format, format_of};
 

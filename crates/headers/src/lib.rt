@@ -1,5 +1,7 @@
 // A trace header as a record holds it: its elevations and coordinates at their smallest powers, and fields 115 and 117 filled in; and
 // the cause 13 against a record's scalars.
+#![tactic(auto)]
+
 ghost use Rattle.std.specs.Prelude.{◌≡◌, ◌++◌, ◌+◌, ◌*◌, ◌^◌, ◌≤◌, ◌<◌, length, replicate, pos, ◌*ℤ◌};
 ghost use Rattle.std.specs.Int.Signed.{mag};
 ghost use Rattle.numbers.specs.Places.{place_no, byte_no, byte_place};

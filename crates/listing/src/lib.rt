@@ -1,5 +1,7 @@
 // The listing of a record's cards, and the way back. The functions inside are lent the table that they use: of the character of each
 // code, or of the card byte of each character. Each that puts something is lent exactly the bytes that it writes.
+#![tactic(auto)]
+
 ghost use Rattle.std.specs.Prelude.{◌≡◌, ◌++◌, map, ◌+◌, ◌*◌, ◌≤◌, length, set};
 ghost use Rattle.numbers.specs.Walk.{walk};
 ghost use Rattle.numbers.specs.Cause.{first_of};

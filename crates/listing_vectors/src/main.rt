@@ -17,6 +17,8 @@
 // DIGEST is that of the whole output after the call, all its room. A digest is 0 at first, and each byte b makes
 // (digest * 31 + b) mod 2^32 of it. All numbers are decimal. A case that is cut short, or longer than 210,000, or of another call, or of
 // call 3 with another length than 8, is answered by `bad case`, and is the last.
+#![tactic(auto)]
+
 use libc::{STDIN_FILENO, STDOUT_FILENO};
 use listing::Listed;
 use record::Answer;

@@ -1,4 +1,6 @@
 // Looking up one header field of a reel.
+#![tactic(auto)]
+
 ghost use Rattle.std.specs.Prelude.{◌≡◌, ◌+◌, ◌^◌, ◌<◌, ◌≤◌, eqb};
 ghost use Rattle.numbers.specs.Places.{place_no, byte_no};
 ghost use Rattle.reel.specs.Layout.{binary_fields, trace_fields, field_number, traces_of};

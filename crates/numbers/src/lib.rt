@@ -1,4 +1,6 @@
 // What every layer uses: the types of places, byte numbers and checks, numbers of bytes in either order, two's complement.
+#![tactic(auto)]
+
 ghost use Rattle.std.specs.Prelude.{◌≡◌, ◌^◌, ◌≤◌, [], ◌∷◌, reverse, unsigned_abs};
 ghost use Rattle.numbers.specs.BigEndian.{number, bytes_of};
 ghost use Rattle.numbers.specs.TwosComplement.{signed_of, bits_of};

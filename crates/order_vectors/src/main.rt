@@ -13,6 +13,8 @@
 //     refused WHICH NUMBER PLACE     WHICH is 1 or 2, the record that is refused
 //
 // All numbers are decimal. A case that is cut short, or longer than 100,000, is answered by `bad case`, and is the last.
+#![tactic(auto)]
+
 use compare::Answer;
 use exact::Order;
 use libc::{STDIN_FILENO, STDOUT_FILENO};

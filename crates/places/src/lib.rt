@@ -1,4 +1,6 @@
 // Byte numbers and places: the one conversion.
+#![tactic(auto)]
+
 ghost use Rattle.std.specs.Prelude.{◌≡◌};
 ghost use Rattle.numbers.specs.Places.{located, field_place};
 

@@ -1,5 +1,7 @@
 // Reading a whole reel, plain or Eagle, into a record. Two passes: `reel` looks for a cause against the reel, and then the record is
 // written. Each function that writes is lent exactly the bytes that it writes.
+#![tactic(auto)]
+
 ghost use Rattle.std.specs.Prelude.{◌≡◌, true, ◌++◌, map, ◌+◌, ◌*◌, ◌^◌, ◌≤◌, ◌<◌, length};
 ghost use Rattle.numbers.specs.Walk.{flat, overwritten};
 ghost use Rattle.numbers.specs.Places.{place_no};

@@ -1,4 +1,6 @@
 // The samples of a trace, from words to pairs: a loop for words of four bytes and one for shorter words. Each function that writes is lent exactly the bytes that it writes.
+#![tactic(auto)]
+
 ghost use Rattle.std.specs.Prelude.{◌≡◌, true, ◌&&◌, ◌+◌, ◌*◌, ◌%◌, ◌^◌, ◌≤◌, ◌<◌, leb, eqb, length};
 ghost use Rattle.numbers.specs.Walk.{bytes_at};
 ghost use Rattle.numbers.specs.Places.{place_no};

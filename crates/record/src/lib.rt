@@ -1,4 +1,6 @@
 // The form of a record: the causes 12 and 13 against any bytes that are lent as one; under a target code 14 as well, trace by trace.
+#![tactic(auto)]
+
 ghost use Rattle.std.specs.Prelude.{◌≡◌, not, ◌&&◌, ◌+◌, ◌-◌, ◌*◌, ◌^◌, ◌≤◌, ◌<◌, length, get_or, leb, ltb, eqb};
 ghost use Rattle.numbers.specs.Walk.{walk, bytes_at};
 ghost use Rattle.numbers.specs.Cause.{refuse_if, then, first_of};

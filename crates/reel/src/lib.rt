@@ -1,4 +1,6 @@
 // A reel's causes, 1 to 9, 18, 19 and 20, and its own numbers: of a plain reel, and of an Eagle reel, whose traces end with a trailer.
+#![tactic(auto)]
+
 ghost use Rattle.std.specs.Prelude.{◌≡◌, ◌+◌, ◌-◌, ◌*◌, ◌/◌, ◌%◌, ◌^◌, ◌<◌, ◌≤◌, eqb, length, not};
 ghost use Rattle.numbers.specs.Walk.{walk};
 ghost use Rattle.numbers.specs.Cause.{refuse_if, then, first_of};

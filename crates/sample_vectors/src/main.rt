@@ -11,6 +11,8 @@
 //
 // All but the number is in lowercase hexadecimal digits. A line of another form is answered by
 // `bad line`.
+#![tactic(auto)]
+
 ghost use Rattle.std.specs.Prelude.{◌≤◌};
 
 use libc::{STDIN_FILENO, STDOUT_FILENO};

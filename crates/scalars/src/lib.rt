@@ -1,5 +1,7 @@
 // Elevations and coordinates with their scalars: the power of a scalar, and what takes a group to the smallest power at which all its
 // numbers are whole and fit 32 signed bits.
+#![tactic(auto)]
+
 ghost use Rattle.std.specs.Prelude.{◌≡◌, ◌+◌, ◌*◌, ◌^◌, ◌<◌, ◌≤◌, max, pos, nat_abs};
 ghost use Rattle.scalars.specs.Scalar.{powers, is_allowed, zeros_in, power_of, scalar_of, scaled_values, smallest, scale_of, is_smallest};
 ghost use Rattle.scalars.specs.Parts.{largest, Raised};

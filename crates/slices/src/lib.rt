@@ -1,4 +1,6 @@
 // Bytes in slices: numbers at a place, copies and stores, and whether parts fit.
+#![tactic(auto)]
+
 ghost use Rattle.std.specs.Prelude.{◌≡◌, ◌+◌, ◌*◌, leb, eqb, get_or};
 ghost use Rattle.numbers.specs.Walk.{bytes_at, copy_of};
 ghost use Rattle.numbers.specs.BigEndian.{number, bytes_of};

@@ -1,4 +1,6 @@
 // What a sample is worth: the canonical pair, the word of a pair under a code, and the word of the nearest value of a code.
+#![tactic(auto)]
+
 ghost use Rattle.std.specs.Prelude.{◌≡◌, ◌+◌, ◌-◌, ◌*◌, ◌/◌, ◌%◌, ◌^◌, ◌<◌, ◌≤◌, min, true, not, ◌&&◌, eqb, pos, nat_abs, ◌+ℤ◌};
 ghost use Rattle.numbers.specs.Walk.{pick};
 ghost use Rattle.numbers.specs.TwosComplement.{signed_of, bits_of};

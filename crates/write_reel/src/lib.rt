@@ -1,5 +1,7 @@
 // Writing a record as a reel, exactly or to the nearest. Two passes: in exact writing `fit::judge_fit` looks for a cause, 14 among them, in
 // nearest writing `record::judge_record`; then the reel is written. Each function that writes is lent exactly the bytes that it writes.
+#![tactic(auto)]
+
 ghost use Rattle.std.specs.Prelude.{◌≡◌, true, not, ◌+◌, ◌*◌, ◌≤◌, ◌<◌, length};
 ghost use Rattle.numbers.specs.Walk.{overwritten};
 ghost use Rattle.numbers.specs.Cause.{refuse_if, then};

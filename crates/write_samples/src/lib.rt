@@ -1,5 +1,7 @@
 // The samples of a trace, from pairs to words: whether they can be written under a code, in one loop; their words, in a loop for words of
 // four bytes and one for shorter words; and their words to the nearest, in one loop that also counts.
+#![tactic(auto)]
+
 ghost use Rattle.std.specs.Prelude.{◌≡◌, true, ◌&&◌, ◌+◌, ◌*◌, ◌≤◌, ◌<◌, leb, eqb, length};
 ghost use Rattle.numbers.specs.Walk.{walk, bytes_at};
 ghost use Rattle.numbers.specs.BigEndian.{number, bytes_of};

@@ -16,6 +16,8 @@
 // record that reading the written reel gives, and COUNT that of its words that are not normal. A digest is 0 at first, and each byte b makes
 // (digest * 31 + b) mod 2^32 of it. All numbers are decimal. A case that is cut short, longer than 210,000 or neither exact nor to the
 // nearest is answered by `bad case`, and is the last; a written reel that isn't read again, by `not read`.
+#![tactic(auto)]
+
 use libc::{STDIN_FILENO, STDOUT_FILENO};
 use record::{Answer, Counted};
 

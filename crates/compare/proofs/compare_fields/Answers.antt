@@ -1,0 +1,131 @@
+-- `compare::compare_fields` meets its contract. Assumes nothing.
+use Rattle.compare.proofs.LexLaws.{undecided}
+use Rattle.compare.proofs.KeyLaws.{first_decides}
+use Rattle.compare.proofs.RunLaws.{run_room, run_some, run_next}
+use Rattle.compare.specs.Parts.{run_of}
+use Rattle.exact.specs.Order.{or_else, lex_z}
+use Rattle.exact.specs.declared.Order.{Order}
+use Rattle.record.specs.Held.{held_value}
+use Rattle.fields.specs.Fields.{each, pair_place}
+use Rattle.numbers.specs.Walk.{walk}
+use lib.IntN.{ℤ}
+use lib.ListN.{length}
+use mathlib.Core.List.{List}
+use Prim.Native.Nat.{ℕ, ◌+◌, ◌-◌, ◌*◌, ◌≤◌, ◌<◌}
+use mathlib.Core.Path.{◌≡◌, sym, ap, ap₂, ◌∙◌}
+use native.Mathlib.Omega.{arith}
+use Rattle.compare.proofs.compare_fields.Goals.{After-compare_run-x, After-run_of-m, In-loop-j}
+use Rattle.compare.proofs.compare_fields.Goals as goal
+
+-- samples from sample j on
+abbrev from : List ℕ → ℕ → ℕ → List ℕ → ℕ → ℕ → ℕ → ℕ → Order
+from a p c b q d n j = lex_z (walk (λ x. held_value a (pair_place 6 c p x)) 1 (n - j) j) (walk (λ x. held_value b (pair_place 6 d q x)) 1 (n - j) j)
+
+pub loop-j-init : goal.loop-j-init
+loop-j-init c =
+    let a = c.args in
+    let f : ℕ → ℤ = λ x. held_value a.a.now (pair_place 6 a.c a.p x) in
+    let g : ℕ → ℤ = λ x. held_value a.b.now (pair_place 6 a.d a.q x) in
+    let e : a.n ≡ a.n - 0 = omega arith in
+    (ap (λ (k : ℕ). lex_z (walk f 1 k 0) (walk g 1 k 0)) e, omega arith)
+
+-- the run and its places, all within both records
+room : (c : In-loop-j) → (m : ℕ)
+    → let h = c.loop-j in let a = c.args in
+    h.j + m ≤ a.n
+    → (pair_place 6 a.c a.p h.j + m * 6 ≤ length a.a.now) × (pair_place 6 a.d a.q h.j + m * 6 ≤ length a.b.now)
+room c m l =
+    let h = c.loop-j in
+    let s = c.before.before.before.before in
+    let a = s.args in
+    let t = c.loop-j-test.true in
+    (omega (arith, run_room a.c s.requires.0 a.p a.n h.j m l t, s.requires.3), omega (arith, run_room a.d s.requires.1 a.q a.n h.j m l t, s.requires.4))
+
+pub compare_run-x-requires : goal.compare_run-x-requires
+compare_run-x-requires c =
+    let i = c.before.before.before in
+    let r = room i c.run_of-m.result (omega (arith, c.run_of-m.ensures, i.loop-j-test.true)) in
+    (omega (arith, r.0, c.place_of.ensures), omega (arith, r.1, c.place_of-in-loop-j.ensures))
+
+-- what the run gives
+found : (c : After-compare_run-x)
+    → let i = c.before.before.before.before in let h = i.loop-j in let a = i.args in
+    let m = run_of a.c a.d a.n h.j in
+    c.compare_run-x.result ≡ lex_z (walk (held_value a.a.now) 6 m (pair_place 6 a.c a.p h.j)) (walk (held_value a.b.now) 6 m (pair_place 6 a.d a.q h.j))
+found c =
+    let y = c.before in
+    let x = y.before in
+    let k = x.before in
+    let i = k.before in
+    let h = i.loop-j in
+    let a = i.args in
+    let f = held_value a.a.now in
+    let g = held_value a.b.now in
+    let m = run_of a.c a.d a.n h.j in
+    c.compare_run-x.ensures
+    ∙ ap (λ (z : ℕ). lex_z (walk f 6 z x.place_of.result) (walk g 6 z y.place_of-in-loop-j.result)) k.run_of-m.ensures
+    ∙ ap₂ (λ (u v : ℕ). lex_z (walk f 6 m u) (walk g 6 m v)) x.place_of.ensures y.place_of-in-loop-j.ensures
+
+-- a run, then those behind it
+next : (i : In-loop-j)
+    → let h = i.loop-j in let a = i.args in
+    let m = run_of a.c a.d a.n h.j in
+    lex_z (each (λ x. held_value a.a.now (pair_place 6 a.c a.p x)) a.n) (each (λ x. held_value a.b.now (pair_place 6 a.d a.q x)) a.n)
+    ≡ or_else (lex_z (walk (held_value a.a.now) 6 m (pair_place 6 a.c a.p h.j)) (walk (held_value a.b.now) 6 m (pair_place 6 a.d a.q h.j))) (from a.a.now a.p a.c a.b.now a.q a.d a.n (h.j + m))
+next i =
+    let h = i.loop-j in
+    let s = i.before.before.before.before in
+    let a = s.args in
+    h.invariant.0 ∙ run_next a.a.now a.b.now a.c a.d s.requires.0 s.requires.1 a.p a.q a.n h.j i.loop-j-test.true
+
+pub returns-then-decides : goal.returns-then-decides
+returns-then-decides c =
+    let d = c.before in
+    let g = d.before in
+    first_decides _ _ _ (found g) (sym d.decides.ensures ∙ c.if-decides.true) ∙ sym (next g.before.before.before.before)
+
+pub loop-j-preserved : goal.loop-j-preserved
+loop-j-preserved c =
+    let d = c.before in
+    let g = d.before in
+    let k = g.before.before.before in
+    let i = k.before in
+    let h = i.loop-j in
+    let a = i.args in
+    let m = run_of a.c a.d a.n h.j in
+    let rest : ℕ → Order = λ x. from a.a.now a.p a.c a.b.now a.q a.d a.n (h.j + x) in (
+      next i ∙ ap (λ (o : Order). or_else o (rest m)) (sym (found g) ∙ undecided g.compare_run-x.result (sym d.decides.ensures ∙ c.if-decides.false)) ∙ ap rest (sym k.run_of-m.ensures),
+      omega (arith, k.run_of-m.ensures, i.loop-j-test.true),
+    )
+
+-- a run has some samples
+some : (c : After-run_of-m) → 0 < c.run_of-m.result
+some c =
+    let i = c.before in
+    let s = i.before.before.before.before in
+    let a = s.args in
+    omega (arith, c.run_of-m.ensures, run_some a.a.now a.b.now a.c a.d s.requires.0 s.requires.1 a.p a.q a.n i.loop-j.j i.loop-j-test.true)
+
+pub returns : goal.returns
+returns c =
+    let h = c.loop-j in
+    let a = c.args in
+    let f : ℕ → ℤ = λ x. held_value a.a.now (pair_place 6 a.c a.p x) in
+    let g : ℕ → ℤ = λ x. held_value a.b.now (pair_place 6 a.d a.q x) in
+    let e : 0 ≡ a.n - h.j = omega (arith, c.loop-j-test.false) in
+    ap (λ (k : ℕ). lex_z (walk f 1 k h.j) (walk g 1 k h.j)) e ∙ sym h.invariant.0
+
+pub run_of-m-requires : goal.run_of-m-requires
+run_of-m-requires c = let s = c.before.before.before.before in (s.requires.0, s.requires.1, c.loop-j.invariant.1)
+
+pub place_of-requires : goal.place_of-requires
+place_of-requires c = let s = c.before.before.before.before.before in (s.requires.0, omega (arith, (room c.before 1 (omega (arith, c.loop-j-test.true))).0))
+
+pub place_of-requires-in-loop-j : goal.place_of-requires-in-loop-j
+place_of-requires-in-loop-j c = let s = c.before.before.before.before.before.before in (s.requires.1, omega (arith, (room c.before.before 1 (omega (arith, c.loop-j-test.true))).1))
+
+pub overflow_add-j : goal.overflow_add-j
+overflow_add-j c = omega (arith, c.run_of-m.ensures, c.loop-j-test.true)
+
+pub loop-j-smaller : goal.loop-j-smaller
+loop-j-smaller c = omega (arith, some c.before.before.before.before.before, c.loop-j-test.true)

@@ -1,0 +1,13 @@
+use Rattle.exact.specs.Order.{lex_z}
+use Rattle.record.specs.Held.{held_value}
+use Rattle.fields.specs.Fields.{each, pair_place}
+use Prim.Native.Nat.{◌-◌, ◌≤◌}
+use mathlib.Core.Path.{◌≡◌}
+use Rattle.compare.proofs.compare_fields.Given as goal
+
+abbrev pub invariant-loop-j : goal.invariant-loop-j
+invariant-loop-j l =
+    (lex_z (each (λ x. held_value l.a (pair_place 6 l.c l.p x)) l.n) (each (λ x. held_value l.b (pair_place 6 l.d l.q x)) l.n) ≡ from l.a l.p l.c l.b l.q l.d l.n l.j) × (l.j ≤ l.n)
+
+abbrev pub decreases-loop-j : goal.decreases-loop-j
+decreases-loop-j l = l.n - l.j

@@ -1,0 +1,76 @@
+-- `fit::check_body` meets its contract. Assumes nothing.
+use Rattle.fit.proofs.FitLaws.{trace_fine, fit_end, body_more, body_stop}
+use Rattle.record.proofs.FormLaws.{is_more, more_few, form_room, form_end}
+use Rattle.record.specs.Kind.{tag04}
+use Rattle.record.specs.Form.{behind_trace_in}
+use Rattle.fit.specs.Parts.{fit_from}
+use Rattle.record.specs.declared.Target.TheVariants.{Code}
+use Rattle.record.specs.Parts.{trace_by, form_from}
+use Rattle.reel.specs.Causes.{most_traces}
+use Rattle.numbers.proofs.CauseLaws.{then_last}
+use Rattle.numbers.specs.Cause.{then}
+use Rattle.numbers.specs.declared.Check.TheVariants.{Fine}
+use lib.ListN.{length}
+use mathlib.Core.Bool.{true}
+use Prim.Native.Nat.{ℕ, ◌+◌, ◌-◌, ◌≤◌, ◌<◌}
+use mathlib.Core.Path.{◌≡◌, sym, ap, ap₂, subst, ◌∙◌}
+use native.Mathlib.Omega.{arith}
+use Rattle.fit.proofs.check_body.Goals.{After-stride_at-at, In-Fine, In-loop-c}
+use Rattle.fit.proofs.check_body.Goals as goal
+
+is_more_lem : (c : In-loop-c) → is_more c.args.«record».now c.loop-c.t c.loop-c.at ≡ true
+is_more_lem c = sym c.is_trace.ensures ∙ c.loop-c-test.true
+
+few : (c : In-loop-c) → c.loop-c.t < most_traces
+few c = more_few c.args.«record».now c.loop-c.t c.loop-c.at (is_more_lem c)
+
+fine : (c : In-Fine) → let a = c.args in trace_by (Code a.code) a.«record».now a.n a.i c.loop-c.at ≡ Fine
+fine c = sym c.check_trace-c.ensures ∙ c.in-Fine.is
+
+-- the place behind the trace, which ends within the record
+behind : (c : After-stride_at-at) → let a = c.args in let at = c.loop-c.at in at + c.stride_at-at.result ≡ behind_trace_in tag04 a.«record».now a.n at
+unfolding behind_trace_in
+behind c = ap (λ (x : ℕ). c.loop-c.at + x) c.stride_at-at.ensures
+
+room : (c : After-stride_at-at) → let a = c.args in c.loop-c.at + c.stride_at-at.result ≤ length a.«record».now
+room c =
+    let b = c.before.before.before.before.before.before.before in
+    let a = b.args in
+    let s = a.«record».now in
+    let at = c.loop-c.at in
+    subst (λ (x : ℕ). x ≤ length s) (sym (behind c)) (form_room tag04 s a.n a.i at (trace_fine s a.code a.n a.i b.requires at (fine c.before)).0)
+
+pub returns-in_default : goal.returns-in_default
+returns-in_default c =
+    let h = c.before.before.before.before.before in
+    let a = c.args in
+    let s = a.«record».now in
+    let e = c.check_trace-c.ensures in
+    c.check_later.ensures ∙ ap (then (form_from s a.n a.i (most_traces - h.loop-c.t) h.loop-c.t h.loop-c.at)) e
+    ∙ body_stop s a.n a.code a.i c.requires h.loop-c.t h.loop-c.at (is_more_lem c.before.before.before) (sym e ∙ c.in_default.is) ∙ sym h.loop-c.invariant
+
+pub overflow_add-at : goal.overflow_add-at
+overflow_add-at c = omega (arith, room c)
+
+pub overflow_add-t : goal.overflow_add-t
+overflow_add-t c = omega (arith, few c.before.before.before)
+
+pub loop-c-smaller : goal.loop-c-smaller
+loop-c-smaller c = omega (arith, few c.before.before.before)
+
+pub loop-c-preserved : goal.loop-c-preserved
+loop-c-preserved c =
+    let h = c.before.before.before.before.before in
+    let b = c.before.before.before.before.before.before.before in
+    let a = b.args in
+    let s = a.«record».now in
+    h.loop-c.invariant ∙ body_more s a.n a.code a.i b.requires h.loop-c.t h.loop-c.at (is_more_lem c.before.before.before) (fine c.before)
+    ∙ ap (λ (x : ℕ). then (form_from s a.n a.i (most_traces - (h.loop-c.t + 1)) (h.loop-c.t + 1) x) (fit_from s a.code a.n (most_traces - (h.loop-c.t + 1)) x)) (sym (behind c))
+
+pub returns : goal.returns
+returns c =
+    let h = c.before.before.before in
+    let a = c.args in
+    let s = a.«record».now in
+    let none = sym c.is_trace.ensures ∙ c.loop-c-test.false in
+    c.check_end.ensures ∙ sym (then_last _) ∙ sym (h.loop-c.invariant ∙ ap₂ then (form_end s a.n a.i h.loop-c.t h.loop-c.at none) (fit_end s a.n a.code h.loop-c.t h.loop-c.at none))

@@ -1,0 +1,24 @@
+-- `record::numbers_in` meets its contract. Assumes nothing.
+use Rattle.numbers.specs.Walk.{bytes_at}
+use Rattle.numbers.specs.BigEndian.{number}
+use Rattle.record.specs.declared.Numbers.{Numbers}
+use lib.ListN.{length}
+use mathlib.Core.Logic.{⊎_elim}
+use mathlib.Core.Path.{◌≡◌, ap, ap₂, ◌∙◌}
+use Prim.Native.Nat.{ℕ, ◌-◌}
+use native.Mathlib.Omega.{arith}
+use Rattle.record.proofs.numbers_in.Goals.{Joined-size-lt4}
+use Rattle.record.proofs.numbers_in.Goals as goal
+
+-- where the last four bytes begin
+last_four : (c : Joined-size-lt4) → c.if-size-lt4.new ≡ length c.args.«record».now - 4
+last_four c = ⊎_elim (λ w. omega (arith, w.0.taken, w.1)) (λ w. w.1) c.if-size-lt4.branch
+
+pub returns : goal.returns
+returns c =
+    let b = c.before.before in
+    let s = b.args.«record».now in
+    ap₂ both c.binary_number.ensures (c.number32_at.ensures ∙ ap (λ (p : ℕ). number (bytes_at s p 4)) (last_four b))
+  where
+    both : ℕ → ℕ → Numbers
+    both n t = record { samples = n; traces = t }

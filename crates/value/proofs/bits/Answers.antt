@@ -1,0 +1,42 @@
+-- `value::bits` meets its contract. Assumes nothing.
+use Rattle.value.proofs.PartsLaws.{not_canonical, zero_pair, odd_pair}
+use Rattle.value.specs.declared.Parts.TheVariants.{Odd}
+use Rattle.value.specs.Parts.{PartsOf}
+use Rattle.formats.specs.Codes.{is_code}
+use Rattle.formats.specs.Words.{word_bits}
+use mathlib.Core.Bool.{true}
+use mathlib.Core.Path.{◌≡◌, sym, ap, subst, ◌∙◌}
+use Rattle.value.proofs.bits.Goals.{Else-not-is_code, In-Odd-2}
+use Rattle.value.proofs.bits.Goals as goal
+
+-- the code is one of the codes
+known : (c : Else-not-is_code) → is_code c.args.code ≡ true
+known c = sym c.is_code.ensures ∙ c.if-not-is_code.false
+
+-- the pair taken apart
+apart : (c : In-Odd-2) → PartsOf c.args.p (Odd c.in-Odd.neg c.in-Odd.o c.in-Odd.k)
+apart c = subst (PartsOf c.args.p) c.in-Odd.is c.parts.ensures
+
+pub returns-then-not-is_code : goal.returns-then-not-is_code
+returns-then-not-is_code c = rw (sym c.is_code.ensures ∙ c.if-not-is_code.true)
+
+pub bits_at-requires : goal.bits_at-requires
+bits_at-requires c = let a = (apart c.before).1 in (known c.before.before, a.odd, a.low, a.few)
+
+pub returns-in-NotCanonical : goal.returns-in-NotCanonical
+returns-in-NotCanonical c =
+    let e = c.before.before in
+    let a = e.args in
+    sym (ap word_bits (not_canonical a.code a.p (known e) (subst (PartsOf a.p) c.in-NotCanonical.is c.parts.ensures)))
+
+pub returns-in-Zero : goal.returns-in-Zero
+returns-in-Zero c =
+    let e = c.before.before in
+    let a = e.args in
+    sym (ap word_bits (zero_pair a.code a.p (known e) (subst (PartsOf a.p) c.in-Zero.is c.parts.ensures)))
+
+pub returns-in-Odd : goal.returns-in-Odd
+returns-in-Odd c =
+    let e = c.before.before.before in
+    let a = e.args in
+    c.bits_at.ensures ∙ ap word_bits (sym (odd_pair a.code a.p (known e) _ _ _ (apart c.before.before)))

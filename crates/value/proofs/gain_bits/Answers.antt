@@ -1,0 +1,96 @@
+-- `value::gain_bits` meets its contract. Assumes nothing.
+use Rattle.formats.proofs.GainLaws.{gain_zero, left_few, left_div, gain_placed}
+use Rattle.formats.specs.Codes.{gain_format}
+use Rattle.formats.specs.Format.{unit}
+use Rattle.formats.specs.Steps.{Length}
+use Rattle.formats.specs.Words.{gain_word, word_bits}
+use Rattle.numbers.specs.SignMagnitude.{sign_magnitude}
+use Rattle.numbers.specs.TwosComplement.{bits_of}
+use Rattle.numbers.specs.Walk.{pick}
+use Rattle.numbers.proofs.Magnitudes.{signed_zero}
+use Rattle.value.specs.Pair.{mantissa_bits}
+use Rattle.value.proofs.PlaceLaws.{length_full, length_less}
+use Rattle.value.proofs.Twos.{Split, split, trailing_lt, odd_pos, odd_shl}
+use lib.Count.{count_trailing_zeros}
+use Prim.Native.Nat.{ℕ, ◌+◌, ◌-◌, ◌*◌, ◌/◌, ◌^◌, ◌≤◌, ◌<◌, min}
+use native.Mathlib.Nat.{zero-mul, div-le_self}
+use mathlib.Core.Bool.{Bool, true, false}
+use mathlib.Core.Path.{◌≡◌, sym, ap, ap₂, subst, ◌∙◌}
+use native.Mathlib.Omega.{arith}
+use lib.IntN.{ℤ}
+use Rattle.value.proofs.gain_bits.Goals.{After-lesser-t, After-shifted_down, Else-f-eq0}
+use Rattle.value.proofs.gain_bits.Goals as goal
+
+-- an odd number below its limit has a length
+long : (s : Bool) (o : ℕ) → 0 < o → o < 2 ^ (mantissa_bits - 1) → (n : ℕ) × Length (pick s 1 0) o n
+long true o some few = (_, length_less o some few)
+long false o some few = (_, length_full o some few)
+
+module _ (c : Else-f-eq0) where
+  abbrev f : ℕ
+  f = c.args.f
+
+  abbrev twos : ℕ
+  twos = count_trailing_zeros mantissa_bits f
+
+  some : 0 < f
+  some = omega (arith, c.if-f-eq0.false)
+
+  few : f < 2 ^ (mantissa_bits - 1)
+  few = go c.args.neg c.requires.1
+    where
+      go : (s : Bool) → f < 2 ^ 15 + pick s 1 0 → f < 2 ^ (mantissa_bits - 1)
+      go true l = omega arith
+      go false l = omega arith
+
+  -- the fraction is an odd number times a power of two
+  parts : Split f twos
+  parts = split mantissa_bits f some (omega (arith, few))
+
+  short : twos < mantissa_bits
+  short = trailing_lt mantissa_bits f some (omega (arith, few))
+
+  size : (n : ℕ) × Length (pick c.args.neg 1 0) parts.o n
+  size =
+      let l : f / 2 ^ twos ≤ f = div-le_self f (2 ^ twos) in
+      long c.args.neg parts.o (odd_pos parts.o parts.odd) (omega (arith, l, parts.shifted, few))
+
+pub returns-then-f-eq0 : goal.returns-then-f-eq0
+returns-then-f-eq0 c =
+    let a = c.args in
+    sym (ap (λ (f : ℕ). word_bits (gain_word (sign_magnitude a.neg (f * unit gain_format a.c)))) c.if-f-eq0.true
+    ∙ ap (λ (y : ℕ). word_bits (gain_word (sign_magnitude a.neg y))) (zero-mul (unit gain_format a.c)) ∙ ap (λ (v : ℤ). word_bits (gain_word v)) (signed_zero a.neg) ∙ ap word_bits gain_zero)
+
+-- t of its twos are taken out
+count : (c : After-lesser-t) → c.lesser-t.result ≡ min (twos c.before) (255 - c.args.c)
+count c = c.lesser-t.ensures
+
+pub shifted_down-requires : goal.shifted_down-requires
+shifted_down-requires c = omega (arith, count c, short c.before)
+
+-- what is left of it
+rest : (c : After-shifted_down) → let e = c.before.before in c.shifted_down.result ≡ f e / 2 ^ min (twos e) (255 - e.args.c)
+rest c = let e = c.before.before in c.shifted_down.ensures ∙ ap (λ (t : ℕ). f e / 2 ^ t) (count c.before)
+
+pub complement-requires : goal.complement-requires
+complement-requires c =
+    let e = c.before.before in
+    let a = e.args in
+    let p = parts e in
+    let z = size e in
+    let some = odd_shl p.o (twos e - min (twos e) (255 - a.c)) p.odd in (
+      omega arith,
+      omega arith,
+      omega (arith, rest c, left_div a.neg p.o (twos e) a.c a.f z.0 p.odd p.is e.requires.0 e.requires.1 z.1, some),
+      subst (λ (y : ℕ). y < 2 ^ 15 + pick a.neg 1 0) (sym (rest c)) (left_few a.neg p.o (twos e) a.c a.f z.0 p.odd p.is e.requires.0 e.requires.1 z.1),
+    )
+
+pub returns : goal.returns
+returns c =
+    let d = c.before in
+    let e = d.before.before in
+    let a = e.args in
+    let p = parts e in
+    let z = size e in
+    ap₂ (λ (t q : ℕ). (255 - a.c - t) * 0x1_0000 + q) (count d.before) (c.complement.ensures.0 ∙ ap (λ (q : ℕ). bits_of 16 (sign_magnitude a.neg q)) (rest d))
+    ∙ ap word_bits (sym (gain_placed a.neg p.o (twos e) a.c a.f z.0 p.odd p.is e.requires.0 e.requires.1 z.1))

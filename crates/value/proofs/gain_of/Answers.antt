@@ -1,0 +1,58 @@
+-- `value::gain_of` meets its contract. Assumes nothing.
+use Rattle.formats.proofs.GainLaws.{gain_base, gain_low, gain_high, gain_few, gain_at_lem}
+use Rattle.formats.specs.Steps.{Length}
+use Rattle.numbers.specs.Walk.{pick}
+use Rattle.value.proofs.PlaceLaws.{shift_fits, fraction_fits}
+use Rattle.value.proofs.Twos.{odd_pos, odd_shl}
+use Prim.Native.Nat.{◌+◌, ◌-◌, ◌*◌, ◌^◌, ◌≤◌, ◌<◌}
+use mathlib.Core.Path.{sym}
+use native.Mathlib.Omega.{arith}
+use Rattle.value.proofs.gain_of.Goals.{After-length_of, Else-c-length_of, Start}
+use Rattle.value.proofs.gain_of.Goals as goal
+
+module _ (c : After-length_of) where
+  abbrev start : Start
+  start = c.before.before.before
+
+  length : Length (pick start.args.neg 1 0) start.args.o c.length_of.result
+  length = c.length_of.ensures.0
+
+  reached : gain_base ≤ start.args.k
+  reached = c.if-k-lt-GAIN_BASE.false
+
+pub returns-then-k-lt-GAIN_BASE : goal.returns-then-k-lt-GAIN_BASE
+returns-then-k-lt-GAIN_BASE c =
+    let a = c.args in
+    sym (gain_low a.neg a.o a.k c.requires.0 c.if-k-lt-GAIN_BASE.true)
+
+pub returns-then-c-length_of : goal.returns-then-c-length_of
+returns-then-c-length_of c =
+    let l = c.before in
+    let a = (start l).args in
+    sym (gain_high a.neg a.o a.k (start l).requires.0 _ (length l) l.lesser-c.result l.lesser-c.ensures (reached l) c.if-c-length_of.true)
+
+-- the number is one of 16 bits
+few : (c : Else-c-length_of) → let a = (start c.before).args in a.o * 2 ^ (a.k - (gain_base + c.lesser-c.result)) < 2 ^ 15 + pick a.neg 1 0
+few c =
+    let l = c.before in
+    let a = (start l).args in
+    gain_few a.neg a.o a.k (start l).requires.0 _ (length l) l.lesser-c.result l.lesser-c.ensures (reached l) c.if-c-length_of.false
+
+pub shifted_up-requires : goal.shifted_up-requires
+shifted_up-requires c =
+    let a = (start c.before).args in
+    let f = fraction_fits _ 15 a.neg (omega arith) (few c) in
+    (shift_fits a.o _ (odd_pos a.o (start c.before).pre.0) f, f)
+
+pub complement-d-requires : goal.complement-d-requires
+complement-d-requires c =
+    let s = start c.before.before in
+    (omega arith, omega arith, rw c.shifted_up.ensures (odd_shl s.args.o _ s.pre.0), rw c.shifted_up.ensures (few c.before))
+
+pub returns : goal.returns
+returns c =
+    let e = c.before.before in
+    let l = e.before in
+    let a = (start l).args in
+    rw (c.complement-d.ensures.0, c.shifted_up.ensures)
+    (sym (gain_at_lem a.neg a.o a.k (start l).requires.0 _ (length l) l.lesser-c.result l.lesser-c.ensures (reached l) e.if-c-length_of.false))

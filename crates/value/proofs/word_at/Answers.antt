@@ -1,0 +1,45 @@
+-- `value::word_at` meets its contract. Assumes nothing.
+use Rattle.formats.proofs.CodeLaws.{ibm_float, single_float, last_code}
+use Rattle.formats.specs.Steps.{Float}
+use Rattle.formats.specs.Words.{float_word}
+use Rattle.formats.specs.declared.Format.{Format}
+use Rattle.numbers.specs.SignMagnitude.{sign_magnitude}
+use Prim.Native.Nat.{◌*◌, ◌^◌}
+use lib.IntN.{ℤ}
+use mathlib.Core.Path.{sym, ap, subst, ◌∙◌}
+use Rattle.value.proofs.word_at.Goals.{Start}
+use Rattle.value.proofs.word_at.Goals as goal
+
+abbrev value : Start → ℤ
+value s = sign_magnitude s.args.neg (s.args.o * 2 ^ s.args.k)
+
+pub float_of-requires : goal.float_of-requires
+float_of-requires c =
+    let s = c.before.before in
+    (subst (λ (x : Format). Float x 32 24) (sym c.format_of.ensures) ibm_float, s.requires.1, s.requires.2, s.requires.3)
+
+pub float_of-requires-in-5 : goal.float_of-requires-in-5
+float_of-requires-in-5 c =
+    let s = c.before.before in
+    (subst (λ (x : Format). Float x 32 23) (sym c.format_of-in-5.ensures) single_float, s.requires.1, s.requires.2, s.requires.3)
+
+pub returns-in-1 : goal.returns-in-1
+returns-in-1 c = rw c.in-1.is (c.float_of.ensures ∙ ap (λ (x : Format). float_word x 32 24 (value c.before.before.before)) c.format_of.ensures)
+
+pub returns-in-2 : goal.returns-in-2
+returns-in-2 c = rw c.in-2.is c.whole_of.ensures
+
+pub returns-in-3 : goal.returns-in-3
+returns-in-3 c = rw c.in-3.is c.whole_of-in-3.ensures
+
+pub returns-in-4 : goal.returns-in-4
+returns-in-4 c = rw c.in-4.is c.gain_of.ensures
+
+pub returns-in-5 : goal.returns-in-5
+returns-in-5 c = rw c.in-5.is (c.float_of-in-5.ensures ∙ ap (λ (x : Format). float_word x 32 23 (value c.before.before.before)) c.format_of-in-5.ensures)
+
+pub returns-in_default : goal.returns-in_default
+returns-in_default c =
+    let r = c.in_default.in_default-own.rest in
+    let s = c.before.before.before in
+    rw (last_code s.args.code s.requires.0 r.0.0.0.0.1 r.0.0.0.1 r.0.0.1 r.0.1 r.1) c.whole_of-in_default.ensures
