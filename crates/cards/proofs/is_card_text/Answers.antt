@@ -27,7 +27,7 @@ pub slice_bounds-word_of-end : goal.slice_bounds-word_of-end
 slice_bounds-word_of-end c = omega (arith, c.loop-words-test.true, c.loop-words.invariant.0, c.if-cards-ne3200.false)
 
 pub word_of-requires : goal.word_of-requires
-word_of-requires c = c.word_of-arg-1.given.2 ∙ eight c.loop-words.at
+word_of-requires c = c.word_of-arg-1.given.1 ∙ eight c.loop-words.at
 
 pub loop-words-preserved : goal.loop-words-preserved
 loop-words-preserved c =
@@ -36,7 +36,7 @@ loop-words-preserved c =
     let some = c.loop-words-test.true in
     let e = l.at + 8 in
     let part = take (e - l.at) (drop l.at s) in
-    let size : length part ≡ 8 = c.word_of-arg-1.given.2 ∙ eight l.at in
+    let size : length part ≡ 8 = c.word_of-arg-1.given.1 ∙ eight l.at in
     let bytes = all_bytes s (λ i. omega (arith, c.shared_slice_known-1.given i)) in
     let marks = c.zero_marks-zeros.ensures ∙ ap (each zero_mark 8) c.word_of.ensures in
     let none : eqb c.zero_marks-zeros.result 0 ≡ no_zero part = ap (λ (m : ℕ). eqb m 0) marks ∙ low_marks part size (all_take (λ b. b < 256) (e - l.at) (drop l.at s) (all_drop (λ b. b < 256) l.at s bytes)) in (

@@ -39,7 +39,7 @@ slice_bounds-put_eight-end-in-loop-steps c = omega (arith, c.loop-steps-test.tru
 pub put_eight-requires : goal.put_eight-requires
 put_eight-requires c =
     let at = c.loop-steps.at in
-    (c.put_eight-arg-1.given.2 ∙ eight at, c.put_eight-arg-in-loop-steps-1.given.2 ∙ eight at)
+    (c.put_eight-arg-1.given.1 ∙ eight at, c.put_eight-arg-in-loop-steps-1.given.2 ∙ eight at)
 
 pub loop-steps-preserved : goal.loop-steps-preserved
 loop-steps-preserved c =
@@ -48,7 +48,7 @@ loop-steps-preserved c =
     let some = c.loop-steps-test.true in
     let e = l.at + 8 in
     let part = take (e - l.at) (drop l.at s) in
-    let size = c.put_eight-arg-1.given.2 in
+    let size = c.put_eight-arg-1.given.1 in
     let rest = ap (map blank) (next_part s l.at e (omega arith)) ∙ map-append blank part (drop e s) in
     let put = lend (map blank part) (map blank (drop e s)) e (again l.invariant.2 rest) (omega arith) (length-map part blank ∙ size) c.put_eight.ensures in
     (omega (arith, some, l.invariant.0), put.size ∙ sym l.invariant.2.size ∙ l.invariant.1, put)

@@ -77,4 +77,4 @@ pub slice_bounds-same_bytes-end-2 : goal.slice_bounds-same_bytes-end-2
 slice_bounds-same_bytes-end-2 c = omega (arith, (room c.before).1)
 
 pub same_bytes-requires : goal.same_bytes-requires
-same_bytes-requires c = c.same_bytes-arg-1.given.2 ∙ sym c.same_bytes-arg-2-1.given.2
+same_bytes-requires c = c.same_bytes-arg-1.given.1 ∙ sym c.same_bytes-arg-2-1.given.1

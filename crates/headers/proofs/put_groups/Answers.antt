@@ -21,6 +21,6 @@ returns c =
     let a = s.args in
     let e = elevations_copied a.reel.now a.at in
     let d = coordinates_copied a.reel.now a.at in
-    let header = copied _ _ copy.copy.ensures (omega (arith, s.requires.1, copy.copy-arg-1.given.2)) ∙ bytes_between a.reel.now a.at (a.at + header_size) header_size s.requires.0 refl in
+    let header = copied _ _ copy.copy.ensures (omega (arith, s.requires.1, copy.copy-arg-1.given.1)) ∙ bytes_between a.reel.now a.at (a.at + header_size) header_size s.requires.0 refl in
     over _ d 70 88 (omega (arith, size_coordinates a.reel.now a.at)) second.put_coordinates.ensures
     ∙ ap (λ (l : List ℕ). overwritten l 70 d) (over _ e 40 70 (omega (arith, size_elevations a.reel.now a.at)) first.put_elevations.ensures ∙ ap (λ (l : List ℕ). overwritten l 40 e) header)

@@ -67,7 +67,7 @@ loop-left-preserved c =
     let z = to_z w32 (of_z w32 a.factor) in
     let product : to_z w32 (of_z w32 c.times.result) ≡ number4 r l.p *ℤ z =
     to_z-of_z {w = w32} (sfits_of c.times.type_inv) ∙ c.times.ensures ∙ ap (λ (n : ℤ). n *ℤ z) (number_is c.before.before.before.before.before.before) in
-    let e = copied _ _ c.put32.ensures (omega (arith, c.put32-arg-1.given.2)) ∙ ap (bytes_of 4) (c.bits32.ensures ∙ ap (bits_of 32) product) in
+    let e = copied _ _ c.put32.ensures (omega (arith, c.put32-arg-1.given.1)) ∙ ap (bytes_of 4) (c.bits32.ensures ∙ ap (bits_of 32) product) in
     let f = part_put (stored z) (number4 r) 4 4 (λ x. refl) l.left l.p l.o (l.o + 4) t.loop-left-test.true refl l.invariant.4 e in
     (omega (arith, l.invariant.0, t.loop-left-test.true), f.size ∙ sym l.invariant.4.size ∙ l.invariant.1, omega (arith, l.invariant.2, t.loop-left-test.true), (fit_more r z l.left l.p t.loop-left-test.true l.invariant.3).1, f)
 

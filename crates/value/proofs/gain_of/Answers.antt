@@ -42,12 +42,12 @@ pub shifted_up-requires : goal.shifted_up-requires
 shifted_up-requires c =
     let a = (start c.before).args in
     let f = fraction_fits _ 15 a.neg (omega arith) (few c) in
-    (shift_fits a.o _ (odd_pos a.o (start c.before).pre.0) f, f)
+    (shift_fits a.o _ (odd_pos a.o (start c.before).requires.0) f, f)
 
 pub complement-d-requires : goal.complement-d-requires
 complement-d-requires c =
     let s = start c.before.before in
-    (omega arith, omega arith, rw c.shifted_up.ensures (odd_shl s.args.o _ s.pre.0), rw c.shifted_up.ensures (few c.before))
+    (omega arith, omega arith, rw c.shifted_up.ensures (odd_shl s.args.o _ s.requires.0), rw c.shifted_up.ensures (few c.before))
 
 pub returns : goal.returns
 returns c =

@@ -28,7 +28,7 @@ module _ (c : After-lowest-c) where
   low = c.lowest-c.ensures
 
   rounds : ShortDigits start.args.x
-  rounds = record { small = start.pre.1; steps = start.pre.0.steps; some = start.pre.0.some }
+  rounds = record { small = start.requires.1; steps = start.requires.0.steps; some = start.requires.0.some }
 
 pub returns-then-end-c : goal.returns-then-end-c
 returns-then-end-c c =

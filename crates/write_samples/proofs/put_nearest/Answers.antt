@@ -81,7 +81,7 @@ last c =
     (t.0 ∙ ap (λ (w : Rounded). w.changed) e, omega (arith, t.0, changed_most a.code p.result), t.1 ∙ ap (rounded_bytes a.code) e)
 
 pub put_nearest_word-requires : goal.put_nearest_word-requires
-put_nearest_word-requires c = (c.requires.0, c.put_nearest_word-arg-1.given.2 ∙ omega arith ∙ c.loop-left.invariant.1)
+put_nearest_word-requires c = (c.requires.0, c.put_nearest_word-arg-1.given.1 ∙ omega arith ∙ c.loop-left.invariant.1)
 
 pub overflow_cast-count : goal.overflow_cast-count
 overflow_cast-count c = record { fits = omega (arith, (word c.before.before).1) }
@@ -144,7 +144,7 @@ pub slice_bounds-put_rounded-end : goal.slice_bounds-put_rounded-end
 slice_bounds-put_rounded-end c = omega (arith, c.loop-left.invariant.2, c.loop-left.invariant.3)
 
 pub put_rounded-requires : goal.put_rounded-requires
-put_rounded-requires c = (c.requires.0, c.put_rounded-arg-1.given.2 ∙ omega arith ∙ c.loop-left.invariant.1)
+put_rounded-requires c = (c.requires.0, c.put_rounded-arg-1.given.1 ∙ omega arith ∙ c.loop-left.invariant.1)
 
 pub overflow_cast-result : goal.overflow_cast-result
 overflow_cast-result c = record { fits = omega (arith, (last c.before.before).1) }
