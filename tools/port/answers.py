@@ -111,16 +111,6 @@ def turn(crate, path, names, said):
             place = entry["places"][indices[place]][1]
         return place
 
-    def fewer(place, k):
-        """How many steps it is today from a place to the one k steps before it: an arm is one step with the tests in it."""
-        steps = 0
-        while k > 0:
-            n = arms[indices[place]][1] if arms[indices[place]] else 1
-            k -= n
-            place = above(place, n)
-            steps += 1
-        return steps if k == 0 else None
-
     def steps_of(way):
         """The steps on the way to a place, by their old names, and what their fields are called; then those of all places."""
         steps, fields = {}, {}
@@ -182,25 +172,31 @@ def turn(crate, path, names, said):
     plain = {"args", "ranges", "requires", "well_formed", "well-formed", "type_inv", "type-inv", "lifetimes", "given", "result", "ensures", "new", "pre"}
     everywhere = steps_of([])
 
-    def path_in(var, place, tail):
+    # the places that a lemma of the file is stated at
+    stated = {dashed[norm(m)] for m in re.findall(r"tie\.([A-Z][\w'-]*)", text) if norm(m) in dashed}
+    today = dict(zip((p[0] for p in entry["places"]), entry["places_by_name"]))
+
+    def value_of(known, k):
+        """The place k steps before a known one: by its name where a lemma is stated at it, else as what comes after it."""
+        root, label, place = known
+        q = above(place, k)
+        return f"(goal.at.{label} {root}).{today[q]}" if q in stated and label else root
+
+    def path_in(var, known, tail):
         """A path from a variable, in today's words."""
         tokens = tail[1:].split(".")
         k = 0
         while k < len(tokens) and tokens[k] == "before":
             k += 1
         rest = tokens[k:]
-        if place is not None:
-            at = above(place, k)
-            steps, fields = steps_of(way_to(place))
+        if known is not None:
             if not rest:
-                n = fewer(place, k)
-                if n is None:
-                    said.append(f"{path}: {var}{tail} from {place} is inside an arm")
-                    n = k
-                return var + ".before" * n
+                return value_of(known, k)
+            steps, fields = steps_of(way_to(known[2]))
         else:
             steps, fields = everywhere
             if not rest:
+                said.append(f"{path}: {var}{tail}, from where?")
                 return var + tail
             if k == 0 and var not in ("", "c"):
                 return var + tail
@@ -215,54 +211,57 @@ def turn(crate, path, names, said):
             else:
                 if n in steps:
                     rest = steps[n].split(".") + rest[1:]
-        rest = ["well_formed" if r == "well-formed" else "type_inv" if r == "type-inv" else r for r in rest]
+        rest = [{"well-formed": "well_formed", "type-inv": "type_inv", "pre": "requires"}.get(r, r) for r in rest]
         return ".".join([var] + rest)
 
     def paths_in(t, env):
         out, at = [], 0
-        for m in re.finditer(r"(?<![\w'.-])let ([\w'-]+) = ([\w'-]+)((?:\.before)*) in\b|(?<![\w'.-])([a-zA-Z][\w'-]*|\))((?:\.[\w'«»-]+)+)", t):
+        for m in re.finditer(r"(?<![\w'.-])let ([\w'-]+) = ([\w'-]+)((?:\.before)*) in\b|(?<![\w'.-])([a-zA-Z][\w'-]*|\))((?:\.[\w'«»-]+)+)|(?<![\w'.λ-])(?<!λ )([a-z])(?![\w'.-])", t):
             out.append(t[at : m.start()])
             at = m.end()
             if m.group(1):
-                place = env.get(m.group(2))
-                if place is not None:
+                known = env.get(m.group(2))
+                if known is not None:
                     k = len(m.group(3)) // 7
-                    env[m.group(1)] = above(place, k)
-                    n = fewer(place, k)
-                    if n is None:
-                        said.append(f"{path}: {m.group(0)} from {place} is inside an arm")
-                        n = k
-                    out.append(f"let {m.group(1)} = {m.group(2)}{'.before' * n} in")
+                    env[m.group(1)] = (known[0], known[1], above(known[2], k))
+                    out.append(f"let {m.group(1)} = {value_of(known, k)} in")
                 else:
                     env.pop(m.group(1), None)
+                    out.append(m.group(0))
+            elif m.group(6):
+                known = env.get(m.group(6))
+                if known is not None and known[0] == m.group(6) and known[2] in stated and known[1] and re.match(r"[\s)]", t[m.end() : m.end() + 1] or " ") and not re.match(r"(?: [\w'«»]+)* (?:=|:)\s", t[m.end() :]):
+                    out.append(value_of(known, 0))
+                else:
                     out.append(m.group(0))
             else:
                 var = m.group(4)
                 if var == ")":
-                    tail = path_in("", None, m.group(5))
-                    out.append(")" + tail)
+                    out.append(")" + path_in("", None, m.group(5)))
                 else:
                     out.append(path_in(var, env.get(var), m.group(5)))
         out.append(t[at:])
         return "".join(out)
 
     constants = {}
-    for m in re.finditer(r"(?m)^\s*(?:abbrev )?([\w'-]+) : tie\.([A-Z][\w'-]*)", text):
+    for m in re.finditer(r"(?m)^\s*(?:abbrev )?([\w'-]+) : tie\.([A-Z][\w'-]*)(?: [\w' -]*)?$", text):
         if norm(m.group(2)) in dashed:
-            constants[m.group(1)] = dashed[norm(m.group(2))]
+            constants[m.group(1)] = (m.group(1), None, dashed[norm(m.group(2))])
 
-    def turned(t, place=None):
+    def turned(t, place=None, label=None):
         env = dict(constants)
         for m in re.finditer(r"\(([\w' -]+) : tie\.([A-Z][\w'-]*)", t):
             for v in m.group(1).split():
                 if norm(m.group(2)) in dashed:
-                    env[v] = dashed[norm(m.group(2))]
+                    q = dashed[norm(m.group(2))]
+                    env[v] = (v, today[q], q)
         if place is not None:
-            env["c"] = place
+            env["c"] = ("c", label, place)
         t = re.sub(r"λ c κs\.", "λ c.", t)
         t = places_in(paths_in(t, env))
         t = re.sub(r"not-true (?:[\w'.-]+|_) ([\w'.-]+\.true)(?![\w'.-])", r"\1", t)
         t = re.sub(r"not-false (?:[\w'.-]+|_) ([\w'.-]+\.false)(?![\w'.-])", r"\1", t)
+        t = re.sub(r"(-arg(?:-\d+)+\.given)\.2", r"\1.1", t)
         for_names = {o: n for o, n in named.items() if n and o != n}
         if for_names:
             t = re.sub(r"(?<![\w'.-])(" + "|".join(sorted(map(re.escape, for_names), key=len, reverse=True)) + r")(?![\w'-]|\s*:\s)", lambda m: for_names[m.group(1)], t)
@@ -340,11 +339,11 @@ def turn(crate, path, names, said):
                     text_of.append("\0" + re.sub(r"^( c) κs\b", r"\1", l[len(name):]))
                 else:
                     text_of.append(l)
-            out.append("\n".join(lines + [turned("\n".join(text_of), where[new]).replace("\0", new)]))
+            out.append("\n".join(lines + [turned("\n".join(text_of), where[new], new).replace("\0", new)]))
             continue
         out.append(turned(t))
     for new, a in inline:
-        a = turned(re.sub(r"^\((.*)\)$", r"\1", a, flags=re.S), where.get(new))
+        a = turned(re.sub(r"^\((.*)\)$", r"\1", a, flags=re.S), where.get(new), new)
         m = re.match(r"λ c\. ?", a)
         if new is None:
             said.append(f"{path}: an answer without a place: {a[:80]}")

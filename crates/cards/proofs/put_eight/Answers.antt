@@ -11,8 +11,8 @@ use Rattle.cards.proofs.put_eight.Goals as goal
 
 pub returns : goal.returns
 returns c =
-    let word = c.before.before.before.before in
-    let known = word.before.before.before in
+    let word = c in
+    let known = c in
     let l = known.args.cards.now in
     c.put_word.ensures
     ∙ ap (λ (w : ℕ). reverse (bytes_of 8 w)) (word.blank_eight.ensures ∙ ap (λ (x : ℕ). number (map blank (bytes_of 8 x))) word.word_of.ensures)

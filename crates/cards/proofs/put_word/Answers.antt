@@ -9,7 +9,7 @@ use Rattle.cards.proofs.put_word.Goals as goal
 
 pub returns : goal.returns
 returns c =
-    let s = c.before.before in
+    let s = c in
     rw c.le_bytes64-b.ensures (stored (reverse (bytes_of 8 s.args.word)) s.args.out.now s.requires)
 
 pub shape_of-out : goal.shape_of-out

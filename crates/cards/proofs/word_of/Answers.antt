@@ -8,5 +8,5 @@ use Rattle.cards.proofs.word_of.Goals as goal
 
 pub returns : goal.returns
 returns c =
-    let s = c.before.before.before.before.before.before.before.before.before.before in
+    let s = c in
     c.le64.ensures ∙ sym (ap (λ (l : List ℕ). number (reverse l)) (eight_is s.args.cards.now s.requires))

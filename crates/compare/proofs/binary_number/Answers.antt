@@ -12,9 +12,9 @@ use Rattle.compare.proofs.binary_number.Goals as goal
 -- the field's place
 place : (c : After-field_at) → place_no c.field_at.result ≡ byte_place binary_start (byte_no c.args.b)
 place c =
-    let s = c.before.before in
+    let s = c in
     let l : 6 + byte_no s.args.b < 2 ^ 64 = search rules in
     ap place_no (c.field_at.ensures ∙ field_place_lem (record { 0 = 6 }) s.args.b s.requires l)
 
 pub returns : goal.returns
-returns c = c.number16_at.ensures ∙ ap (number16 c.args.s.now) (place c.before)
+returns c = c.number16_at.ensures ∙ ap (number16 c.args.s.now) (place (goal.at.returns c).After-field_at)

@@ -17,7 +17,7 @@ byte : (c : After-shared_slice_known-1) → get_or c.args.s.now c.args.at 0 < 25
 byte c = omega (arith, c.shared_slice_known-1.given c.args.at)
 
 pub overflow_cast-result : goal.overflow_cast-result
-overflow_cast-result c = record { sfits = omega (arith, byte c) }
+overflow_cast-result c = record { sfits = omega (arith, byte (goal.at.overflow_cast-result c).After-shared_slice_known-1) }
 
 pub returns : goal.returns
-returns c = to_z_pos w32 (let l : get_or c.args.s.now c.args.at 0 < 2 ^ 31 = omega (arith, byte c) in l)
+returns c = to_z_pos w32 (let l : get_or c.args.s.now c.args.at 0 < 2 ^ 31 = omega (arith, byte (goal.at.returns c).After-shared_slice_known-1) in l)

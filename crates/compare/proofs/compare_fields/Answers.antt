@@ -36,27 +36,27 @@ room : (c : In-loop-j) → (m : ℕ)
     → (pair_place 6 a.c a.p h.j + m * 6 ≤ length a.a.now) × (pair_place 6 a.d a.q h.j + m * 6 ≤ length a.b.now)
 room c m l =
     let h = c.loop-j in
-    let s = c.before.before.before.before in
+    let s = c in
     let a = s.args in
     let t = c.loop-j-test.true in
     (omega (arith, run_room a.c s.requires.0 a.p a.n h.j m l t, s.requires.3), omega (arith, run_room a.d s.requires.1 a.q a.n h.j m l t, s.requires.4))
 
 pub compare_run-x-requires : goal.compare_run-x-requires
 compare_run-x-requires c =
-    let i = c.before.before.before in
+    let i = (goal.at.compare_run-x-requires c).In-loop-j in
     let r = room i c.run_of-m.result (omega (arith, c.run_of-m.ensures, i.loop-j-test.true)) in
     (omega (arith, r.0, c.place_of.ensures), omega (arith, r.1, c.place_of-in-loop-j.ensures))
 
 -- what the run gives
 found : (c : After-compare_run-x)
-    → let i = c.before.before.before.before in let h = i.loop-j in let a = i.args in
+    → let i = (goal.at.After-compare_run-x c).In-loop-j in let h = i.loop-j in let a = i.args in
     let m = run_of a.c a.d a.n h.j in
     c.compare_run-x.result ≡ lex_z (walk (held_value a.a.now) 6 m (pair_place 6 a.c a.p h.j)) (walk (held_value a.b.now) 6 m (pair_place 6 a.d a.q h.j))
 found c =
-    let y = c.before in
-    let x = y.before in
-    let k = x.before in
-    let i = k.before in
+    let y = c in
+    let x = c in
+    let k = (goal.at.After-compare_run-x c).After-run_of-m in
+    let i = (goal.at.After-compare_run-x c).In-loop-j in
     let h = i.loop-j in
     let a = i.args in
     let f = held_value a.a.now in
@@ -74,22 +74,22 @@ next : (i : In-loop-j)
     ≡ or_else (lex_z (walk (held_value a.a.now) 6 m (pair_place 6 a.c a.p h.j)) (walk (held_value a.b.now) 6 m (pair_place 6 a.d a.q h.j))) (from a.a.now a.p a.c a.b.now a.q a.d a.n (h.j + m))
 next i =
     let h = i.loop-j in
-    let s = i.before.before.before.before in
+    let s = i in
     let a = s.args in
     h.invariant.0 ∙ run_next a.a.now a.b.now a.c a.d s.requires.0 s.requires.1 a.p a.q a.n h.j i.loop-j-test.true
 
 pub returns-then-decides : goal.returns-then-decides
 returns-then-decides c =
-    let d = c.before in
-    let g = d.before in
-    first_decides _ _ _ (found g) (sym d.decides.ensures ∙ c.if-decides.true) ∙ sym (next g.before.before.before.before)
+    let d = c in
+    let g = (goal.at.returns-then-decides c).After-compare_run-x in
+    first_decides _ _ _ (found g) (sym d.decides.ensures ∙ c.if-decides.true) ∙ sym (next (goal.at.returns-then-decides c).In-loop-j)
 
 pub loop-j-preserved : goal.loop-j-preserved
 loop-j-preserved c =
-    let d = c.before in
-    let g = d.before in
-    let k = g.before.before.before in
-    let i = k.before in
+    let d = c in
+    let g = (goal.at.loop-j-preserved c).After-compare_run-x in
+    let k = (goal.at.loop-j-preserved c).After-run_of-m in
+    let i = (goal.at.loop-j-preserved c).In-loop-j in
     let h = i.loop-j in
     let a = i.args in
     let m = run_of a.c a.d a.n h.j in
@@ -101,8 +101,8 @@ loop-j-preserved c =
 -- a run has some samples
 some : (c : After-run_of-m) → 0 < c.run_of-m.result
 some c =
-    let i = c.before in
-    let s = i.before.before.before.before in
+    let i = (goal.at.After-run_of-m c).In-loop-j in
+    let s = c in
     let a = s.args in
     omega (arith, c.run_of-m.ensures, run_some a.a.now a.b.now a.c a.d s.requires.0 s.requires.1 a.p a.q a.n i.loop-j.j i.loop-j-test.true)
 
@@ -116,16 +116,16 @@ returns c =
     ap (λ (k : ℕ). lex_z (walk f 1 k h.j) (walk g 1 k h.j)) e ∙ sym h.invariant.0
 
 pub run_of-m-requires : goal.run_of-m-requires
-run_of-m-requires c = let s = c.before.before.before.before in (s.requires.0, s.requires.1, c.loop-j.invariant.1)
+run_of-m-requires c = let s = c in (s.requires.0, s.requires.1, c.loop-j.invariant.1)
 
 pub place_of-requires : goal.place_of-requires
-place_of-requires c = let s = c.before.before.before.before.before in (s.requires.0, omega (arith, (room c.before 1 (omega (arith, c.loop-j-test.true))).0))
+place_of-requires c = let s = c in (s.requires.0, omega (arith, (room (goal.at.place_of-requires c).In-loop-j 1 (omega (arith, c.loop-j-test.true))).0))
 
 pub place_of-requires-in-loop-j : goal.place_of-requires-in-loop-j
-place_of-requires-in-loop-j c = let s = c.before.before.before.before.before.before in (s.requires.1, omega (arith, (room c.before.before 1 (omega (arith, c.loop-j-test.true))).1))
+place_of-requires-in-loop-j c = let s = c in (s.requires.1, omega (arith, (room (goal.at.place_of-requires-in-loop-j c).In-loop-j 1 (omega (arith, c.loop-j-test.true))).1))
 
 pub overflow_add-j : goal.overflow_add-j
 overflow_add-j c = omega (arith, c.run_of-m.ensures, c.loop-j-test.true)
 
 pub loop-j-smaller : goal.loop-j-smaller
-loop-j-smaller c = omega (arith, some c.before.before.before.before.before, c.loop-j-test.true)
+loop-j-smaller c = omega (arith, some (goal.at.loop-j-smaller c).After-run_of-m, c.loop-j-test.true)

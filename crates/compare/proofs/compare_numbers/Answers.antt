@@ -12,18 +12,18 @@ first c = rw (to_z-of_z c.ranges.x, to_z-of_z c.ranges.y) at c.if-x-y.false
 
 pub returns-then-x-y : goal.returns-then-x-y
 returns-then-x-y c =
-    let s = c.before in
+    let s = c in
     let e : lt_z s.args.x s.args.y ≡ true = rw (to_z-of_z s.ranges.x, to_z-of_z s.ranges.y) at c.if-x-y.true in
     rw e
 
 pub returns-then-y-x : goal.returns-then-y-x
 returns-then-y-x c =
-    let s = c.before.before in
+    let s = c in
     let e : lt_z s.args.y s.args.x ≡ true = rw (to_z-of_z s.ranges.x, to_z-of_z s.ranges.y) at c.if-y-x.true in
-    rw (first c.before, e)
+    rw (first (goal.at.returns-then-y-x c).Else-x-y, e)
 
 pub returns : goal.returns
 returns c =
-    let s = c.before.before in
+    let s = c in
     let e : lt_z s.args.y s.args.x ≡ false = rw (to_z-of_z s.ranges.x, to_z-of_z s.ranges.y) at c.if-y-x.false in
-    rw (first c.before, e)
+    rw (first (goal.at.returns c).Else-x-y, e)

@@ -8,8 +8,8 @@ use Rattle.compare.proofs.compare_records.Goals as goal
 
 pub compare_alike-requires : goal.compare_alike-requires
 compare_alike-requires c =
-    let f = c.before.before.before.before in
-    let e = f.before in
+    let f = c in
+    let e = c in
     let a = e.args in
     let x = a.a.now in
     let y = a.b.now in

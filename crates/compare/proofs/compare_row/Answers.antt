@@ -15,23 +15,23 @@ use Rattle.compare.proofs.compare_row.Goals.{After-decides, In-loop-left}
 use Rattle.compare.proofs.compare_row.Goals as goal
 
 pub loop-left-init : goal.loop-left-init
-loop-left-init c = let s = c.before.before in (refl, s.requires.0, s.requires.1)
+loop-left-init c = let s = c in (refl, s.requires.0, s.requires.1)
 
 -- both lie within their records
 room : (c : In-loop-left)
-    → let h = c.before in let a = h.args in
+    → let h = c in let a = h.args in
     (h.loop-left.i + a.w ≤ length a.a.now) × (h.loop-left.j + a.w ≤ length a.b.now)
 room c =
-    let h = c.before in
+    let h = c in
     let m = times_more h.loop-left.left h.args.w c.loop-left-test.true in
     (omega (arith, m, h.loop-left.invariant.1), omega (arith, m, h.loop-left.invariant.2))
 
 -- what the step finds
 is : (c : After-decides)
-    → let g = c.before in let h = g.before.before.before.before in let a = h.args in
+    → let g = c in let h = c in let a = h.args in
     g.compare_numbers-c.result ≡ order_z (number_at a.a.now a.w h.loop-left.i) (number_at a.b.now a.w h.loop-left.j)
 is c =
-    let g = c.before in
+    let g = c in
     let x = g.number_at in
     let y = g.number_at-in-loop-left in
     let fx : SFits w32 x.result = sfits_of x.type-inv in
@@ -41,9 +41,9 @@ is c =
 pub returns-then-decides : goal.returns-then-decides
 unfolding row_of
 returns-then-decides c =
-    let d = c.before in
-    let g = d.before in
-    let h = g.before.before.before.before in
+    let d = (goal.at.returns-then-decides c).After-decides in
+    let g = c in
+    let h = c in
     let l = h.loop-left in
     let a = h.args in
     let e = is d in
@@ -51,9 +51,9 @@ returns-then-decides c =
 
 pub loop-left-preserved : goal.loop-left-preserved
 loop-left-preserved c =
-    let d = c.before in
-    let g = d.before in
-    let h = g.before.before.before.before in
+    let d = (goal.at.loop-left-preserved c).After-decides in
+    let g = c in
+    let h = c in
     let l = h.loop-left in
     let a = h.args in
     let e = is d in
@@ -72,10 +72,10 @@ returns c =
     lex_none (number_at a.a.now a.w) (number_at a.b.now a.w) a.w a.w l.left l.i l.j c.loop-left-test.false ∙ sym l.invariant.0
 
 pub overflow_add-i : goal.overflow_add-i
-overflow_add-i c = omega (arith, (room c.before.before.before.before.before).0)
+overflow_add-i c = omega (arith, (room (goal.at.overflow_add-i c).In-loop-left).0)
 
 pub overflow_add-j : goal.overflow_add-j
-overflow_add-j c = omega (arith, (room c.before.before.before.before.before).1)
+overflow_add-j c = omega (arith, (room (goal.at.overflow_add-j c).In-loop-left).1)
 
 pub overflow_sub-left : goal.overflow_sub-left
 overflow_sub-left c = omega (arith, c.loop-left-test.true)

@@ -12,30 +12,30 @@ use Rattle.compare.proofs.compare_samples.Goals.{After-decides, In-loop-left}
 use Rattle.compare.proofs.compare_samples.Goals as goal
 
 pub loop-left-init : goal.loop-left-init
-loop-left-init c = let s = c.before.before in (refl, s.requires.0, s.requires.1)
+loop-left-init c = let s = c in (refl, s.requires.0, s.requires.1)
 
 -- both lie within their records
 room : (c : In-loop-left)
-    → let h = c.before in let a = h.args in
+    → let h = c in let a = h.args in
     (h.loop-left.i + 6 ≤ length a.a.now) × (h.loop-left.j + 6 ≤ length a.b.now)
 room c =
-    let h = c.before in
+    let h = c in
     let m = times_more h.loop-left.left 6 c.loop-left-test.true in
     (omega (arith, m, h.loop-left.invariant.1), omega (arith, m, h.loop-left.invariant.2))
 
 -- what the step finds
 is : (c : After-decides)
-    → let g = c.before in let h = g.before.before.before.before in let a = h.args in
+    → let g = c in let h = c in let a = h.args in
     g.compare-c.result ≡ order_z (held_value a.a.now h.loop-left.i) (held_value a.b.now h.loop-left.j)
 is c =
-    let g = c.before in
+    let g = c in
     g.compare-c.ensures ∙ ap₂ order_z g.exact_at.ensures g.exact_at-in-loop-left.ensures
 
 pub returns-then-decides : goal.returns-then-decides
 returns-then-decides c =
-    let d = c.before in
-    let g = d.before in
-    let h = g.before.before.before.before in
+    let d = (goal.at.returns-then-decides c).After-decides in
+    let g = c in
+    let h = c in
     let l = h.loop-left in
     let a = h.args in
     let e = is d in
@@ -43,9 +43,9 @@ returns-then-decides c =
 
 pub loop-left-preserved : goal.loop-left-preserved
 loop-left-preserved c =
-    let d = c.before in
-    let g = d.before in
-    let h = g.before.before.before.before in
+    let d = (goal.at.loop-left-preserved c).After-decides in
+    let g = c in
+    let h = c in
     let l = h.loop-left in
     let a = h.args in
     let e = is d in
@@ -63,16 +63,16 @@ returns c =
     lex_none (held_value a.a.now) (held_value a.b.now) 6 6 l.left l.i l.j c.loop-left-test.false ∙ sym l.invariant.0
 
 pub exact_at-requires : goal.exact_at-requires
-exact_at-requires c = (room c).0
+exact_at-requires c = (room (goal.at.exact_at-requires c).In-loop-left).0
 
 pub exact_at-requires-in-loop-left : goal.exact_at-requires-in-loop-left
-exact_at-requires-in-loop-left c = (room c.before).1
+exact_at-requires-in-loop-left c = (room (goal.at.exact_at-requires-in-loop-left c).In-loop-left).1
 
 pub overflow_add-i : goal.overflow_add-i
-overflow_add-i c = omega (arith, (room c.before.before.before.before.before).0)
+overflow_add-i c = omega (arith, (room (goal.at.overflow_add-i c).In-loop-left).0)
 
 pub overflow_add-j : goal.overflow_add-j
-overflow_add-j c = omega (arith, (room c.before.before.before.before.before).1)
+overflow_add-j c = omega (arith, (room (goal.at.overflow_add-j c).In-loop-left).1)
 
 pub overflow_sub-left : goal.overflow_sub-left
 overflow_sub-left c = omega (arith, c.loop-left-test.true)

@@ -23,7 +23,7 @@ room c = (omega (arith, c.requires.0), omega (arith, c.requires.1))
 
 pub returns-then-decides : goal.returns-then-decides
 returns-then-decides c =
-    let g = c.before.before in
+    let g = c in
     let a = g.args in
     first_decides _ _ _ g.compare_headers-h.ensures (sym c.decides.ensures ∙ c.if-decides.true) ∙ sym (trace_parts a.a.now a.b.now a.p a.q a.n)
 
@@ -35,9 +35,9 @@ shares c = (c.share_at-c.ensures, c.share_at-d.ensures)
 
 pub compare_fields-requires : goal.compare_fields-requires
 compare_fields-requires c =
-    let s = c.before.before.before.before.before.before.before in
+    let s = (goal.at.compare_fields-requires c).Start in
     let a = s.args in
-    let h = shares c in
+    let h = shares (goal.at.compare_fields-requires c).After-share_at-d in
     let r = room s in (
       subst (λ (x : ℕ). 0 < x) (sym h.0) (share_some tag04 a.a.now a.n (a.p + 183)),
       subst (λ (x : ℕ). 0 < x) (sym h.1) (share_some tag04 a.b.now a.n (a.q + 183)),
@@ -49,9 +49,9 @@ compare_fields-requires c =
 pub returns : goal.returns
 unfolding held_values_in
 returns c =
-    let k = c.before in
-    let e = k.before.before in
-    let g = e.before.before in
+    let k = (goal.at.returns c).After-share_at-d in
+    let e = c in
+    let g = c in
     let a = g.args in
     let h = shares k in
     then_second _ _ _ _ g.compare_headers-h.ensures (sym e.decides.ensures ∙ e.if-decides.false)
@@ -60,16 +60,16 @@ returns c =
     ∙ sym (trace_parts a.a.now a.b.now a.p a.q a.n)
 
 pub overflow_add-p : goal.overflow_add-p
-overflow_add-p c = omega (arith, (room c.before.before).0)
+overflow_add-p c = omega (arith, (room (goal.at.overflow_add-p c).Start).0)
 
 pub overflow_add-q : goal.overflow_add-q
-overflow_add-q c = omega (arith, (room c.before.before).1)
+overflow_add-q c = omega (arith, (room (goal.at.overflow_add-q c).Start).1)
 
 pub compare_headers-h-requires : goal.compare_headers-h-requires
-compare_headers-h-requires c = (omega (arith, (room c.before.before).0), omega (arith, (room c.before.before).1))
+compare_headers-h-requires c = (omega (arith, (room (goal.at.compare_headers-h-requires c).Start).0), omega (arith, (room (goal.at.compare_headers-h-requires c).Start).1))
 
 pub overflow_add-p-2 : goal.overflow_add-p-2
-overflow_add-p-2 c = omega (arith, (room c.before.before.before.before.before.before.before).0)
+overflow_add-p-2 c = omega (arith, (room (goal.at.overflow_add-p-2 c).Start).0)
 
 pub overflow_add-q-2 : goal.overflow_add-q-2
-overflow_add-q-2 c = omega (arith, (room c.before.before.before.before.before.before.before).1)
+overflow_add-q-2 c = omega (arith, (room (goal.at.overflow_add-q-2 c).Start).1)

@@ -15,21 +15,21 @@ use Rattle.compare.proofs.compare_traces.Goals.{After-stride_at-i, After-stride_
 use Rattle.compare.proofs.compare_traces.Goals as goal
 
 pub loop-x-init : goal.loop-x-init
-loop-x-init c = let s = c.before.before in (refl, s.requires.0, s.requires.1)
+loop-x-init c = let s = c in (refl, s.requires.0, s.requires.1)
 
 pub returns-then-y-eq0 : goal.returns-then-y-eq0
 returns-then-y-eq0 c =
-    let i = c.before in
+    let i = c in
     let l = i.loop-x in
     let a = i.args in
     traces_more a.a.now a.b.now a.n l.x l.y l.i l.j i.loop-x-test.true (omega (arith, c.if-y-eq0.true)) ∙ sym l.invariant.0
 
 -- a trace of each lies within its record
 room : (c : Else-y-eq0)
-    → let h = c.before.before in let l = h.loop-x in let a = h.args in
+    → let h = c in let l = h.loop-x in let a = h.args in
     (behind_trace_in tag04 a.a.now a.n l.i ≤ length a.a.now) × (behind_trace_in tag04 a.b.now a.n l.j ≤ length a.b.now) × (0 < l.y)
 room c =
-    let h = c.before.before in
+    let h = c in
     let l = h.loop-x in
     let a = h.args in
     let y : 0 < l.y = omega (arith, c.if-y-eq0.false) in
@@ -37,19 +37,19 @@ room c =
 
 -- the first traces, then the others
 next : (c : Else-y-eq0)
-    → let h = c.before.before in let l = h.loop-x in let a = h.args in
+    → let h = c in let l = h.loop-x in let a = h.args in
     lex_z (key_from a.a.now a.n a.s a.p) (key_from a.b.now a.n a.t a.q)
     ≡ or_else (lex_z (trace_key a.a.now a.n l.i) (trace_key a.b.now a.n l.j)) (lex_z (key_from a.a.now a.n (l.x - 1) (behind_trace_in tag04 a.a.now a.n l.i)) (key_from a.b.now a.n (l.y - 1) (behind_trace_in tag04 a.b.now a.n l.j)))
 next c =
-    let h = c.before.before in
+    let h = c in
     let l = h.loop-x in
     let a = h.args in
-    l.invariant.0 ∙ traces_next a.a.now a.b.now a.n l.x l.y l.i l.j c.loop-x-test.true (room c).2
+    l.invariant.0 ∙ traces_next a.a.now a.b.now a.n l.x l.y l.i l.j c.loop-x-test.true (room (goal.at.Else-y-eq0 c).Else-y-eq0).2
 
 pub returns-then-decides : goal.returns-then-decides
 returns-then-decides c =
-    let g = c.before.before in
-    first_decides _ _ _ g.compare_trace-c.ensures (sym c.decides.ensures ∙ c.if-decides.true) ∙ sym (next g.before)
+    let g = c in
+    first_decides _ _ _ g.compare_trace-c.ensures (sym c.decides.ensures ∙ c.if-decides.true) ∙ sym (next (goal.at.returns-then-decides c).Else-y-eq0)
 
 -- where the next traces stand
 behind_a : (c : After-stride_at-i)
@@ -66,17 +66,17 @@ behind_b c = ap (λ (x : ℕ). c.loop-x.j + x) c.stride_at-j.ensures
 
 pub loop-x-preserved : goal.loop-x-preserved
 loop-x-preserved c =
-    let k = c.before in
-    let f = k.before in
-    let g = f.before.before in
-    let e = g.before in
-    let h = e.before.before in
+    let k = (goal.at.loop-x-preserved c).After-stride_at-i in
+    let f = c in
+    let g = c in
+    let e = (goal.at.loop-x-preserved c).Else-y-eq0 in
+    let h = c in
     let l = h.loop-x in
     let a = h.args in
     let x = a.a.now in
     let y = a.b.now in
     let u = behind_a k in
-    let v = behind_b c in
+    let v = behind_b (goal.at.loop-x-preserved c).After-stride_at-j in
     let rest : Order = lex_z (key_from x a.n (l.x - 1) (behind_trace_in tag04 x a.n l.i)) (key_from y a.n (l.y - 1) (behind_trace_in tag04 y a.n l.j)) in (
       next e
           ∙ ap (λ (z : Order). or_else z rest) (sym g.compare_trace-c.ensures ∙ undecided g.compare_trace-c.result (sym f.decides.ensures ∙ f.if-decides.false))
@@ -98,19 +98,19 @@ returns c =
     traces_same a.a.now a.b.now a.n l.x l.y l.i l.j c.loop-x-test.false c.if-y-gt0.false ∙ sym l.invariant.0
 
 pub compare_trace-c-requires : goal.compare_trace-c-requires
-compare_trace-c-requires c = ((room c).0, (room c).1)
+compare_trace-c-requires c = ((room (goal.at.compare_trace-c-requires c).Else-y-eq0).0, (room (goal.at.compare_trace-c-requires c).Else-y-eq0).1)
 
 pub overflow_add-i : goal.overflow_add-i
-overflow_add-i c = omega (arith, behind_a c, (room c.before.before.before.before).0)
+overflow_add-i c = omega (arith, behind_a c, (room (goal.at.overflow_add-i c).Else-y-eq0).0)
 
 pub overflow_add-j : goal.overflow_add-j
-overflow_add-j c = omega (arith, behind_b c, (room c.before.before.before.before.before).1)
+overflow_add-j c = omega (arith, behind_b c, (room (goal.at.overflow_add-j c).Else-y-eq0).1)
 
 pub overflow_sub-x : goal.overflow_sub-x
 overflow_sub-x c = omega (arith, c.loop-x-test.true)
 
 pub overflow_sub-y : goal.overflow_sub-y
-overflow_sub-y c = omega (arith, (room c.before.before.before.before.before).2)
+overflow_sub-y c = omega (arith, (room (goal.at.overflow_sub-y c).Else-y-eq0).2)
 
 pub loop-x-smaller : goal.loop-x-smaller
 loop-x-smaller c = omega (arith, c.loop-x-test.true)

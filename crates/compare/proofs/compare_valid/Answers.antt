@@ -40,44 +40,44 @@ parts c =
 
 pub returns-then-decides : goal.returns-then-decides
 returns-then-decides c =
-    let g = c.before.before in
-    first_decides _ _ _ g.compare_row-c.ensures (sym c.decides.ensures ∙ c.if-decides.true) ∙ sym (parts g.before.before.before)
+    let g = c in
+    first_decides _ _ _ g.compare_row-c.ensures (sym c.decides.ensures ∙ c.if-decides.true) ∙ sym (parts (goal.at.returns-then-decides c).Start)
 
 pub returns-then-decides-2 : goal.returns-then-decides-2
 returns-then-decides-2 c =
-    let h = c.before.before in
-    let e = h.before in
-    let g = e.before.before in
+    let h = c in
+    let e = c in
+    let g = c in
     then_second _ _ _ _ g.compare_row-c.ensures (sym e.decides.ensures ∙ e.if-decides.false) (first_decides _ _ _ h.compare_binary-d.ensures (sym c.decides-2.ensures ∙ c.if-decides-2.true))
-    ∙ sym (parts g.before.before.before)
+    ∙ sym (parts (goal.at.returns-then-decides-2 c).Start)
 
 -- both have the same N
 same : (c : Else-decides-2) → let a = c.args in held_samples a.b.now ≡ a.n
 same c =
-    let h = c.before.before in
-    let s = h.before.before.before.before.before.before in
+    let h = c in
+    let s = (goal.at.Else-decides-2 c).Start in
     let a = s.args in
     let e : lex_z (binary_key a.a.now) (binary_key a.b.now) ≡ Same = sym h.compare_binary-d.ensures ∙ undecided h.compare_binary-d.result (sym c.decides-2.ensures ∙ c.if-decides-2.false) in
     sym (s.requires.2 ∙ same_samples a.a.now a.b.now (omega (arith, (first s).n_high)) (omega (arith, (second s).n_high)) e)
 
 pub compare_traces-requires : goal.compare_traces-requires
 compare_traces-requires c =
-    let s = c.before.before.before.before.before.before.before.before in
+    let s = (goal.at.compare_traces-requires c).Start in
     let a = s.args in
     let x = a.a.now in
     let y = a.b.now in
-    let t : held_count y a.n ≡ a.t = ap (held_count y) (sym (same c)) ∙ sym s.requires.4 in (
+    let t : held_count y a.n ≡ a.t = ap (held_count y) (sym (same (goal.at.compare_traces-requires c).Else-decides-2)) ∙ sym s.requires.4 in (
       subst (λ (z : ℕ). behind_traces x a.n z traces_place ≤ length x) (sym s.requires.3) (all_room x a.n s.requires.0 (sym s.requires.2)),
-      subst (λ (z : ℕ). behind_traces y a.n z traces_place ≤ length y) t (all_room y a.n s.requires.1 (same c)),
+      subst (λ (z : ℕ). behind_traces y a.n z traces_place ≤ length y) t (all_room y a.n s.requires.1 (same (goal.at.compare_traces-requires c).Else-decides-2)),
     )
 
 pub returns : goal.returns
 returns c =
-    let f = c.before in
-    let h = f.before.before in
-    let e = h.before in
-    let g = e.before.before in
-    let s = g.before.before.before in
+    let f = (goal.at.returns c).Else-decides-2 in
+    let h = c in
+    let e = c in
+    let g = c in
+    let s = (goal.at.returns c).Start in
     let a = s.args in
     then_second _ _ _ _ g.compare_row-c.ensures (sym e.decides.ensures ∙ e.if-decides.false)
     (then_second _ _ _ _ h.compare_binary-d.ensures (sym f.decides-2.ensures ∙ f.if-decides-2.false)
@@ -85,7 +85,7 @@ returns c =
     ∙ sym (parts s)
 
 pub compare_row-c-requires : goal.compare_row-c-requires
-compare_row-c-requires c = let s = c.before.before in (omega (arith, (first s).room), omega (arith, (second s).room))
+compare_row-c-requires c = let s = (goal.at.compare_row-c-requires c).Start in (omega (arith, (first s).room), omega (arith, (second s).room))
 
 pub compare_binary-d-requires : goal.compare_binary-d-requires
-compare_binary-d-requires c = let s = c.before.before.before.before.before in ((first s).room, (second s).room)
+compare_binary-d-requires c = let s = (goal.at.compare_binary-d-requires c).Start in ((first s).room, (second s).room)

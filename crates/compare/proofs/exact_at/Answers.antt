@@ -19,14 +19,14 @@ fit_e : (c : After-struct_told-1) → SFits w16 c.pair_in-p.result.e
 fit_e c = search rules
 
 wide : (c : After-struct_told-1) → SFits w64 c.pair_in-p.result.m
-wide c = record { sfits = omega (arith, (fit_m c).sfits) }
+wide c = record { sfits = omega (arith, (fit_m (goal.at.After-struct_told-1 c).After-struct_told-1).sfits) }
 
 pub overflow_cast-p : goal.overflow_cast-p
-overflow_cast-p c = rw (to_z-of_z (fit_m c)) (wide c)
+overflow_cast-p c = rw (to_z-of_z (fit_m (goal.at.overflow_cast-p c).After-struct_told-1)) (wide (goal.at.overflow_cast-p c).After-struct_told-1)
 
 pub returns : goal.returns
 returns c =
-    let k = c.before.before in
+    let k = (goal.at.returns c).After-struct_told-1 in
     let p = k.pair_in-p in
     let a = k.args in
     let x : c.exact_of.result ≡ exact_of p.result.e p.result.m =

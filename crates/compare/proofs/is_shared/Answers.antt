@@ -25,7 +25,7 @@ there c = sym c.is_trace.ensures ∙ c.if-not-is_trace.false
 
 pub returns-in_default : goal.returns-in_default
 returns-in_default c =
-    let k = c.before in
+    let k = c in
     let a = k.args in
     not_right a.a.now a.b.now a.n a.i a.t a.at
     (ap is_fine (sym (trace_form a.a.now a.n a.i a.at) ∙ sym k.check_trace-c.ensures ∙ c.in_default.is))
@@ -33,13 +33,13 @@ returns-in_default c =
 -- it is right
 right : (c : In-Fine) → let a = c.args in trace_form_in tag04 a.a.now a.n a.i a.at ≡ Fine
 right c =
-    let k = c.before in
+    let k = c in
     let a = k.args in
     sym (trace_form a.a.now a.n a.i a.at) ∙ sym k.check_trace-c.ensures ∙ c.in-Fine.is
 
 pub returns-then-b-at : goal.returns-then-b-at
 returns-then-b-at c =
-    let s = c.before.before.before.before.before.before.before.before in
+    let s = c in
     let a = s.args in
     let w = held_stride_in tag04 a.a.now a.n a.at in
     not_enough a.a.now a.b.now a.n a.i a.t a.at (lt-leb (a.at + w) (length a.b.now) (omega (arith, c.if-b-at.true, c.stride_at-w.ensures, s.requires)))
@@ -50,13 +50,13 @@ room : (c : Else-b-at)
     (a.at + c.stride_at-w.result ≤ length a.a.now) × (a.at + c.stride_at-w.result ≤ length a.b.now)
 unfolding behind_trace_in
 room c =
-    let s = c.before.before.before.before.before.before.before.before in
+    let s = c in
     let a = s.args in
-    (omega (arith, form_room tag04 a.a.now a.n a.i a.at (right c.before.before), c.stride_at-w.ensures), omega (arith, c.if-b-at.false, s.requires))
+    (omega (arith, form_room tag04 a.a.now a.n a.i a.at (right (goal.at.Else-b-at c).In-Fine), c.stride_at-w.ensures), omega (arith, c.if-b-at.false, s.requires))
 
 pub returns : goal.returns
 returns c =
-    let k = c.before.before.before in
+    let k = (goal.at.returns c).Else-b-at in
     let a = k.args in
     let x = a.a.now in
     let y = a.b.now in
@@ -65,16 +65,16 @@ returns c =
     let e : at + k.stride_at-w.result - at ≡ w = omega (arith, k.stride_at-w.ensures) in
     c.same_bytes.ensures
     ∙ ap (λ (z : ℕ). same_bytes (take z (drop at x)) (take z (drop at y))) e
-    ∙ by_bytes x y a.n a.i a.t at (there k.before.before.before.before) (ap is_fine (right k.before.before)) (le-leb (at + w) (length y) (omega (arith, (room k).1, k.stride_at-w.ensures)))
+    ∙ by_bytes x y a.n a.i a.t at (there (goal.at.returns c).Else-not-is_trace) (ap is_fine (right (goal.at.returns c).In-Fine)) (le-leb (at + w) (length y) (omega (arith, (room k).1, k.stride_at-w.ensures)))
 
 pub overflow_add-e : goal.overflow_add-e
-overflow_add-e c = omega (arith, (room c).0)
+overflow_add-e c = omega (arith, (room (goal.at.overflow_add-e c).Else-b-at).0)
 
 pub slice_bounds-same_bytes-end : goal.slice_bounds-same_bytes-end
-slice_bounds-same_bytes-end c = omega (arith, (room c).0)
+slice_bounds-same_bytes-end c = omega (arith, (room (goal.at.slice_bounds-same_bytes-end c).Else-b-at).0)
 
 pub slice_bounds-same_bytes-end-2 : goal.slice_bounds-same_bytes-end-2
-slice_bounds-same_bytes-end-2 c = omega (arith, (room c.before).1)
+slice_bounds-same_bytes-end-2 c = omega (arith, (room (goal.at.slice_bounds-same_bytes-end-2 c).Else-b-at).1)
 
 pub same_bytes-requires : goal.same_bytes-requires
 same_bytes-requires c = c.same_bytes-arg-1.given.1 ∙ sym c.same_bytes-arg-2-1.given.1

@@ -17,9 +17,9 @@ bounds-b-i c = omega (arith, c.loop-i-test.true, c.requires)
 
 pub loop-i-preserved : goal.loop-i-preserved
 loop-i-preserved c =
-    let f = c.before.before in
+    let f = c in
     let h = f.loop-i in
-    let s = f.before.before.before in
+    let s = c in
     let a = s.args.a.now in
     let b = s.args.b.now in
     let i = h.i in
@@ -35,7 +35,7 @@ loop-i-preserved c =
 
 pub returns : goal.returns
 returns c =
-    let s = c.before.before in
+    let s = c in
     let h = c.loop-i in
     let e = same_end s.args.a.now s.args.b.now h.i c.loop-i-test.false (omega (arith, c.loop-i-test.false, s.requires)) in
     sym (and_right h.same) ∙ ap (λ (x : Bool). h.same && x) (sym e) ∙ h.invariant.1

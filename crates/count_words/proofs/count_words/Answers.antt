@@ -32,7 +32,7 @@ there c =
     (c.if-n-gt-MOST_SAMPLES.false, leb-true (a.start.0 + a.n * 4) (length a.reel.now) (sym w.ensures ∙ c.if-not-are_within.false))
 
 pub count_passing-requires : goal.count_passing-requires
-count_passing-requires c = there c
+count_passing-requires c = there (goal.at.count_passing-requires c).Else-not-are_within
 
 -- so they are counted
 counted : (c : Else-not-are_within)
@@ -40,20 +40,20 @@ counted : (c : Else-not-are_within)
 counted c =
     let a = c.args in
     let one : a.code ≡ 1 = c.if-code-ne1.false in
-    ap (λ (k : ℕ). words_counted a.reel.now k a.n a.start.0) one ∙ fit_counted a.reel.now 1 a.n a.start.0 (there c).0 (there c).1
+    ap (λ (k : ℕ). words_counted a.reel.now k a.n a.start.0) one ∙ fit_counted a.reel.now 1 a.n a.start.0 (there (goal.at.Else-not-are_within c).Else-not-are_within).0 (there (goal.at.Else-not-are_within c).Else-not-are_within).1
 
 pub returns-then-count_passing-eq0 : goal.returns-then-count_passing-eq0
 returns-then-count_passing-eq0 c =
-    let e = c.before.before in
+    let e = (goal.at.returns-then-count_passing-eq0 c).Else-not-are_within in
     let a = e.args in
     let none = none_is a.reel.now (λ i. (e.shared_slice_known-1.given i).fits) a.n a.start.0 (sym c.count_passing.ensures ∙ c.if-count_passing-eq0.true) in
     sym (counted e ∙ none)
 
 pub count_passing-requires-2 : goal.count_passing-requires-2
-count_passing-requires-2 c = there c.before.before
+count_passing-requires-2 c = there (goal.at.count_passing-requires-2 c).Else-not-are_within
 
 pub returns : goal.returns
 returns c =
-    let e = c.before.before.before in
+    let e = (goal.at.returns c).Else-not-are_within in
     let a = e.args in
     c.count_passing-2.ensures ∙ exact_is a.reel.now (λ i. (e.shared_slice_known-1.given i).fits) a.n a.start.0 ∙ sym (counted e)

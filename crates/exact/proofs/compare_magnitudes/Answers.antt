@@ -8,20 +8,20 @@ use Rattle.exact.proofs.compare_magnitudes.Goals as goal
 
 pub returns-then-x-y : goal.returns-then-x-y
 returns-then-x-y c =
-    let k = c.before.before.before in
+    let k = c in
     let a = k.args in
     is_less _ _ (lower_less a.a.o a.b.o a.a.k a.b.k _ _ k.bit_length-n.ensures k.bit_length-m.ensures c.if-x-y.true)
 
 pub returns-then-y-x : goal.returns-then-y-x
 returns-then-y-x c =
-    let k = c.before.before.before.before in
+    let k = c in
     let a = k.args in
     is_more_lem _ _ (lower_less a.b.o a.a.o a.b.k a.a.k _ _ k.bit_length-m.ensures k.bit_length-n.ensures c.if-y-x.true)
 
 pub returns : goal.returns
 returns c =
-    let e = c.before.before.before in
-    let k = e.before.before.before.before in
+    let e = c in
+    let k = c in
     let a = k.args in
     let n = k.bit_length-n in
     let m = k.bit_length-m in

@@ -5,7 +5,7 @@ use Rattle.exact.proofs.compare_signed.Goals as goal
 
 pub returns-then-b : goal.returns-then-b
 returns-then-b c =
-    let s = c.before.before.before in
+    let s = c in
     let a = s.args.a in
     let b = s.args.b in
     rw (c.if-a.true, c.if-b.true)
@@ -13,12 +13,12 @@ returns-then-b c =
 
 pub returns-then-a : goal.returns-then-a
 returns-then-a c =
-    let s = c.before.before in
+    let s = c in
     rw (c.if-a.true, c.if-b.false) (negative_first _ _ (some_magnitude s.args.a.o s.args.a.k s.requires.0))
 
 pub returns-then-b-2 : goal.returns-then-b-2
 returns-then-b-2 c =
-    let s = c.before.before in
+    let s = c in
     rw (c.if-a.false, c.if-b-2.true) (negative_last _ _ (some_magnitude s.args.b.o s.args.b.k s.requires.1))
 
 pub returns : goal.returns

@@ -12,5 +12,5 @@ together a b c = cc
 
 pub returns : goal.returns
 returns c =
-    let s = c.before.before in
+    let s = c in
     together (rw (to_z-of_z s.ranges.m) (neg_is s.args.m)) (rw (to_z-of_z s.ranges.m) at c.magnitude.ensures) (rw (to_z-of_z s.ranges.e) at c.power.ensures)

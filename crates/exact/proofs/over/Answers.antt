@@ -17,10 +17,10 @@ whole : (c : Start) → SFits w64 (c.args.e +ℤ pos denominator_power)
 whole c = small_fits w64 _ (omega (arith, over_small c.args.e c.ranges.e.sfits))
 
 pub overflow_cast-result : goal.overflow_cast-result
-overflow_cast-result c = rw (to_z-of_z c.ranges.e) (wide c)
+overflow_cast-result c = rw (to_z-of_z c.ranges.e) (wide (goal.at.overflow_cast-result c).Start)
 
 pub overflow_add-result : goal.overflow_add-result
-overflow_add-result c = rw (to_z-of_z c.ranges.e, to_z-of_z (wide c)) (whole c)
+overflow_add-result c = rw (to_z-of_z c.ranges.e, to_z-of_z (wide (goal.at.overflow_add-result c).Start)) (whole (goal.at.overflow_add-result c).Start)
 
 pub returns : goal.returns
-returns c = rw (to_z-of_z c.ranges.e, to_z-of_z (wide c), to_z-of_z (whole c)) (refl, over_small c.args.e c.ranges.e.sfits)
+returns c = rw (to_z-of_z c.ranges.e, to_z-of_z (wide (goal.at.returns c).Start), to_z-of_z (whole (goal.at.returns c).Start)) (refl, over_small c.args.e c.ranges.e.sfits)

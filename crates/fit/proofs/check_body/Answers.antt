@@ -22,7 +22,7 @@ is_more_lem : (c : In-loop-c) → is_more c.args.«record».now c.loop-c.t c.loo
 is_more_lem c = sym c.is_trace.ensures ∙ c.loop-c-test.true
 
 few : (c : In-loop-c) → c.loop-c.t < most_traces
-few c = more_few c.args.«record».now c.loop-c.t c.loop-c.at (is_more_lem c)
+few c = more_few c.args.«record».now c.loop-c.t c.loop-c.at (is_more_lem (goal.at.In-loop-c c).In-loop-c)
 
 fine : (c : In-Fine) → let a = c.args in trace_by (Code a.code) a.«record».now a.n a.i c.loop-c.at ≡ Fine
 fine c = sym c.check_trace-c.ensures ∙ c.in-Fine.is
@@ -34,42 +34,42 @@ behind c = ap (λ (x : ℕ). c.loop-c.at + x) c.stride_at-at.ensures
 
 room : (c : After-stride_at-at) → let a = c.args in c.loop-c.at + c.stride_at-at.result ≤ length a.«record».now
 room c =
-    let b = c.before.before.before.before.before.before.before in
+    let b = c in
     let a = b.args in
     let s = a.«record».now in
     let at = c.loop-c.at in
-    subst (λ (x : ℕ). x ≤ length s) (sym (behind c)) (form_room tag04 s a.n a.i at (trace_fine s a.code a.n a.i b.requires at (fine c.before)).0)
+    subst (λ (x : ℕ). x ≤ length s) (sym (behind (goal.at.After-stride_at-at c).After-stride_at-at)) (form_room tag04 s a.n a.i at (trace_fine s a.code a.n a.i b.requires at (fine (goal.at.After-stride_at-at c).In-Fine)).0)
 
 pub returns-in_default : goal.returns-in_default
 returns-in_default c =
-    let h = c.before.before.before.before.before in
+    let h = c in
     let a = c.args in
     let s = a.«record».now in
     let e = c.check_trace-c.ensures in
     c.check_later.ensures ∙ ap (then (form_from s a.n a.i (most_traces - h.loop-c.t) h.loop-c.t h.loop-c.at)) e
-    ∙ body_stop s a.n a.code a.i c.requires h.loop-c.t h.loop-c.at (is_more_lem c.before.before.before) (sym e ∙ c.in_default.is) ∙ sym h.loop-c.invariant
+    ∙ body_stop s a.n a.code a.i c.requires h.loop-c.t h.loop-c.at (is_more_lem (goal.at.returns-in_default c).In-loop-c) (sym e ∙ c.in_default.is) ∙ sym h.loop-c.invariant
 
 pub overflow_add-at : goal.overflow_add-at
-overflow_add-at c = omega (arith, room c)
+overflow_add-at c = omega (arith, room (goal.at.overflow_add-at c).After-stride_at-at)
 
 pub overflow_add-t : goal.overflow_add-t
-overflow_add-t c = omega (arith, few c.before.before.before)
+overflow_add-t c = omega (arith, few (goal.at.overflow_add-t c).In-loop-c)
 
 pub loop-c-smaller : goal.loop-c-smaller
-loop-c-smaller c = omega (arith, few c.before.before.before)
+loop-c-smaller c = omega (arith, few (goal.at.loop-c-smaller c).In-loop-c)
 
 pub loop-c-preserved : goal.loop-c-preserved
 loop-c-preserved c =
-    let h = c.before.before.before.before.before in
-    let b = c.before.before.before.before.before.before.before in
+    let h = c in
+    let b = c in
     let a = b.args in
     let s = a.«record».now in
-    h.loop-c.invariant ∙ body_more s a.n a.code a.i b.requires h.loop-c.t h.loop-c.at (is_more_lem c.before.before.before) (fine c.before)
-    ∙ ap (λ (x : ℕ). then (form_from s a.n a.i (most_traces - (h.loop-c.t + 1)) (h.loop-c.t + 1) x) (fit_from s a.code a.n (most_traces - (h.loop-c.t + 1)) x)) (sym (behind c))
+    h.loop-c.invariant ∙ body_more s a.n a.code a.i b.requires h.loop-c.t h.loop-c.at (is_more_lem (goal.at.loop-c-preserved c).In-loop-c) (fine (goal.at.loop-c-preserved c).In-Fine)
+    ∙ ap (λ (x : ℕ). then (form_from s a.n a.i (most_traces - (h.loop-c.t + 1)) (h.loop-c.t + 1) x) (fit_from s a.code a.n (most_traces - (h.loop-c.t + 1)) x)) (sym (behind (goal.at.loop-c-preserved c).After-stride_at-at))
 
 pub returns : goal.returns
 returns c =
-    let h = c.before.before.before in
+    let h = c in
     let a = c.args in
     let s = a.«record».now in
     let none = sym c.is_trace.ensures ∙ c.loop-c-test.false in

@@ -36,10 +36,10 @@ returns-in_default-b c =
     let s = c.args.«record».now in
     let e = c.check_front-b.ensures in
     let t = c.in_default-b.is in
-    t ∙ sym (target_stop s c.args.code (a_code c.before.before) (sym e ∙ t))
+    t ∙ sym (target_stop s c.args.code (a_code (goal.at.returns-in_default-b c).In-Fine) (sym e ∙ t))
 
 pub check_body-requires : goal.check_body-requires
-check_body-requires c = a_code c.before.before.before.before.before.before
+check_body-requires c = a_code (goal.at.check_body-requires c).In-Fine
 
 -- the number in a field of the binary header, whose place the code works out
 number_in : (s : List ℕ) (b : ByteNo) {n : ℕ} {p : Place} → p ≡ field_place (record { 0 = binary_start }) b → n ≡ number16 s (place_no p)
@@ -48,8 +48,8 @@ number_in s b e q = q ∙ ap (λ (p : Place). number16 s (place_no p)) e
 
 pub returns : goal.returns
 returns c =
-    let d = c.before.before.before.before.before in
-    let b = d.before.before.before.before.before in
+    let d = (goal.at.returns c).In-Fine-b in
+    let b = c in
     let s = b.args.«record».now in
     let code = b.args.code in
     let n = number_in s (record { 0 = 3221 }) c.field_at.ensures c.number16_at-n.ensures in
@@ -57,4 +57,4 @@ returns c =
     c.check_body.ensures
     ∙ ap (λ (x : ℕ). then (form_from s x c.number16_at-i.result most_traces 0 traces_place) (fit_from s code x most_traces traces_place)) n
     ∙ ap (λ (x : ℕ). then (form_from s (held_samples s) x most_traces 0 traces_place) (fit_from s code (held_samples s) most_traces traces_place)) i
-    ∙ sym (target_is s code (a_code d.before.before) (front d))
+    ∙ sym (target_is s code (a_code (goal.at.returns c).In-Fine) (front d))

@@ -14,7 +14,7 @@ use Rattle.headers.proofs.fill_field.Goals as goal
 -- the field's place in the copy
 place : (c : After-field_at-p) → place_no c.field_at-p.result ≡ byte_place 0 (byte_no c.args.b)
 place c =
-    let s = c.before.before.before.before in
+    let s = c in
     let l : 0 + byte_no s.args.b < 2 ^ 64 = omega (arith, s.requires.1, s.requires.2, s.well_formed.0) in
     ap place_no (c.field_at-p.ensures ∙ field_place_lem (record { 0 = 0 }) s.args.b s.requires.0 l)
 
@@ -26,7 +26,7 @@ slice_bounds-put16-end c = let p = c.requires in omega (arith, place c, p.0, p.1
 
 pub returns : goal.returns
 returns c =
-    let f = c.before.before.before.before in
+    let f = (goal.at.returns c).After-field_at-p in
     let l = f.args.out.now in
     let p = place_no f.field_at-p.result in
     over l (bytes_of 2 f.own_at-v.result) p (p + 2) refl (copied _ _ c.put16.ensures (c.put16-arg-1.given.1 ∙ omega arith))

@@ -24,10 +24,10 @@ stands c = sym c.are_within.ensures ∙ c.if-not-are_within.false
 pub check_smallest-requires : goal.check_smallest-requires
 check_smallest-requires c =
     let a = c.args in
-    leb-true (a.start.0 + header_size) (length a.s.now) (stands c)
+    leb-true (a.start.0 + header_size) (length a.s.now) (stands (goal.at.check_smallest-requires c).Else-not-are_within)
 
 pub returns : goal.returns
 unfolding header_judged
 returns c =
     let a = c.args in
-    c.check_smallest.ensures ∙ ap (λ (b : Bool). pick b (smallest_causes a.s.now a.start.0) Fine) (sym (stands c.before))
+    c.check_smallest.ensures ∙ ap (λ (b : Bool). pick b (smallest_causes a.s.now a.start.0) Fine) (sym (stands (goal.at.returns c).Else-not-are_within))

@@ -14,10 +14,10 @@ use Rattle.headers.proofs.put_groups.Goals as goal
 pub returns : goal.returns
 unfolding groups_copied
 returns c =
-    let second = c.before.before in
-    let first = c.before.before.before.before.before.before in
-    let copy = c.before.before.before.before.before.before.before.before.before.before in
-    let s = c.before.before.before.before.before.before.before.before.before.before.before.before.before.before.before in
+    let second = c in
+    let first = c in
+    let copy = c in
+    let s = c in
     let a = s.args in
     let e = elevations_copied a.reel.now a.at in
     let d = coordinates_copied a.reel.now a.at in

@@ -26,17 +26,17 @@ pub returns-then-out-ne180 : goal.returns-then-out-ne180
 unfolding header_read
 returns-then-out-ne180 c =
     let a = c.args in
-    rw (stands c.before, ne_eqb (length a.out.now) header_size c.if-out-ne180.true)
+    rw (stands (goal.at.returns-then-out-ne180 c).Else-not-are_within, ne_eqb (length a.out.now) header_size c.if-out-ne180.true)
 
 pub put_fields-requires : goal.put_fields-requires
 put_fields-requires c =
     let a = c.args in
-    (leb-true (a.at.0 + header_size) (length a.reel.now) (stands c.before.before), c.if-out-ne180.false)
+    (leb-true (a.at.0 + header_size) (length a.reel.now) (stands (goal.at.put_fields-requires c).Else-not-are_within), c.if-out-ne180.false)
 
 pub returns : goal.returns
 unfolding header_read
 returns c =
-    let e = c.before.before.before.before.before in
+    let e = (goal.at.returns c).Else-not-are_within in
     let a = c.args in
     let b = all_bytes a.reel.now (λ j. omega (arith, e.shared_slice_known-1.given j)) in
     c.put_fields.ensures ∙ sym (header_is a.reel.now b a.n a.i a.at.0) ∙ rw (stands e, eq-eqb (length a.out.now) header_size c.if-out-ne180.false)

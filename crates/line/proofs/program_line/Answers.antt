@@ -13,7 +13,7 @@ returns-then-input-gt65536 c =
 
 pub returns : goal.returns
 returns c =
-    let s = c.before.before.before.before.before.before.before.before in
+    let s = c in
     let l = le-ltb most_input (length s.args.input.now) c.if-input-gt65536.false in
     let e = c.read_reel.ensures in (
       c.Line-of.ensures.0 ∙ rw l (ap (λ (o : Outcome). padded (line_of o.said)) e),

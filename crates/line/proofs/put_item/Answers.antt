@@ -11,7 +11,7 @@ use Rattle.line.proofs.put_item.Goals as goal
 
 pub returns : goal.returns
 returns c =
-    let start = c.before.before in
+    let start = c in
     let n = start.args.n in
     let at = start.args.at in
     let l = start.args.out.now in

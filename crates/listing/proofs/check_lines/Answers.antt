@@ -15,7 +15,7 @@ bounds-listing-at c = omega (arith, c.loop-left-test.true, c.loop-left.invariant
 
 pub returns-then-listing-at-ne10 : goal.returns-then-listing-at-ne10
 returns-then-listing-at-ne10 c =
-    let h = c.before.before.before in
+    let h = c in
     let s = c.args.listing.now in
     sym (h.loop-left.invariant.0 ∙ first_stop (line_cause s) line_length h.loop-left.left h.loop-left.at c.loop-left-test.true (rw (ne_eqb (get_or s h.loop-left.at 0) line_feed c.if-listing-at-ne10.true)))
 
@@ -30,7 +30,7 @@ loop-left-smaller c = omega (arith, c.loop-left-test.true)
 
 pub loop-left-preserved : goal.loop-left-preserved
 loop-left-preserved c =
-    let h = c.before.before.before in
+    let h = c in
     let s = c.args.listing.now in (
       h.loop-left.invariant.0 ∙ first_more (line_cause s) line_length h.loop-left.left h.loop-left.at c.loop-left-test.true (rw (eq-eqb (get_or s h.loop-left.at 0) line_feed c.if-listing-at-ne10.false)),
       omega (arith, c.loop-left-test.true, h.loop-left.invariant.1),

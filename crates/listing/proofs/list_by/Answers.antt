@@ -7,7 +7,7 @@ use Rattle.listing.proofs.list_by.Goals as goal
 
 pub list_checked-requires : goal.list_checked-requires
 list_checked-requires c =
-    let s = c.before.before.before.before.before.before in
+    let s = c in
     let r = s.args.«record».now in
     (s.requires, (own r (form_causes r) (sym c.judge_record-c.ensures ∙ c.in-Fine.is)).fine)
 

@@ -14,23 +14,23 @@ use native.Mathlib.Omega.{arith}
 use Rattle.listing.proofs.list_checked.Goals as goal
 
 pub returns-then-out-lt3240 : goal.returns-then-out-lt3240
-returns-then-out-lt3240 c = let s = c.before.before.before.before in list_short s.args.table.now s.args.«record».now s.args.out.now s.requires.1 c.if-out-lt3240.true
+returns-then-out-lt3240 c = let s = c in list_short s.args.table.now s.args.«record».now s.args.out.now s.requires.1 c.if-out-lt3240.true
 
 pub slice_bounds-put_parts-end : goal.slice_bounds-put_parts-end
-slice_bounds-put_parts-end c = let s = c.before.before.before.before in omega (arith, long s.args.«record».now s.requires.1)
+slice_bounds-put_parts-end c = let s = c in omega (arith, long s.args.«record».now s.requires.1)
 
 pub slice_bounds-put_parts-end-3 : goal.slice_bounds-put_parts-end-3
 slice_bounds-put_parts-end-3 c = sym (length-take-le listing_length c.args.out.now c.if-out-lt3240.false)
 
 pub put_parts-requires : goal.put_parts-requires
 put_parts-requires c =
-    let s = c.before.before.before.before.before.before in
+    let s = c in
     let r = s.args.«record».now in
     (s.requires.0, omega arith, omega arith, omega arith, refl, ap length (bytes_between r field_head binary_place card_bytes (long r s.requires.1) refl) ∙ size_bytes r field_head card_bytes, length-take-le listing_length s.args.out.now c.if-out-lt3240.false)
 
 pub returns : goal.returns
 returns c =
-    let s = c.before.before.before.before.before.before.before.before.before in
+    let s = c in
     let a = s.args in
     let r = a.«record».now in
     list_taken a.table.now r a.out.now s.requires.1 c.if-out-lt3240.false _ (c.put_parts.ensures ∙ ap (parts_by a.table.now card_length line_length) (bytes_between r field_head binary_place card_bytes (long r s.requires.1) refl) ∙ listing_parts a.table.now (bytes_at r field_head card_bytes))

@@ -11,7 +11,7 @@ use Rattle.listing.proofs.put_entries.Goals as goal
 
 pub loop-i-init : goal.loop-i-init
 loop-i-init c =
-    let s = c.before.before.before in
+    let s = c in
     let a = s.args in
     (omega arith, s.requires.1, start _ _ (s.requires.1 ∙ sym (length-map a.src.now (entry_of a.table.now))))
 
@@ -32,7 +32,7 @@ loop-i-smaller c = omega (arith, c.loop-i-test.true)
 
 pub loop-i-preserved : goal.loop-i-preserved
 loop-i-preserved c =
-    let h = c.before.before.before in
+    let h = c in
     let a = h.args in
     let s = a.src.now in
     let f = entry_of a.table.now in (

@@ -14,7 +14,7 @@ use Rattle.listing.proofs.put_part.Goals as goal
 
 pub returns-then-out-le80 : goal.returns-then-out-le80
 returns-then-out-le80 c =
-    let called = c.before.before in
+    let called = c in
     let a = called.args in
     let part = map (entry_of a.table.now) a.src.now in
     let none = le-ltb card_length (length a.out.now) called.if-out-le80.true in
@@ -22,8 +22,8 @@ returns-then-out-le80 c =
 
 pub returns : goal.returns
 returns c =
-    let called = c.before.before in
-    let b = called.before.before.before.before.before.before in
+    let called = c in
+    let b = c in
     let a = b.args in
     let part = map (entry_of a.table.now) a.src.now in
     let size : length part ≡ card_length = length-map a.src.now (entry_of a.table.now) ∙ b.requires.1 in

@@ -17,35 +17,35 @@ lent o n = omega arith
 
 pub loop-left-init : goal.loop-left-init
 loop-left-init c =
-    let s = c.before.before.before in
+    let s = c in
     let a = s.args in
     (omega arith, omega arith, s.requires.6, parts_begun a.table.now a.from a.size a.src.now a.out.now s.requires.4 s.requires.6)
 
 pub overflow_add-e : goal.overflow_add-e
-overflow_add-e c = let s = c.before.before.before.before.before in omega (arith, times_more c.loop-left.left s.args.size c.loop-left-test.true, c.loop-left.invariant.1, s.requires.3)
+overflow_add-e c = let s = c in omega (arith, times_more c.loop-left.left s.args.size c.loop-left-test.true, c.loop-left.invariant.1, s.requires.3)
 
 pub overflow_add-at : goal.overflow_add-at
-overflow_add-at c = let s = c.before.before.before.before.before in omega (arith, c.loop-left.invariant.0, s.requires.2)
+overflow_add-at c = let s = c in omega (arith, c.loop-left.invariant.0, s.requires.2)
 
 pub slice_bounds-put_part-end : goal.slice_bounds-put_part-end
-slice_bounds-put_part-end c = let s = c.before.before.before.before.before in omega (arith, times_more c.loop-left.left s.args.from c.loop-left-test.true, c.loop-left.invariant.0, s.requires.1, s.requires.5)
+slice_bounds-put_part-end c = let s = c in omega (arith, times_more c.loop-left.left s.args.from c.loop-left-test.true, c.loop-left.invariant.0, s.requires.1, s.requires.5)
 
 pub slice_bounds-put_part-end-in-loop-left : goal.slice_bounds-put_part-end-in-loop-left
-slice_bounds-put_part-end-in-loop-left c = let s = c.before.before.before.before.before.before in omega (arith, times_more c.loop-left.left s.args.size c.loop-left-test.true, c.loop-left.invariant.1, c.loop-left.invariant.2)
+slice_bounds-put_part-end-in-loop-left c = let s = c in omega (arith, times_more c.loop-left.left s.args.size c.loop-left-test.true, c.loop-left.invariant.1, c.loop-left.invariant.2)
 
 pub put_part-requires : goal.put_part-requires
 put_part-requires c =
-    let s = c.before.before.before.before.before.before.before in
+    let s = c in
     let is = c.put_part-arg-in-loop-left-1.given.2 ∙ lent c.loop-left.o s.args.size in
     (s.requires.0, c.put_part-arg-1.given.1 ∙ lent c.loop-left.at card_length, ap (λ (n : ℕ). card_length + length (closing n)) is ∙ s.requires.4 ∙ sym is)
 
 pub overflow_add-at-in-loop-left : goal.overflow_add-at-in-loop-left
-overflow_add-at-in-loop-left c = let s = c.before.before.before.before.before.before.before.before.before.before in omega (arith, times_more c.loop-left.left s.args.from c.loop-left-test.true, c.loop-left.invariant.0, s.requires.2)
+overflow_add-at-in-loop-left c = let s = c in omega (arith, times_more c.loop-left.left s.args.from c.loop-left-test.true, c.loop-left.invariant.0, s.requires.2)
 
 pub loop-left-preserved : goal.loop-left-preserved
 unfolding part_by
 loop-left-preserved c =
-    let s = c.before.before.before.before.before.before.before.before.before.before in
+    let s = c in
     let a = s.args in
     let l = c.loop-left in
     let some = c.loop-left-test.true in

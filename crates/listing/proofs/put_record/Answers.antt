@@ -14,10 +14,10 @@ use Rattle.listing.proofs.put_record.Goals as goal
 
 pub returns : goal.returns
 returns c =
-    let behind = c.before.before in
-    let text = behind.before.before.before.before.before in
-    let front = text.before.before.before.before in
-    let s = front.before.before.before.before.before.before.before in
+    let behind = c in
+    let text = c in
+    let front = c in
+    let s = c in
     let a = s.args in
     let r = a.«record».now in
     let x = bytes_at r 0 field_head in

@@ -7,8 +7,8 @@ use Rattle.listing.proofs.take_by.Goals as goal
 
 pub take_checked-requires : goal.take_checked-requires
 take_checked-requires c =
-    let d = c.before.before in
-    let j = d.before.before in
+    let d = c in
+    let j = c in
     (j.requires, sym j.judge_record-c.ensures ∙ j.in-Fine.is, sym d.check_listing-d.ensures ∙ c.in-Fine-d.is)
 
 pub returns-in-Refused : goal.returns-in-Refused
@@ -19,8 +19,8 @@ returns-in-Refused c =
 
 pub returns-in-Refused-d : goal.returns-in-Refused-d
 returns-in-Refused-d c =
-    let d = c.before in
-    let j = d.before.before in
+    let d = c in
+    let j = c in
     let a = j.args in
     let r = a.«record».now in
     take_unlike a.bytes.now r a.listing.now a.out.now (own r (form_causes r) (sym j.judge_record-c.ensures ∙ j.in-Fine.is)) _ _ (sym d.check_listing-d.ensures ∙ c.in-Refused-d.is)

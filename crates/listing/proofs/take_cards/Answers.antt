@@ -14,12 +14,12 @@ use Rattle.listing.proofs.take_cards.Goals as goal
 
 pub returns : goal.returns
 returns c =
-    let s = c.before.before.before.before.before.before.before.before.before.before.before in
+    let s = c in
     let a = s.args in
     let r = a.«record».now in
     let l = a.listing.now in
     let out = a.out.now in
-    let made = c.before.before.before.before.before in
+    let made = c in
     let bytes = made.card_bytes-bytes.ensures ∙ ap₂ (λ (x t : List ℕ). set x (get_or t 0 0) 0x40) made.codes.ensures made.characters-table.ensures ∙ blanked latin (latin_one_to_one.character 0 (omega arith)) in
     c.take_by.ensures
     ∙ ap (λ (b : List ℕ). take_by b r l out) bytes

@@ -13,7 +13,7 @@ owns c = let r = c.args.«record».now in own r (form_causes r) c.requires.1
 
 pub returns-then-out-length : goal.returns-then-out-length
 returns-then-out-length c =
-    let s = c.before.before.before.before.before in
+    let s = (goal.at.returns-then-out-length c).Start in
     let a = s.args in
     take_short a.bytes.now a.«record».now a.listing.now a.out.now (owns s) s.requires.2 c.if-out-length.true
 
@@ -24,13 +24,13 @@ slice_bounds-put_record-end-2 c =
 
 pub put_record-requires : goal.put_record-requires
 put_record-requires c =
-    let s = c.before.before.before.before.before.before in
+    let s = (goal.at.put_record-requires c).Start in
     let a = s.args in
     (s.requires.0, long a.«record».now (owns s).fine, listing_size a.listing.now s.requires.2, length-take-le (length a.«record».now) a.out.now c.if-out-length.false)
 
 pub returns : goal.returns
 returns c =
-    let s = c.before.before.before.before.before.before.before.before.before in
+    let s = (goal.at.returns c).Start in
     let a = s.args in
     take_taken a.bytes.now a.«record».now a.listing.now a.out.now (owns s) s.requires.2 c.if-out-length.false _ c.put_record.ensures
 

@@ -7,11 +7,11 @@ use Rattle.look_up.proofs.look_up.Goals as goal
 
 pub look-requires : goal.look-requires
 look-requires c =
-    let r = c.before in
+    let r = c in
     own_numbers r.args.reel.now (sym r.judge_reel-c.ensures ∙ c.in-Fine.is)
 
 pub returns-in-Refused : goal.returns-in-Refused
 returns-in-Refused c =
-    let r = c.before in
+    let r = c in
     let a = r.args in
     stopped_is a.reel.now a.trace a.b (refused_is Plain a.reel.now (sym r.judge_reel-c.ensures ∙ c.in-Refused.is))

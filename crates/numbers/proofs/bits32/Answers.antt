@@ -17,20 +17,20 @@ overflow_sub-result c = rw (to_z-of_z c.ranges.z, minus_one) (sfits_flip w32 _ c
 pub overflow_cast-result : goal.overflow_cast-result
 overflow_cast-result c =
     let f = c.ranges.z in
-    rw (to_z-of_z f, minus_one, to_z-of_z (sfits_flip w32 _ f)) (cast_flip w32 _ f (below c)).asks
+    rw (to_z-of_z f, minus_one, to_z-of_z (sfits_flip w32 _ f)) (cast_flip w32 _ f (below (goal.at.overflow_cast-result c).Then-z-lt0)).asks
 
 pub overflow_sub-result-then-z-lt0 : goal.overflow_sub-result-then-z-lt0
 overflow_sub-result-then-z-lt0 c =
     let f = c.ranges.z in
-    rw (to_z-of_z f, minus_one, to_z-of_z (sfits_flip w32 _ f)) (omega (arith, (cast_flip w32 _ f (below c)).small))
+    rw (to_z-of_z f, minus_one, to_z-of_z (sfits_flip w32 _ f)) (omega (arith, (cast_flip w32 _ f (below (goal.at.overflow_sub-result-then-z-lt0 c).Then-z-lt0)).small))
 
 pub overflow_cast-result-else-z-lt0 : goal.overflow_cast-result-else-z-lt0
-overflow_cast-result-else-z-lt0 c = rw (to_z-of_z c.ranges.z) (cast_pos w32 _ c.ranges.z (above c)).asks
+overflow_cast-result-else-z-lt0 c = rw (to_z-of_z c.ranges.z) (cast_pos w32 _ c.ranges.z (above (goal.at.overflow_cast-result-else-z-lt0 c).Else-z-lt0)).asks
 
 pub returns-then-z-lt0 : goal.returns-then-z-lt0
 returns-then-z-lt0 c =
     let f = c.ranges.z in
-    rw (to_z-of_z f, minus_one, to_z-of_z (sfits_flip w32 _ f)) (bits_neg w32 c.args.z (below c))
+    rw (to_z-of_z f, minus_one, to_z-of_z (sfits_flip w32 _ f)) (bits_neg w32 c.args.z (below (goal.at.returns-then-z-lt0 c).Then-z-lt0))
 
 pub returns-else-z-lt0 : goal.returns-else-z-lt0
-returns-else-z-lt0 c = rw (to_z-of_z c.ranges.z) (bits_pos w32 c.args.z (above c))
+returns-else-z-lt0 c = rw (to_z-of_z c.ranges.z) (bits_pos w32 c.args.z (above (goal.at.returns-else-z-lt0 c).Else-z-lt0))

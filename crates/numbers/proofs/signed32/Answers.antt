@@ -9,11 +9,11 @@ flipped : (c : Else-n-lt2147483648) → negsuc 0 -ℤ to_z w32 (4294967295 - c.a
 flipped c = signed_flip w32 c.args.n (4294967295 - c.args.n) c.if-n-lt2147483648.false (omega arith) (omega arith)
 
 pub overflow_sub-result-else-n-lt2147483648 : goal.overflow_sub-result-else-n-lt2147483648
-overflow_sub-result-else-n-lt2147483648 c = rw (flipped c) (sfits_to_z {w = w32} c.ranges.n)
+overflow_sub-result-else-n-lt2147483648 c = rw (flipped (goal.at.overflow_sub-result-else-n-lt2147483648 c).Else-n-lt2147483648) (sfits_to_z {w = w32} c.ranges.n)
 
 pub returns-then-n-lt2147483648 : goal.returns-then-n-lt2147483648
 returns-then-n-lt2147483648 c = signed_is w32 c.args.n c.ranges.n.fits
 
 pub returns-else-n-lt2147483648 : goal.returns-else-n-lt2147483648
 returns-else-n-lt2147483648 c =
-    rw (flipped c) (to_z-of_z {w = w32} (sfits_to_z c.ranges.n) ∙ signed_is w32 c.args.n c.ranges.n.fits)
+    rw (flipped (goal.at.returns-else-n-lt2147483648 c).Else-n-lt2147483648) (to_z-of_z {w = w32} (sfits_to_z c.ranges.n) ∙ signed_is w32 c.args.n c.ranges.n.fits)

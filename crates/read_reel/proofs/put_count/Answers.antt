@@ -21,7 +21,7 @@ shape_of-out c = omega (arith, c.out-2-1.given.1, c.out-1.given.1)
 
 pub returns : goal.returns
 returns c =
-    let s = c.before.before.before.before.before.before.before.before.before in
+    let s = c in
     let z = bytes_of 4 s.args.t in
     let w₁ = lend (tag_bytes 5 4) z 3 (start _ s.args.out.now s.requires) (omega arith) refl c.put_tag.ensures in
     close z 7 w₁ (omega arith) refl (copied _ _ c.put32.ensures c.put32-arg-1.given.1)

@@ -12,7 +12,7 @@ use Rattle.read_reel.proofs.put_field.Goals as goal
 pub returns : goal.returns
 unfolding field_copied
 returns c =
-    let b = c.before.before.before.before.before.before.before.before.before.before in
+    let b = c in
     let a = b.args in
     let s = a.reel.now in
     let z = sample_pairs s a.code a.count a.at in

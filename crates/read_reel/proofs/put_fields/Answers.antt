@@ -39,7 +39,7 @@ slice_bounds-copy-end-2 c = omega (arith, c.requires.1, c.out-1.given.1, c.out-2
 pub returns : goal.returns
 unfolding fields_copied
 returns c =
-    let b = c.before.before.before.before.before.before.before.before.before.before.before.before.before.before.before.before.before.before.before in
+    let b = c in
     let s = b.args.reel.now in
     let z = bytes_at s 3200 60 in
     let text = card_text_by b.args.layout s in
@@ -51,5 +51,5 @@ returns c =
 
 pub shape_of-out : goal.shape_of-out
 shape_of-out c =
-    let b = c.before.before.before.before.before.before.before.before.before.before.before.before.before.before.before.before.before.before.before in
+    let b = c in
     ap length (returns c) ∙ (size_fields b.args.layout b.args.reel.now ∙ sym b.requires.1)

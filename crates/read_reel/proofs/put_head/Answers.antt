@@ -19,10 +19,10 @@ place : (c : After-field_at) → place_no c.field_at.result ≡ code_place
 place c = ap place_no (c.field_at.ensures ∙ field_place_lem (record { 0 = 6 }) (record { 0 = 3225 }) (omega arith) (omega arith))
 
 pub put_over-requires : goal.put_over-requires
-put_over-requires c = let f = c.before.before.before.before in omega (arith, place c.before, ap length f.put_fields.ensures ∙ size_fields f.args.layout f.args.reel.now)
+put_over-requires c = let f = c in omega (arith, place (goal.at.put_over-requires c).After-field_at, ap length f.put_fields.ensures ∙ size_fields f.args.layout f.args.reel.now)
 
 pub returns : goal.returns
 unfolding head_copied
 returns c =
-    let f = c.before.before.before.before in
+    let f = (goal.at.returns c).After-field_at in
     c.put_over.ensures ∙ ap₂ (λ (l : List ℕ) (p : ℕ). overwritten l p (bytes_of 2 0)) f.put_fields.ensures (place f)

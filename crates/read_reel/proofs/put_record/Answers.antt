@@ -31,7 +31,7 @@ slice_bounds-put_traces-end c = omega (arith, c.requires.6, c.out-1.given.1)
 
 pub put_traces-count-requires : goal.put_traces-count-requires
 put_traces-count-requires c =
-    let s = c.before.before.before.before.before.before.before in
+    let s = c in
     (s.requires.0, s.requires.1, s.requires.2, s.requires.3, s.requires.7, s.requires.5, omega (arith, c.put_traces-arg-1.given.1))
 
 pub overflow_cast-t : goal.overflow_cast-t
@@ -49,7 +49,7 @@ put_count-requires c = omega (arith, c.put_count-arg-1.given.1)
 pub returns : goal.returns
 unfolding record_copied
 returns c =
-    let b = c.before.before.before.before.before.before.before.before.before.before.before.before.before.before in
+    let b = c in
     let a = b.args in
     let s = a.reel.now in
     let g = flat (map (record_trace_copied s a.code a.n a.i) (places a.w a.t first_trace)) in
@@ -63,5 +63,5 @@ returns c =
 
 pub shape_of-out : goal.shape_of-out
 shape_of-out c =
-    let b = c.before.before.before.before.before.before.before.before.before.before.before.before.before.before in
+    let b = c in
     ap length (returns c).1 ∙ (size_record b.args.reel.now b.args.code b.args.n b.args.i b.args.layout b.args.w b.args.t ∙ sym (b.requires.6 ∙ ap (λ (x : ℕ). 3273 + b.args.t * x) b.requires.7))

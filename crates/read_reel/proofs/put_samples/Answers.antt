@@ -15,7 +15,7 @@ use Rattle.read_reel.proofs.put_samples.Goals as goal
 
 pub loop-left-init : goal.loop-left-init
 loop-left-init c =
-    let s = c.before.before.before in
+    let s = c in
     let a = s.args in
     let w = c.width_of-v.ensures.0 in
     (omega (arith, s.requires.1, ap (λ (x : ℕ). a.n * x) w), s.requires.2, omega arith, begin _ _ (s.requires.2 ∙ sym (size_in_fields a.reel.now a.code a.n a.start)), w)
@@ -33,18 +33,18 @@ fields c =
 
 pub put_field-requires : goal.put_field-requires
 put_field-requires c =
-    let b = c.before.before.before.before.before.before.before in
+    let b = c in
     let l = c.loop-left in
     let count = c.next_count-count.result in (
       b.requires.0,
       omega (arith, c.next_count-count.ensures),
-      omega (arith, times c.before, l.invariant.0, ap (λ (x : ℕ). count * x) l.invariant.4),
+      omega (arith, times (goal.at.put_field-requires c).After-next_count-count, l.invariant.0, ap (λ (x : ℕ). count * x) l.invariant.4),
       omega arith,
     )
 
 pub loop-left-preserved : goal.loop-left-preserved
 loop-left-preserved c =
-    let s = c.before.before.before.before.before.before.before.before.before.before in
+    let s = c in
     let a = s.args in
     let r = a.reel.now in
     let l = c.loop-left in
@@ -61,9 +61,9 @@ loop-left-preserved c =
     ∙ ap (λ (x : ℕ). field_copied r a.code count l.at ++ samples_copied r a.code x (l.at + count * v)) less in
     let f = lend (field_copied r a.code count l.at) (samples_copied r a.code (l.left - count) (l.at + count * v)) (l.o + (3 + count * 6)) (again l.invariant.3 more) (omega arith) (size_field r a.code count l.at ∙ omega arith)
     c.put_field.ensures in (
-      omega (arith, times c.before.before.before.before, l.invariant.0, ap (λ (x : ℕ). x * v) less),
+      omega (arith, times (goal.at.loop-left-preserved c).After-next_count-count, l.invariant.0, ap (λ (x : ℕ). x * v) less),
       f.size ∙ sym l.invariant.3.size ∙ l.invariant.1,
-      omega (arith, fields c.before.before.before.before, l.invariant.2, ap (fields_length 6 field_samples) less),
+      omega (arith, fields (goal.at.loop-left-preserved c).After-next_count-count, l.invariant.2, ap (fields_length 6 field_samples) less),
       f,
       l.invariant.4,
     )
@@ -89,10 +89,10 @@ pub slice_bounds-put_field-end : goal.slice_bounds-put_field-end
 slice_bounds-put_field-end c = omega (arith, fields c, c.loop-left.invariant.1, c.loop-left.invariant.2)
 
 pub overflow_mul-at : goal.overflow_mul-at
-overflow_mul-at c = omega (arith, times c.before.before.before.before, c.loop-left.invariant.0)
+overflow_mul-at c = omega (arith, times (goal.at.overflow_mul-at c).After-next_count-count, c.loop-left.invariant.0)
 
 pub overflow_add-at : goal.overflow_add-at
-overflow_add-at c = omega (arith, times c.before.before.before.before, c.loop-left.invariant.0)
+overflow_add-at c = omega (arith, times (goal.at.overflow_add-at c).After-next_count-count, c.loop-left.invariant.0)
 
 pub overflow_sub-left : goal.overflow_sub-left
 overflow_sub-left c = omega (arith, c.next_count-count.ensures)

@@ -17,21 +17,21 @@ use Rattle.read_reel.proofs.put_text.Goals as goal
 -- the card bytes as they were put first, each by the rule for one
 put : (c : After-put_cards) → c.put_cards.new.1.0 ≡ map blank (bytes_at c.args.reel.now 0 card_bytes)
 put c =
-    let s = c.before.before.before.before.before in
+    let s = c in
     cards_put_lem _ _ c.put_cards.ensures c.put_cards-arg-1.given.1 s.requires.1
     ∙ ap (map blank) (bytes_between s.args.reel.now 0 3200 3200 (omega (arith, s.requires.0)) refl)
 
 pub returns-in-Plain : goal.returns-in-Plain
 unfolding card_text_by
 returns-in-Plain c =
-    let b = c.before.before.before in
+    let b = (goal.at.returns-in-Plain c).After-put_cards in
     put b ∙ ap (λ (k : Layout). card_text_by k b.args.reel.now) (sym c.in-Plain.is)
 
 pub returns-in-Eagle : goal.returns-in-Eagle
 returns-in-Eagle c =
-    let o = c.before.before in
-    let e = o.before.before in
-    let b = e.before.before.before in
+    let o = c in
+    let e = c in
+    let b = (goal.at.returns-in-Eagle c).After-put_cards in
     let s = b.args.reel.now in
     o.put_over.ensures ∙ ap (λ (l : List ℕ). overwritten l 3198 (bytes_of 2 0x4040)) (put b) ∙ checks_blank s
     ∙ ap (λ (k : Layout). card_text_by k s) (sym e.in-Eagle.is)

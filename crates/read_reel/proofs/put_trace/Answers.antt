@@ -19,7 +19,7 @@ use Rattle.read_reel.proofs.put_trace.Goals as goal
 pub returns : goal.returns
 unfolding record_trace_copied
 returns c =
-    let b = c.before.before.before.before.before.before.before.before.before.before.before.before.before.before.before in
+    let b = c in
     let a = b.args in
     let s = a.reel.now in
     let y = header_bytes (header_of (trace_number s a.n a.i a.at)) in

@@ -16,7 +16,7 @@ use Rattle.read_reel.proofs.put_traces.Goals as goal
 
 pub loop-left-init : goal.loop-left-init
 loop-left-init c =
-    let s = c.before.before in
+    let s = c in
     let a = s.args in
     (omega (arith, s.requires.5), s.requires.6, omega arith, begin _ _ (s.requires.6 ∙ ap (λ (x : ℕ). a.t * x) s.requires.4 ∙ sym (size_traces a.reel.now a.code a.n a.i a.w a.t first_trace)), omega arith)
 
@@ -28,7 +28,7 @@ slice_bounds-put_trace-end c = omega (arith, times_more c.loop-left.left c.args.
 
 pub put_trace-count-requires : goal.put_trace-count-requires
 put_trace-count-requires c =
-    let s = c.before.before.before.before.before in
+    let s = c in
     let l = c.loop-left in (
       s.requires.0,
       s.requires.1,
@@ -47,9 +47,9 @@ more_room reel code n w t left at count k e room some i is =
 
 pub overflow_add-count : goal.overflow_add-count
 overflow_add-count c =
-    let t = c.before.before.before.before in
-    let h = t.before in
-    let s = h.before.before.before in
+    let t = c in
+    let h = c in
+    let s = c in
     let a = s.args in
     let l = h.loop-left in
     omega (arith, (more_room a.reel.now a.code a.n a.w a.t l.left l.at l.count _ s.requires.2 s.requires.5 (omega (arith, t.loop-left-test.true)) l.invariant.4 c.put_trace-count.ensures.0).0, s.well_formed.0)
@@ -62,17 +62,17 @@ overflow_sub-at c = omega (arith, c.requires.3)
 
 pub look_over-count-requires : goal.look_over-count-requires
 look_over-count-requires c =
-    let t = c.before.before.before.before in
-    let h = t.before in
-    let s = h.before.before.before in
+    let t = c in
+    let h = c in
+    let s = c in
     (omega (arith, times_more h.loop-left.left s.args.w (omega (arith, t.loop-left-test.true)), h.loop-left.invariant.0, s.requires.3), omega (arith, s.requires.5))
 
 pub overflow_add-count-in-loop-left : goal.overflow_add-count-in-loop-left
 overflow_add-count-in-loop-left c =
-    let b = c.before in
-    let t = b.before.before.before.before in
-    let h = t.before in
-    let s = h.before.before.before in
+    let b = c in
+    let t = c in
+    let h = c in
+    let s = c in
     let a = s.args in
     let l = h.loop-left in
     omega (arith, (more_room a.reel.now a.code a.n a.w a.t l.left l.at l.count _ s.requires.2 s.requires.5 (omega (arith, t.loop-left-test.true)) l.invariant.4 b.put_trace-count.ensures.0).0, c.look_over-count.ensures, s.well_formed.0)
@@ -85,10 +85,10 @@ loop-left-smaller c = omega (arith, c.loop-left-test.true)
 
 pub loop-left-preserved : goal.loop-left-preserved
 loop-left-preserved c =
-    let b = c.before in
-    let t = b.before.before.before.before in
-    let h = t.before in
-    let s = h.before.before.before in
+    let b = c in
+    let t = c in
+    let h = c in
+    let s = c in
     let a = s.args in
     let r = a.reel.now in
     let l = h.loop-left in
@@ -113,7 +113,7 @@ slice_bounds-put_trace-end-then-left-gt0 c =
 
 pub put_trace-count-requires-then-left-gt0 : goal.put_trace-count-requires-then-left-gt0
 put_trace-count-requires-then-left-gt0 c =
-    let s = c.before.before.before.before.before.before in
+    let s = c in
     let l = c.loop-left in (
       s.requires.0,
       s.requires.1,
@@ -123,18 +123,18 @@ put_trace-count-requires-then-left-gt0 c =
 
 pub overflow_add-count-then-left-gt0 : goal.overflow_add-count-then-left-gt0
 overflow_add-count-then-left-gt0 c =
-    let t = c.before.before.before.before in
-    let h = t.before.before in
-    let s = h.before.before.before in
+    let t = c in
+    let h = c in
+    let s = c in
     let a = s.args in
     let l = h.loop-left in
     omega (arith, (more_room a.reel.now a.code a.n a.w a.t l.left l.at l.count _ s.requires.2 s.requires.5 t.if-left-gt0.true l.invariant.4 c.put_trace-count-then-left-gt0.ensures.0).0, s.well_formed.0)
 
 pub returns-then-left-gt0 : goal.returns-then-left-gt0
 returns-then-left-gt0 c =
-    let t = c.before.before.before.before in
-    let h = t.before.before in
-    let s = h.before.before.before in
+    let t = c in
+    let h = c in
+    let s = c in
     let a = s.args in
     let r = a.reel.now in
     let l = h.loop-left in
@@ -145,7 +145,7 @@ returns-then-left-gt0 c =
 
 pub shape_of-out-then-left-gt0 : goal.shape_of-out-then-left-gt0
 shape_of-out-then-left-gt0 c =
-    let h = c.before.before.before.before.before.before in
+    let h = c in
     ap length (returns-then-left-gt0 c).1 ∙ sym h.loop-left.invariant.3.size ∙ h.loop-left.invariant.1 ∙ sym h.requires.6
 
 pub shape_of-out-else-left-gt0 : goal.shape_of-out-else-left-gt0

@@ -9,6 +9,6 @@ read_checked-requires c = sym c.requires ∙ c.in-Fine.is
 
 pub returns-in-Refused : goal.returns-in-Refused
 returns-in-Refused c =
-    let s = c.before.before.before in
+    let s = c in
     let a = s.args in
     refused_end a.layout a.reel.now a.out.now _ _ (refused_is a.layout a.reel.now (sym s.requires ∙ c.in-Refused.is))

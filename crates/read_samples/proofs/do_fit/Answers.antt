@@ -24,7 +24,7 @@ returns-then-not-are_within c =
     let a = c.args in
     let w : leb (a.start + a.n * sample_bytes a.code) a.bytes ≡ false =
     ap (λ (v : ℕ). leb (a.start + a.n * v) a.bytes) (sym c.width_of.ensures.0) ∙ sym c.are_within.ensures ∙ c.if-not-are_within.true in
-    rw (code c.before.before.before, w)
+    rw (code (goal.at.returns-then-not-are_within c).Else-not-is_code, w)
 
 pub returns : goal.returns
-returns c = rw (code c.before.before.before.before, words c.before) c.make_up.ensures
+returns c = rw (code (goal.at.returns c).Else-not-is_code, words (goal.at.returns c).Else-not-are_within) c.make_up.ensures

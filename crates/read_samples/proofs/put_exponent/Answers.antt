@@ -11,6 +11,6 @@ use Rattle.read_samples.proofs.put_exponent.Goals as goal
 
 pub returns : goal.returns
 returns c =
-    let s = c.before.before.before.before.before.before.before in
+    let s = c in
     let x : SFits w16 s.args.pair.e = search rules in
     copied _ _ c.put16.ensures s.requires ∙ ap (bytes_of 2) (c.bits16.ensures ∙ ap (bits_of 16) (to_z-of_z x))

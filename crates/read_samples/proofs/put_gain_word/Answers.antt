@@ -10,8 +10,8 @@ use Rattle.read_samples.proofs.put_gain_word.Goals as goal
 
 pub returns : goal.returns
 returns c =
-    let p = c.before.before.before.before in
-    let s = p.before.before.before.before.before in
+    let p = c in
+    let s = c in
     let g = c.put_pair.ensures in (
       g.0,
       g.1 ∙ ap pair_content (p.gain_number.ensures ∙ ap₂ (λ (g d : ℕ). pair_of (gain_value g (signed_of 16 d)))

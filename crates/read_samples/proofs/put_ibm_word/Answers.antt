@@ -9,9 +9,9 @@ use Rattle.read_samples.proofs.put_ibm_word.Goals as goal
 
 pub returns : goal.returns
 returns c =
-    let m = c.before.before.before.before.before.before.before in
-    let p = m.before.before in
-    let s = p.before.before.before.before in
+    let m = c in
+    let p = c in
+    let s = c in
     let x = p.swapped in
     let whole = reversed_parts s.args.word x.result s.ranges.word.fits x.ensures in (
       c.low_first_at-w.ensures,

@@ -11,6 +11,6 @@ use Rattle.read_samples.proofs.put_mantissa.Goals as goal
 
 pub returns : goal.returns
 returns c =
-    let s = c.before.before.before.before.before.before.before in
+    let s = c in
     let x : SFits w32 s.args.pair.m = search rules in
     copied _ _ c.put32.ensures s.requires ∙ ap (bytes_of 4) (c.bits32.ensures ∙ ap (bits_of 32) (to_z-of_z x))

@@ -4,8 +4,8 @@ use Rattle.read_samples.proofs.put_pair.Goals as goal
 
 pub returns : goal.returns
 returns c =
-    let x = c.before.before.before.before.before.before.before in
-    let s = x.before.before.before.before in (
+    let x = c in
+    let s = c in (
       c.word32_at-w.ensures,
       parts_put s.args.out.now s.args.pair s.requires.1 x.put_exponent.ensures c.put_mantissa.ensures,
     )

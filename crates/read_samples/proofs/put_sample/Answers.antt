@@ -4,6 +4,6 @@ use Rattle.read_samples.proofs.put_sample.Goals as goal
 
 pub returns : goal.returns
 returns c =
-    let x = c.before.before.before.before.before.before in
-    let s = x.before.before.before in
+    let x = c in
+    let s = c in
     parts_put s.args.out.now s.args.pair s.requires x.put_exponent.ensures c.put_mantissa.ensures

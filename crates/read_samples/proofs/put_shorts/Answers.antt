@@ -55,7 +55,7 @@ slice_bounds-put_whole16_word-end c = omega (arith, c.loop-left.invariant.1, c.l
 pub put_whole16_word-w-requires : goal.put_whole16_word-w-requires
 put_whole16_word-w-requires c =
     let l = c.loop-left in
-    let b = c.before.before.before.before.before.before.before in
+    let b = c in
     let a = b.args in
     let p = b.requires in
     (p.0, fewer a.code a.v p.1 p.2, rw p.1 (omega (arith, times_more l.left a.v c.loop-left-test.true, l.invariant.0)), c.put_whole16_word-arg-1.given.1 ∙ omega arith)
@@ -69,7 +69,7 @@ loop-left-smaller c = omega (arith, c.loop-left-test.true)
 pub loop-left-preserved : goal.loop-left-preserved
 unfolding sample_pairs
 loop-left-preserved c =
-    let b = c.before.before.before.before.before.before.before.before.before.before in
+    let b = c in
     let a = b.args in
     let p = b.requires in
     let s = a.reel.now in
@@ -98,7 +98,7 @@ put_sample-requires c = c.put_sample-arg-1.given.1 ∙ omega arith
 pub returns : goal.returns
 unfolding sample_pairs
 returns c =
-    let b = c.before.before.before.before.before.before.before.before.before.before.before in
+    let b = c in
     let a = b.args in
     let p = b.requires in
     let s = a.reel.now in
@@ -111,5 +111,5 @@ returns c =
 
 pub shape_of-out : goal.shape_of-out
 shape_of-out c =
-    let b = c.before.before.before.before.before.before.before.before.before.before.before in
+    let b = c in
     ap length (returns c) ∙ size_samples b.args.reel.now b.args.code b.args.n b.args.start ∙ sym b.requires.4

@@ -14,8 +14,8 @@ use Rattle.read_samples.proofs.put_word.Goals as goal
 
 pub returns-then-code-lt2 : goal.returns-then-code-lt2
 returns-then-code-lt2 c =
-    let t = c.before.before.before.before in
-    let b = t.before.before.before in
+    let t = c in
+    let b = c in
     let a = b.args in
     let s = a.reel.now in
     let g = c.put_ibm_word in
@@ -33,8 +33,8 @@ whole s code at k w r v l is h g =
 
 pub returns-then-code-lt3 : goal.returns-then-code-lt3
 returns-then-code-lt3 c =
-    let t = c.before.before.before.before.before in
-    let b = t.before.before.before.before in
+    let t = c in
+    let b = c in
     let a = b.args in
     let g = c.put_pair in
     let p = b.requires in
@@ -42,15 +42,15 @@ returns-then-code-lt3 c =
 
 pub put_gain_word-requires : goal.put_gain_word-requires
 put_gain_word-requires c =
-    let t = c.before.before in
-    let b = t.before.before.before.before in
+    let t = c in
+    let b = c in
     let a = b.args in
     (b.requires.2, search rules, rw (held_whole a.code a.word (omega (arith, t.if-code-lt3.false))) at b.requires.4)
 
 pub returns-then-code-lt5 : goal.returns-then-code-lt5
 returns-then-code-lt5 c =
-    let t = c.before.before.before.before in
-    let b = t.before.before.before.before.before in
+    let t = c in
+    let b = c in
     let a = b.args in
     let g = c.put_gain_word in
     let p = b.requires in
@@ -59,8 +59,8 @@ returns-then-code-lt5 c =
 
 pub returns : goal.returns
 returns c =
-    let t = c.before.before.before.before.before in
-    let b = t.before.before.before.before.before in
+    let t = c in
+    let b = c in
     let a = b.args in
     let g = c.put_pair-2 in
     let p = b.requires in

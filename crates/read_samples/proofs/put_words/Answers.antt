@@ -67,7 +67,7 @@ loop-left-smaller c = omega (arith, c.loop-left-test.true)
 pub loop-left-preserved : goal.loop-left-preserved
 unfolding sample_pairs
 loop-left-preserved c =
-    let b = c.before.before.before.before.before.before.before.before.before.before in
+    let b = c in
     let s = b.args.reel.now in
     let l = c.loop-left in
     let some = c.loop-left-test.true in
@@ -108,5 +108,5 @@ returns c =
 
 pub shape_of-out : goal.shape_of-out
 shape_of-out c =
-    let b = c.before.before.before.before.before.before.before.before.before.before.before in
+    let b = c in
     ap length (returns c) ∙ size_samples b.args.reel.now b.args.code b.args.n b.args.start ∙ sym b.requires.3

@@ -17,12 +17,12 @@ fits c = sym c.do_fit.ensures ∙ c.if-not-do_fit.false
 pub put_samples-requires : goal.put_samples-requires
 put_samples-requires c =
     let a = c.args in
-    they_fit a.reel.now a.code a.n a.start.0 a.out.now (fits c.before)
+    they_fit a.reel.now a.code a.n a.start.0 a.out.now (fits (goal.at.put_samples-requires c).Else-not-do_fit)
 
 pub returns : goal.returns
 returns c =
     let a = c.args in
-    c.put_samples.ensures ∙ sym (fit_read a.reel.now a.code a.n a.start.0 a.out.now (fits c.before.before.before.before))
+    c.put_samples.ensures ∙ sym (fit_read a.reel.now a.code a.n a.start.0 a.out.now (fits (goal.at.returns c).Else-not-do_fit))
 
 pub shape_of-out : goal.shape_of-out
 shape_of-out c = c.put_samples.auto.1.1.1.1.0

@@ -24,4 +24,4 @@ returns c =
     let k = c.binary_number-3 in
     c.check_numbers.ensures ∙ ap (λ (x : ℕ). number_causes x n.result k.result) i.ensures ∙ ap (λ (x : ℕ). number_causes (number16 s 3222) x k.result) n.ensures
     ∙ ap (λ (x : ℕ). number_causes (number16 s 3222) (number16 s 3226) x) k.ensures
-    ∙ then_next _ _ (fine c.before.before.before.before)
+    ∙ then_next _ _ (fine (goal.at.returns c).In-Fine)

@@ -23,9 +23,9 @@ pair_at-requires c = omega (arith, times_more c.loop-left.left 6 c.loop-left-tes
 
 pub returns-then-not-is_canonical : goal.returns-then-not-is_canonical
 returns-then-not-is_canonical c =
-    let h = c.before.before.before.before in
+    let h = c in
     let s = c.args.«record».now in
-    let k = ap (λ b. refuse_if (not b) 13 h.loop-left.at) (sym (canonical c.before) ∙ c.if-not-is_canonical.true) in
+    let k = ap (λ b. refuse_if (not b) 13 h.loop-left.at) (sym (canonical (goal.at.returns-then-not-is_canonical c).After-is_canonical) ∙ c.if-not-is_canonical.true) in
     sym (h.loop-left.invariant.0 ∙ first_stop (pair_cause_in tag04 s) 6 h.loop-left.left h.loop-left.at c.loop-left-test.true k)
 
 pub overflow_add-at : goal.overflow_add-at
@@ -39,9 +39,9 @@ loop-left-smaller c = omega (arith, c.loop-left-test.true)
 
 pub loop-left-preserved : goal.loop-left-preserved
 loop-left-preserved c =
-    let h = c.before.before.before.before in
+    let h = c in
     let s = c.args.«record».now in
-    let k = ap (λ b. refuse_if (not b) 13 h.loop-left.at) (sym (canonical c.before) ∙ c.if-not-is_canonical.false) in (
+    let k = ap (λ b. refuse_if (not b) 13 h.loop-left.at) (sym (canonical (goal.at.loop-left-preserved c).After-is_canonical) ∙ c.if-not-is_canonical.false) in (
       h.loop-left.invariant.0 ∙ first_more (pair_cause_in tag04 s) 6 h.loop-left.left h.loop-left.at c.loop-left-test.true k,
       omega (arith, times_more h.loop-left.left 6 c.loop-left-test.true, h.loop-left.invariant),
     )

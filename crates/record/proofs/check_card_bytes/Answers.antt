@@ -15,7 +15,7 @@ bounds-record-at c = omega (arith, c.loop-left-test.true, c.loop-left.invariant)
 
 pub returns-then-record-at-eq0 : goal.returns-then-record-at-eq0
 returns-then-record-at-eq0 c =
-    let h = c.before.before.before in
+    let h = c in
     let s = c.args.«record».now in
     sym (h.loop-left.invariant.0 ∙ first_stop (card_cause s) 1 h.loop-left.left h.loop-left.at c.loop-left-test.true (rw (eq-eqb (get_or s h.loop-left.at 0) 0 c.if-record-at-eq0.true)))
 
@@ -30,7 +30,7 @@ loop-left-smaller c = omega (arith, c.loop-left-test.true)
 
 pub loop-left-preserved : goal.loop-left-preserved
 loop-left-preserved c =
-    let h = c.before.before.before in
+    let h = c in
     let s = c.args.«record».now in (
       h.loop-left.invariant.0 ∙ first_more (card_cause s) 1 h.loop-left.left h.loop-left.at c.loop-left-test.true (rw (ne_eqb (get_or s h.loop-left.at 0) 0 c.if-record-at-eq0.false)),
       omega (arith, c.loop-left-test.true, h.loop-left.invariant),

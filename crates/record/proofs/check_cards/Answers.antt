@@ -15,8 +15,8 @@ unfolding cards_causes
 returns-in_default c = let e = c.check_field-a.ensures in e ∙ then_stop _ _ (sym e ∙ c.in_default.is)
 
 pub check_card_bytes-requires : goal.check_card_bytes-requires
-check_card_bytes-requires c = field_room c.args.«record».now 1 3200 0 (fine c)
+check_card_bytes-requires c = field_room c.args.«record».now 1 3200 0 (fine (goal.at.check_card_bytes-requires c).In-Fine)
 
 pub returns : goal.returns
 unfolding cards_causes
-returns c = c.check_card_bytes.ensures ∙ then_next _ _ (fine c.before)
+returns c = c.check_card_bytes.ensures ∙ then_next _ _ (fine (goal.at.returns c).In-Fine)

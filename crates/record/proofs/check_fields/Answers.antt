@@ -29,7 +29,7 @@ enum_told-in_default c = c.in_default.in_default-own.keys2
 pub returns-in_default : goal.returns-in_default
 returns-in_default c =
     let e = c.check_one-a.ensures in
-    let h = c.before.before.before.before in
+    let h = c in
     let a = c.args in
     let s = a.«record».now in
     let left = h.loop-left.left in
@@ -44,7 +44,7 @@ fine c = sym c.check_one-a.ensures ∙ c.in-Fine.is
 
 -- the field ends within the record
 room : (c : In-Fine) → let a = c.args in c.loop-left.at + (3 + c.next_count-count.result * 6) ≤ length a.«record».now
-room c = let a = c.args in one_room a.target a.«record».now c.next_count-count.result c.loop-left.at (fine c)
+room c = let a = c.args in one_room a.target a.«record».now c.next_count-count.result c.loop-left.at (fine (goal.at.In-Fine c).In-Fine)
 
 pub overflow_mul-at : goal.overflow_mul-at
 overflow_mul-at c = omega (arith, c.next_count-count.ensures, c.loop-left.invariant.1, c.requires)
@@ -53,7 +53,7 @@ pub overflow_add-at : goal.overflow_add-at
 overflow_add-at c = omega (arith, c.next_count-count.ensures, c.loop-left.invariant.1, c.requires)
 
 pub overflow_add-at-in-loop-left : goal.overflow_add-at-in-loop-left
-overflow_add-at-in-loop-left c = omega (arith, room c)
+overflow_add-at-in-loop-left c = omega (arith, room (goal.at.overflow_add-at-in-loop-left c).In-Fine)
 
 pub overflow_sub-left : goal.overflow_sub-left
 overflow_sub-left c = omega (arith, c.next_count-count.ensures)
@@ -63,7 +63,7 @@ loop-left-smaller c = omega (arith, c.next_count-count.ensures, c.loop-left-test
 
 pub loop-left-preserved : goal.loop-left-preserved
 loop-left-preserved c =
-    let h = c.before.before.before.before in
+    let h = c in
     let a = c.args in
     let s = a.«record».now in
     let left = h.loop-left.left in
@@ -73,7 +73,7 @@ loop-left-preserved c =
     let less : left - a.c ≡ left - count = omega arith in (
       h.loop-left.invariant.0
           ∙ fields_more a.target s a.c c.requires.0 left at c.loop-left-test.true
-          ∙ ap (λ x. then x (fields_by a.target s a.c (left - a.c) (at + (3 + min a.c left * 6)))) (ap (λ (x : ℕ). field_by a.target s x at) (sym q) ∙ fine c)
+          ∙ ap (λ x. then x (fields_by a.target s a.c (left - a.c) (at + (3 + min a.c left * 6)))) (ap (λ (x : ℕ). field_by a.target s x at) (sym q) ∙ fine (goal.at.loop-left-preserved c).In-Fine)
           ∙ ap₂ (λ (x y : ℕ). fields_by a.target s a.c x (at + (3 + y * 6))) less (sym q),
       omega (arith, c.next_count-count.ensures, h.loop-left.invariant.1),
     )

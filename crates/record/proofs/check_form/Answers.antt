@@ -20,7 +20,7 @@ returns-in_default c =
 
 pub returns : goal.returns
 returns c =
-    let b = c.before.before.before in
+    let b = (goal.at.returns c).In-Fine in
     let s = b.args.«record».now in
     let n = c.binary_number-n in
     let i = c.binary_number-i in

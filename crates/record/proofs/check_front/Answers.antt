@@ -13,4 +13,4 @@ pub returns-in_default : goal.returns-in_default
 returns-in_default c = let e = c.check_cards-a.ensures in e ∙ then_stop _ _ (sym e ∙ c.in_default.is)
 
 pub returns : goal.returns
-returns c = c.check_binary.ensures ∙ then_next _ _ (fine c.before)
+returns c = c.check_binary.ensures ∙ then_next _ _ (fine (goal.at.returns c).In-Fine)

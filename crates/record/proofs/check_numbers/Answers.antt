@@ -21,13 +21,13 @@ row3 : (c : After-check_same) → c.check_same.result ≡ refuse_if (not (eqb c.
 row3 c = c.check_same.ensures ∙ ap (λ (x : ℕ). refuse_if (not (eqb c.args.code 0)) 13 x) (ap place_no c.field_at-3.ensures)
 
 pub returns-in_default : goal.returns-in_default
-returns-in_default c = let e = row1 c.before in e ∙ then_stop _ _ (sym e ∙ c.in_default.is)
+returns-in_default c = let e = row1 (goal.at.returns-in_default c).After-check_limits-a in e ∙ then_stop _ _ (sym e ∙ c.in_default.is)
 
 pub returns-in_default-b : goal.returns-in_default-b
 returns-in_default-b c =
-    let e = row2 c.before in
-    e ∙ then_stop _ _ (sym e ∙ c.in_default-b.is) ∙ then_next _ _ (sym (row1 c.before.before.before.before) ∙ c.in-Fine.is)
+    let e = row2 (goal.at.returns-in_default-b c).After-check_limits-b in
+    e ∙ then_stop _ _ (sym e ∙ c.in_default-b.is) ∙ then_next _ _ (sym (row1 (goal.at.returns-in_default-b c).After-check_limits-a) ∙ c.in-Fine.is)
 
 pub returns : goal.returns
 returns c =
-    row3 c ∙ sym (then_last _) ∙ then_next _ _ (sym (row2 c.before.before.before) ∙ c.in-Fine-b.is) ∙ then_next _ _ (sym (row1 c.before.before.before.before.before.before) ∙ c.in-Fine.is)
+    row3 (goal.at.returns c).After-check_same ∙ sym (then_last _) ∙ then_next _ _ (sym (row2 (goal.at.returns c).After-check_limits-b) ∙ c.in-Fine-b.is) ∙ then_next _ _ (sym (row1 (goal.at.returns c).After-check_limits-a) ∙ c.in-Fine.is)

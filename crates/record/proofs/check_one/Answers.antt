@@ -16,7 +16,7 @@ fine : (c : In-Fine) → let a = c.args in field_cause a.«record».now 4 (a.cou
 fine c = sym c.check_field-a.ensures ∙ c.in-Fine.is
 
 room : (c : In-Fine) → let a = c.args in a.at + (3 + a.count * 6) ≤ length a.«record».now
-room c = let a = c.args in field_room a.«record».now 4 (a.count * 6) a.at (fine c)
+room c = let a = c.args in field_room a.«record».now 4 (a.count * 6) a.at (fine (goal.at.In-Fine c).In-Fine)
 
 pub overflow_mul-count : goal.overflow_mul-count
 overflow_mul-count c = search rules
@@ -35,11 +35,11 @@ unfolding field_by
 returns-in_default c = let e = c.check_field-a.ensures in e ∙ then_stop _ _ (sym e ∙ c.in_default.is)
 
 pub overflow_add-at : goal.overflow_add-at
-overflow_add-at c = omega (arith, room c)
+overflow_add-at c = omega (arith, room (goal.at.overflow_add-at c).In-Fine)
 
 pub check_pairs-requires : goal.check_pairs-requires
-check_pairs-requires c = omega (arith, room c)
+check_pairs-requires c = omega (arith, room (goal.at.check_pairs-requires c).In-Fine)
 
 pub returns : goal.returns
 unfolding field_by
-returns c = c.check_pairs.ensures ∙ then_next _ _ (fine c.before)
+returns c = c.check_pairs.ensures ∙ then_next _ _ (fine (goal.at.returns c).In-Fine)

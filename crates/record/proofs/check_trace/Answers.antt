@@ -18,7 +18,7 @@ fine c = sym c.check_header-a.ensures ∙ c.in-Fine.is
 
 -- the header ends within the record
 room : (c : In-Fine) → let a = c.args in a.at.0 + 183 ≤ length a.«record».now
-room c = let a = c.args in header_room a.«record».now a.n a.i a.at.0 (fine c)
+room c = let a = c.args in header_room a.«record».now a.n a.i a.at.0 (fine (goal.at.In-Fine c).In-Fine)
 
 pub returns-in_default : goal.returns-in_default
 unfolding trace_by
@@ -28,10 +28,10 @@ some : (c : After-share_at-c) → 0 < c.share_at-c.result
 some c = let a = c.args in subst (λ (x : ℕ). 0 < x) (sym c.share_at-c.ensures) (share_some tag04 a.«record».now a.n (a.at.0 + 183))
 
 pub overflow_add-at : goal.overflow_add-at
-overflow_add-at c = omega (arith, room c.before.before)
+overflow_add-at c = omega (arith, room (goal.at.overflow_add-at c).In-Fine)
 
 pub check_fields-requires : goal.check_fields-requires
-check_fields-requires c = (some c.before, search rules)
+check_fields-requires c = (some (goal.at.check_fields-requires c).After-share_at-c, search rules)
 
 pub returns : goal.returns
 unfolding trace_by
@@ -39,4 +39,4 @@ returns c =
     let a = c.args in
     let s = a.«record».now in
     c.check_fields.ensures ∙ ap (λ (x : ℕ). fields_by a.target s x a.n (a.at.0 + 183)) c.share_at-c.ensures
-    ∙ then_next _ _ (fine c.before.before.before)
+    ∙ then_next _ _ (fine (goal.at.returns c).In-Fine)

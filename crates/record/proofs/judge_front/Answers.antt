@@ -24,12 +24,12 @@ returns-in_default c =
     cards ∙ then_stop _ _ (sym cards ∙ t)
 
 pub slice_bounds-is_card_text-end : goal.slice_bounds-is_card_text-end
-slice_bounds-is_card_text-end c = omega (arith, field_room c.args.«record».now 1 3200 0 (fine c))
+slice_bounds-is_card_text-end c = omega (arith, field_room c.args.«record».now 1 3200 0 (fine (goal.at.slice_bounds-is_card_text-end c).In-Fine))
 
 pub returns-then-is_card_text : goal.returns-then-is_card_text
 unfolding cards_causes
 returns-then-is_card_text c =
-    let told = c.before.before.before.before in
+    let told = (goal.at.returns-then-is_card_text c).In-Fine in
     let s = told.args.«record».now in
     let none = text_none _ (sym c.is_card_text.ensures ∙ c.if-is_card_text.true) in
     let text = ap no_zero (bytes_between s field_head binary_place card_bytes (field_room s 1 3200 0 (fine told)) refl) in

@@ -16,7 +16,7 @@ last_four c = ⊎_elim (λ w. omega (arith, w.0.taken, w.1)) (λ w. w.1) c.if-si
 
 pub returns : goal.returns
 returns c =
-    let b = c.before.before in
+    let b = (goal.at.returns c).Joined-size-lt4 in
     let s = b.args.«record».now in
     ap₂ both c.binary_number.ensures (c.number32_at.ensures ∙ ap (λ (p : ℕ). number (bytes_at s p 4)) (last_four b))
   where

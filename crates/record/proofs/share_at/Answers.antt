@@ -37,7 +37,7 @@ room c =
 
 pub returns-then-number16_at-n : goal.returns-then-number16_at-n
 returns-then-number16_at-n c =
-    let b = c.before.before in
+    let b = (goal.at.returns-then-number16_at-n c).Else-not-ends_within in
     let a = b.args in
     let s = a.«record».now in
     let e : a.at.0 + 184 ≡ a.at.0 + 183 + 1 = omega arith in
@@ -46,7 +46,7 @@ returns-then-number16_at-n c =
 
 pub returns : goal.returns
 returns c =
-    let b = c.before.before in
+    let b = (goal.at.returns c).Else-not-ends_within in
     let a = b.args in
     let s = a.«record».now in
     let e : a.at.0 + 184 ≡ a.at.0 + 183 + 1 = omega arith in
@@ -54,4 +54,4 @@ returns c =
     rw (lt-ltb 6000 a.n b.if-n-le6000.false, le-leb a.n 8000 b.if-n-gt8000.false, eq-eqb (number16 s (a.at.0 + 183 + 1)) (a.n * 6) (sym is ∙ c.if-number16_at-n.false))
 
 pub overflow_add-p : goal.overflow_add-p
-overflow_add-p c = omega (arith, room c)
+overflow_add-p c = omega (arith, room (goal.at.overflow_add-p c).Else-not-ends_within)

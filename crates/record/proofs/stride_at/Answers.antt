@@ -19,22 +19,22 @@ few : (c : After-share_at-c) → let a = c.args in let x = c.share_at-c.result i
 few c = let a = c.args in let x = c.share_at-c.result in div-le_self (a.n + (x - 1)) x
 
 pub overflow_sub-result : goal.overflow_sub-result
-overflow_sub-result c = omega (arith, some c)
+overflow_sub-result c = omega (arith, some (goal.at.overflow_sub-result c).After-share_at-c)
 
 pub overflow_add-result : goal.overflow_add-result
-overflow_add-result c = omega (arith, some c)
+overflow_add-result c = omega (arith, some (goal.at.overflow_add-result c).After-share_at-c)
 
 pub nonzero_div-result : goal.nonzero_div-result
-nonzero_div-result c = omega (arith, some c)
+nonzero_div-result c = omega (arith, some (goal.at.nonzero_div-result c).After-share_at-c)
 
 pub overflow_mul-result : goal.overflow_mul-result
-overflow_mul-result c = omega (arith, some c, few c)
+overflow_mul-result c = omega (arith, some c, few (goal.at.overflow_mul-result c).After-share_at-c)
 
 pub overflow_add-result-2 : goal.overflow_add-result-2
-overflow_add-result-2 c = omega (arith, some c, few c)
+overflow_add-result-2 c = omega (arith, some c, few (goal.at.overflow_add-result-2 c).After-share_at-c)
 
 pub overflow_add-result-3 : goal.overflow_add-result-3
-overflow_add-result-3 c = omega (arith, some c, few c)
+overflow_add-result-3 c = omega (arith, some c, few (goal.at.overflow_add-result-3 c).After-share_at-c)
 
 pub returns : goal.returns
 unfolding fields_in

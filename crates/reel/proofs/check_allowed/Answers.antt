@@ -12,14 +12,14 @@ use Rattle.reel.proofs.check_allowed.Goals as goal
 
 pub returns-in-Plain : goal.returns-in-Plain
 returns-in-Plain c =
-    let f = c.before.before in
+    let f = c in
     let code = f.args.code in
     c.check_code.ensures ∙ ap (λ (x : ℕ). refuse_if (not (is_code code)) 2 x) (ap place_no f.field_at-place.ensures)
     ∙ ap (λ (k : Layout). refuse_if (not (allows k code)) 2 3224) (sym c.in-Plain.is)
 
 pub returns-in-Eagle : goal.returns-in-Eagle
 returns-in-Eagle c =
-    let f = c.before.before in
+    let f = c in
     let code = f.args.code in
     c.check_one.ensures ∙ ap (λ (x : ℕ). refuse_if (not (eqb code 1)) 2 x) (ap place_no f.field_at-place.ensures)
     ∙ ap (λ (k : Layout). refuse_if (not (allows k code)) 2 3224) (sym c.in-Eagle.is)

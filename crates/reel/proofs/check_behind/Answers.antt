@@ -17,7 +17,7 @@ some c = let a = c.args in omega (arith, c.requires.1, stride_holds a.layout a.n
 
 pub check_size-a-requires : goal.check_size-a-requires
 check_size-a-requires c =
-    let s = c.before in
+    let s = (goal.at.check_size-a-requires c).Start in
     let size = length s.args.reel.now in
     (omega (arith, mod-le (size - first_trace) s.args.w), s.requires.2)
 
@@ -27,7 +27,7 @@ returns-in_default c = let e = c.check_size-a.ensures in e ∙ then_stop _ _ (sy
 
 pub check_traces-requires : goal.check_traces-requires
 check_traces-requires c =
-    let s = c.before.before.before in
+    let s = (goal.at.check_traces-requires c).Start in
     let size = length s.args.reel.now in
     (s.requires.0, s.requires.1, omega (arith, div-mul-le_self (size - first_trace) s.args.w, s.requires.3))
 
@@ -36,7 +36,7 @@ unfolding behind_causes_by
 returns c = c.check_traces.ensures ∙ then_next _ _ (sym c.check_size-a.ensures ∙ c.in-Fine.is)
 
 pub nonzero_div-t : goal.nonzero_div-t
-nonzero_div-t c = omega (arith, some c.before)
+nonzero_div-t c = omega (arith, some (goal.at.nonzero_div-t c).Start)
 
 pub nonzero_rem-size : goal.nonzero_rem-size
-nonzero_rem-size c = omega (arith, some c.before)
+nonzero_rem-size c = omega (arith, some (goal.at.nonzero_rem-size c).Start)

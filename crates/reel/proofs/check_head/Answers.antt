@@ -27,22 +27,22 @@ returns-in_default c = let e = c.check_own-a.ensures in e ∙ then_stop _ _ (sym
 pub returns-in_default-b : goal.returns-in_default-b
 unfolding trace_header_causes
 returns-in_default-b c =
-    let b = c.before in
+    let b = c in
     let e = b.check_own-b.ensures in
-    e ∙ then_stop _ _ (sym e ∙ c.in_default-b.is) ∙ then_next _ _ (fine7 b.before)
+    e ∙ then_stop _ _ (sym e ∙ c.in_default-b.is) ∙ then_next _ _ (fine7 (goal.at.returns-in_default-b c).In-Fine)
 
 pub returns-in_default-c : goal.returns-in_default-c
 unfolding trace_header_causes
 returns-in_default-c c =
-    let b = c.before in
+    let b = c in
     let e = b.check_scalar-c.ensures in
-    e ∙ then_stop _ _ (sym e ∙ c.in_default-c.is) ∙ then_next _ _ (fine8 b.before) ∙ then_next _ _ (fine7 b.before.before.before)
+    e ∙ then_stop _ _ (sym e ∙ c.in_default-c.is) ∙ then_next _ _ (fine8 (goal.at.returns-in_default-c c).In-Fine-b) ∙ then_next _ _ (fine7 (goal.at.returns-in_default-c c).In-Fine)
 
 pub returns : goal.returns
 unfolding trace_header_causes
 returns c =
-    let b = c.before in
-    c.check_scalar.ensures ∙ then_next _ _ (fine69 b) ∙ then_next _ _ (fine8 b.before.before) ∙ then_next _ _ (fine7 b.before.before.before.before)
+    let b = (goal.at.returns c).In-Fine-c in
+    c.check_scalar.ensures ∙ then_next _ _ (fine69 b) ∙ then_next _ _ (fine8 (goal.at.returns c).In-Fine-b) ∙ then_next _ _ (fine7 (goal.at.returns c).In-Fine)
 
 pub check_own-a-requires : goal.check_own-a-requires
 check_own-a-requires c = (omega arith, omega (arith, c.requires))

@@ -29,13 +29,13 @@ returns-in_default c = let e = c.check_allowed-a.ensures in e ∙ then_stop _ _ 
 
 pub returns-in_default-b : goal.returns-in_default-b
 returns-in_default-b c =
-    let b = c.before in
-    let a = b.before.before in
+    let b = (goal.at.returns-in_default-b c).After-check_limits-b in
+    let a = c in
     let e = row2 b in
     e ∙ then_stop _ _ (sym e ∙ c.in_default-b.is) ∙ then_next _ _ (sym a.check_allowed-a.ensures ∙ a.in-Fine.is)
 
 pub returns : goal.returns
 returns c =
-    let b = c.before.before in
-    let a = b.before.before.before in
-    row3 c ∙ sym (then_last _) ∙ then_next _ _ (sym (row2 b.before) ∙ b.in-Fine-b.is) ∙ then_next _ _ (sym a.check_allowed-a.ensures ∙ a.in-Fine.is)
+    let b = c in
+    let a = c in
+    row3 (goal.at.returns c).After-check_limits ∙ sym (then_last _) ∙ then_next _ _ (sym (row2 (goal.at.returns c).After-check_limits-b) ∙ b.in-Fine-b.is) ∙ then_next _ _ (sym a.check_allowed-a.ensures ∙ a.in-Fine.is)

@@ -21,17 +21,17 @@ pub returns-in_default : goal.returns-in_default
 returns-in_default c = let e = c.check_header-a.ensures in e ∙ then_stop _ _ (sym e ∙ c.in_default.is)
 
 pub stride_in-requires : goal.stride_in-requires
-stride_in-requires c = omega (arith, small c)
+stride_in-requires c = omega (arith, small (goal.at.stride_in-requires c).After-width_of-v)
 
 pub check_behind-requires : goal.check_behind-requires
 check_behind-requires c =
-    let s = c.before.before.before.before.before in
+    let s = c in
     let a = s.args in
-    (c.width_of-v.ensures.0, c.stride_in.ensures, omega (arith, c.stride_in.ensures, small c.before, stride_most a.layout a.n c.width_of-v.result), s.requires)
+    (c.width_of-v.ensures.0, c.stride_in.ensures, omega (arith, c.stride_in.ensures, small (goal.at.check_behind-requires c).After-width_of-v, stride_most a.layout a.n c.width_of-v.result), s.requires)
 
 pub returns : goal.returns
 returns c =
     let a = c.args in
-    let h = c.before.before.before in
+    let h = c in
     c.check_behind.ensures ∙ ap (behind_causes_by a.layout a.reel.now a.code a.n a.i) (c.stride_in.ensures ∙ ap (stride_in a.layout a.n) c.width_of-v.ensures.0)
     ∙ then_next _ _ (sym h.check_header-a.ensures ∙ h.in-Fine.is)

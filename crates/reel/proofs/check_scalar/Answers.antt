@@ -18,7 +18,7 @@ use Rattle.reel.proofs.check_scalar.Goals as goal
 -- the field's place
 place : (c : After-field_at-place) → let a = c.args in place_no c.field_at-place.result ≡ byte_place a.at (byte_no a.b)
 place c =
-    let s = c.before.before in
+    let s = c in
     let l : s.args.at + byte_no s.args.b < 2 ^ 64 = search rules in
     ap place_no (c.field_at-place.ensures ∙ field_place_lem (record { 0 = s.args.at }) s.args.b s.requires.0 l)
 
@@ -33,16 +33,16 @@ told : (c : After-is_allowed) → let a = c.args in refuse_if (not c.is_allowed.
 told c =
     let a = c.args in
     let p = place_no c.field_at-place.result in
-    ap (λ (b : Bool). refuse_if (not b) 18 p) (allowed c) ∙ ap (λ (x : ℕ). refuse_if (not (is_allowed (signed_of 16 (number16 a.reel.now x)))) 18 x) (place c.before.before.before)
+    ap (λ (b : Bool). refuse_if (not b) 18 p) (allowed (goal.at.After-is_allowed c).After-is_allowed) ∙ ap (λ (x : ℕ). refuse_if (not (is_allowed (signed_of 16 (number16 a.reel.now x)))) 18 x) (place (goal.at.After-is_allowed c).After-field_at-place)
 
 pub returns-then-is_allowed : goal.returns-then-is_allowed
 returns-then-is_allowed c =
-    let w = c.before in
+    let w = (goal.at.returns-then-is_allowed c).After-is_allowed in
     let k : Fine ≡ refuse_if (not w.is_allowed.result) 18 (place_no w.field_at-place.result) = ap (λ (b : Bool). refuse_if (not b) 18 (place_no w.field_at-place.result)) (sym c.if-is_allowed.true) in
     k ∙ told w
 
 pub returns : goal.returns
 returns c =
-    let w = c.before in
+    let w = (goal.at.returns c).After-is_allowed in
     let k : Refused 18 w.field_at-place.result ≡ refuse_if (not w.is_allowed.result) 18 (place_no w.field_at-place.result) = ap (λ (b : Bool). refuse_if (not b) 18 (place_no w.field_at-place.result)) (sym c.if-is_allowed.false) in
     k ∙ told w

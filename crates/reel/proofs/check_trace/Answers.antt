@@ -27,25 +27,25 @@ returns-in_default c =
 none : (c : In-Fine) → let a = c.args in (a.code ≡ 4 → ⊥) → (a.code ≡ 5 → ⊥) → Fine ≡ trace_causes a.reel.now a.code a.n a.i a.at
 none c h l =
     let a = c.args in
-    sym (none_bad a.reel.now a.code h l (sample_bytes a.code) a.n (a.at + trace_header)) ∙ then_next _ _ (fine c) ∙ sym (trace_parts a.reel.now a.code a.n a.i a.at)
+    sym (none_bad a.reel.now a.code h l (sample_bytes a.code) a.n (a.at + trace_header)) ∙ then_next _ _ (fine (goal.at.In-Fine c).In-Fine) ∙ sym (trace_parts a.reel.now a.code a.n a.i a.at)
 
 pub returns-then-code-lt4 : goal.returns-then-code-lt4
-returns-then-code-lt4 c = none c.before (λ e. omega (arith, c.if-code-lt4.true, e)) (λ e. omega (arith, c.if-code-lt4.true, e))
+returns-then-code-lt4 c = none (goal.at.returns-then-code-lt4 c).In-Fine (λ e. omega (arith, c.if-code-lt4.true, e)) (λ e. omega (arith, c.if-code-lt4.true, e))
 
 pub check_words-requires : goal.check_words-requires
 check_words-requires c =
-    let s = c.before.before.before.before.before in
+    let s = c in
     let w = (four_bytes_long s.args.code c.if-code-lt4.false c.if-code-lt6.true).1 in
     let room = rw (s.requires.0 ∙ w) at s.requires.1 in
     (c.if-code-lt4.false, c.if-code-lt6.true, omega arith)
 
 pub returns-then-code-lt6 : goal.returns-then-code-lt6
 returns-then-code-lt6 c =
-    let b = c.before.before.before in
+    let b = (goal.at.returns-then-code-lt6 c).In-Fine in
     let t = b.args in
     let w = (four_bytes_long t.code c.if-code-lt4.false c.if-code-lt6.true).1 in
     c.check_words.ensures ∙ ap (λ (k : ℕ). first_of (walk (word_cause t.reel.now t.code) k t.n (t.at + trace_header))) (sym w)
     ∙ then_next _ _ (fine b) ∙ sym (trace_parts t.reel.now t.code t.n t.i t.at)
 
 pub returns : goal.returns
-returns c = none c.before.before (λ e. omega (arith, c.if-code-lt6.false, e)) (λ e. omega (arith, c.if-code-lt6.false, e))
+returns c = none (goal.at.returns c).In-Fine (λ e. omega (arith, c.if-code-lt6.false, e)) (λ e. omega (arith, c.if-code-lt6.false, e))

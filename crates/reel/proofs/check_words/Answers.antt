@@ -21,42 +21,42 @@ room c = omega (arith, times_more c.loop-left.left 4 c.loop-left-test.true)
 
 -- the word's cause, by what reading it gives
 cause : (c : After-read-word)
-    → let h = c.before.before.before.before.before.before in
+    → let h = c in
     let a = h.args in
     word_refused c.read-word.result h.loop-left.at ≡ word_cause a.reel.now a.code h.loop-left.at
 cause c =
-    let h = c.before.before.before.before.before.before in
-    let b = h.before.before in
+    let h = c in
+    let b = c in
     let a = b.args in
     let at = h.loop-left.at in
     ap (λ w. word_refused w at) (c.read-word.ensures ∙ ap (read_word a.code) (sym (four_bytes a.reel.now at)))
     ∙ word_refused_lem a.code (bytes_at a.reel.now at word_length) at (four_bytes_long a.code b.requires.0 b.requires.1).0
 
 pub bounds-reel-at : goal.bounds-reel-at
-bounds-reel-at c = omega (arith, room c.before)
+bounds-reel-at c = omega (arith, room (goal.at.bounds-reel-at c).In-loop-left)
 
 pub overflow_add-at : goal.overflow_add-at
-overflow_add-at c = omega (arith, room c.before)
+overflow_add-at c = omega (arith, room (goal.at.overflow_add-at c).In-loop-left)
 
 pub bounds-reel-at-in-loop-left : goal.bounds-reel-at-in-loop-left
-bounds-reel-at-in-loop-left c = omega (arith, room c.before.before)
+bounds-reel-at-in-loop-left c = omega (arith, room (goal.at.bounds-reel-at-in-loop-left c).In-loop-left)
 
 pub overflow_add-at-in-loop-left : goal.overflow_add-at-in-loop-left
-overflow_add-at-in-loop-left c = omega (arith, room c.before.before)
+overflow_add-at-in-loop-left c = omega (arith, room (goal.at.overflow_add-at-in-loop-left c).In-loop-left)
 
 pub bounds-reel-at-in-loop-left-2 : goal.bounds-reel-at-in-loop-left-2
-bounds-reel-at-in-loop-left-2 c = omega (arith, room c.before.before.before)
+bounds-reel-at-in-loop-left-2 c = omega (arith, room (goal.at.bounds-reel-at-in-loop-left-2 c).In-loop-left)
 
 pub overflow_add-at-in-loop-left-2 : goal.overflow_add-at-in-loop-left-2
-overflow_add-at-in-loop-left-2 c = omega (arith, room c.before.before.before)
+overflow_add-at-in-loop-left-2 c = omega (arith, room (goal.at.overflow_add-at-in-loop-left-2 c).In-loop-left)
 
 pub bounds-reel-at-in-loop-left-3 : goal.bounds-reel-at-in-loop-left-3
-bounds-reel-at-in-loop-left-3 c = omega (arith, room c.before.before.before.before)
+bounds-reel-at-in-loop-left-3 c = omega (arith, room (goal.at.bounds-reel-at-in-loop-left-3 c).In-loop-left)
 
 pub returns-in_default : goal.returns-in_default
 returns-in_default c =
-    let g = c.before.before in
-    let h = g.before.before.before.before.before.before in
+    let g = (goal.at.returns-in_default c).After-read-word in
+    let h = c in
     let s = h.args.reel.now in
     let e = c.in_default.is in
     let k = sym (cause g) ∙ ap (λ w. word_refused w h.loop-left.at) e in
@@ -64,13 +64,13 @@ returns-in_default c =
     ∙ sym (h.loop-left.invariant.0 ∙ first_stop (word_cause s h.args.code) 4 h.loop-left.left h.loop-left.at g.loop-left-test.true k)
 
 pub overflow_add-at-in-loop-left-3 : goal.overflow_add-at-in-loop-left-3
-overflow_add-at-in-loop-left-3 c = omega (arith, room c.before.before.before.before.before.before)
+overflow_add-at-in-loop-left-3 c = omega (arith, room (goal.at.overflow_add-at-in-loop-left-3 c).In-loop-left)
 
 pub loop-left-preserved : goal.loop-left-preserved
 loop-left-preserved c =
-    let g = c.before in
-    let l = g.before.before.before.before.before in
-    let h = l.before in
+    let g = (goal.at.loop-left-preserved c).After-read-word in
+    let l = (goal.at.loop-left-preserved c).In-loop-left in
+    let h = c in
     let s = h.args.reel.now in
     let k = sym (cause g) ∙ ap (λ w. word_refused w h.loop-left.at) c.in-Taken.is in (
       h.loop-left.invariant.0 ∙ first_more (word_cause s h.args.code) 4 h.loop-left.left h.loop-left.at l.loop-left-test.true k,

@@ -20,13 +20,13 @@ more c = sum_drop c.args.lengths.now c.loop-i.i c.loop-i-test.true
 
 pub returns-then-left-l : goal.returns-then-left-l
 returns-then-left-l c =
-    let h = c.before.before.before in
-    sym (ne_eqb (sum h.args.lengths.now) h.args.size (λ e. omega (arith, e, more c.before.before, c.if-left-l.true, h.loop-i.invariant.1)))
+    let h = c in
+    sym (ne_eqb (sum h.args.lengths.now) h.args.size (λ e. omega (arith, e, more (goal.at.returns-then-left-l c).In-loop-i, c.if-left-l.true, h.loop-i.invariant.1)))
 
 pub loop-i-preserved : goal.loop-i-preserved
 loop-i-preserved c =
-    let h = c.before.before.before in
-    (omega (arith, c.loop-i-test.true), omega (arith, more c.before.before, c.if-left-l.false, h.loop-i.invariant.1))
+    let h = c in
+    (omega (arith, c.loop-i-test.true), omega (arith, more (goal.at.loop-i-preserved c).In-loop-i, c.if-left-l.false, h.loop-i.invariant.1))
 
 pub returns : goal.returns
 returns c =

@@ -14,10 +14,10 @@ returns-then-t-eq0 c = let a = c.args in after_none a.s.now a.w a.t a.start a.e 
 
 -- the last trace lies within the slice
 last : (c : Else-t-eq0)
-    → let s = c.before.before in let a = s.args in
+    → let s = c in let a = s.args in
     (a.start + (a.t - 1) * a.w + 240 ≤ length a.s.now) × (length a.s.now < 2 ^ 64)
 last c =
-    let s = c.before.before in
+    let s = c in
     let all : length s.args.s.now < 2 ^ 64 = search rules in
     (omega (arith, times_more s.args.t s.args.w (omega (arith, c.if-t-eq0.false)), s.requires.0, s.requires.1), all)
 
@@ -27,10 +27,10 @@ returns c =
     c.next_of.ensures ∙ after_last a.s.now a.w a.t a.start a.e c.if-t-eq0.false
 
 pub overflow_mul-t : goal.overflow_mul-t
-overflow_mul-t c = record { fits = omega (arith, (last c).0, (last c).1) }
+overflow_mul-t c = record { fits = omega (arith, (last (goal.at.overflow_mul-t c).Else-t-eq0).0, (last (goal.at.overflow_mul-t c).Else-t-eq0).1) }
 
 pub overflow_add-start : goal.overflow_add-start
-overflow_add-start c = record { fits = omega (arith, (last c).0, (last c).1) }
+overflow_add-start c = record { fits = omega (arith, (last (goal.at.overflow_add-start c).Else-t-eq0).0, (last (goal.at.overflow_add-start c).Else-t-eq0).1) }
 
 pub next_of-requires : goal.next_of-requires
-next_of-requires c = (search rules, omega (arith, (last c).0))
+next_of-requires c = (search rules, omega (arith, (last (goal.at.next_of-requires c).Else-t-eq0).0))

@@ -17,10 +17,10 @@ together u v w x y = cc
 pub returns : goal.returns
 unfolding after_traces
 returns c =
-    let m = c.before in
-    let i = m.before in
-    let r = i.before in
-    let l = r.before in
+    let m = c in
+    let i = c in
+    let r = c in
+    let l = c in
     let fl : SFits w64 l.long_number.result = sfits_of l.long_number.type_inv in
     let fi : SFits w64 i.short_number.result = sfits_of i.short_number.type_inv in
     let fs : SFits w64 m.short_number-2.result = sfits_of m.short_number-2.type_inv in

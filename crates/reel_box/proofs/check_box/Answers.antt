@@ -20,7 +20,7 @@ outcome s ls b = box_found s ls (then (refuse_if (not b) 21 0) (reels_checks s l
 pub returns-then-not-add_up : goal.returns-then-not-add_up
 unfolding outcome
 returns-then-not-add_up c =
-    let u = c.before in
+    let u = c in
     let a = u.args in
     ap (outcome a.s.now a.lengths.now) (sym (c.if-not-add_up.true) ∙ u.add_up.ensures)
 
@@ -28,10 +28,10 @@ added : (c : Else-not-add_up) → let a = c.args in eqb (sum a.lengths.now) (len
 added c = sym c.add_up.ensures ∙ c.if-not-add_up.false
 
 pub check_reels-requires : goal.check_reels-requires
-check_reels-requires c = let a = c.args in eqb-true (sum a.lengths.now) (length a.s.now) (added c)
+check_reels-requires c = let a = c.args in eqb-true (sum a.lengths.now) (length a.s.now) (added (goal.at.check_reels-requires c).Else-not-add_up)
 
 pub returns : goal.returns
 unfolding outcome
 returns c =
     let a = c.args in
-    c.check_reels.ensures ∙ ap (outcome a.s.now a.lengths.now) (sym (added c.before))
+    c.check_reels.ensures ∙ ap (outcome a.s.now a.lengths.now) (sym (added (goal.at.returns c).Else-not-add_up))

@@ -30,13 +30,13 @@ told c b e =
 
 pub returns-then-z-n : goal.returns-then-z-n
 returns-then-z-n c =
-    let k = c.before in
+    let k = (goal.at.returns-then-z-n c).In-Number in
     let z = k.args.z in
     let e : z ≡ k.in-Number.n = sym (to_z-of_z (there k)) ∙ ap (to_z w64) c.if-z-n.true ∙ to_z-of_z (expected k) in
     told k true (ap (is_same z) (sym e) ∙ same_self z)
 
 pub returns-else-z-n : goal.returns-else-z-n
 returns-else-z-n c =
-    let k = c.before in
+    let k = (goal.at.returns-else-z-n c).In-Number in
     let z = k.args.z in
     told k false (not_same z k.in-Number.n (λ e. c.if-z-n.false (ap (of_z w64) e)))

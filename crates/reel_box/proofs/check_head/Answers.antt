@@ -29,7 +29,7 @@ samples s at x = rule_cause x.samples (field_number s at (short_field 3221)) (by
 pub returns-in_default : goal.returns-in_default
 unfolding head_rules line reel interval samples
 returns-in_default c =
-    let k = c.before in
+    let k = c in
     let a = k.args in
     let s = a.s.now in
     k.check_long-a.ensures ∙ then_stop (line s a.at a.x) (then (reel s a.at a.x) (then (interval s a.at a.x) (samples s a.at a.x))) (sym k.check_long-a.ensures ∙ c.in_default.is)
@@ -37,8 +37,8 @@ returns-in_default c =
 pub returns-in_default-b : goal.returns-in_default-b
 unfolding head_rules line reel interval samples
 returns-in_default-b c =
-    let m = c.before in
-    let k = m.before.before in
+    let m = c in
+    let k = c in
     let a = k.args in
     let s = a.s.now in
     m.check_long-b.ensures ∙ then_stop (reel s a.at a.x) (then (interval s a.at a.x) (samples s a.at a.x)) (sym m.check_long-b.ensures ∙ c.in_default-b.is)
@@ -47,9 +47,9 @@ returns-in_default-b c =
 pub returns-in_default-c : goal.returns-in_default-c
 unfolding head_rules line reel interval samples
 returns-in_default-c c =
-    let n = c.before in
-    let m = n.before.before in
-    let k = m.before.before in
+    let n = c in
+    let m = c in
+    let k = c in
     let a = k.args in
     let s = a.s.now in
     n.check_short-c.ensures ∙ then_stop (interval s a.at a.x) (samples s a.at a.x) (sym n.check_short-c.ensures ∙ c.in_default-c.is)
@@ -59,9 +59,9 @@ returns-in_default-c c =
 pub returns : goal.returns
 unfolding head_rules line reel interval samples
 returns c =
-    let n = c.before.before in
-    let m = n.before.before in
-    let k = m.before.before in
+    let n = c in
+    let m = c in
+    let k = c in
     let a = k.args in
     let s = a.s.now in
     c.check_short.ensures

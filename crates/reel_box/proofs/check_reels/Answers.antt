@@ -18,22 +18,22 @@ loop-i-init c = (omega arith, omega (arith, c.requires), omega arith, refl, omeg
 
 -- the next length, and that its reel ends within the slice
 next : (c : In-loop-i)
-    → let h = c.before in let a = h.args in
+    → let h = c in let a = h.args in
     (drop h.loop-i.i a.lengths.now ≡ get_or a.lengths.now h.loop-i.i 0 ∷ drop (h.loop-i.i + 1) a.lengths.now)
     × (h.loop-i.at + get_or a.lengths.now h.loop-i.i 0 ≤ length a.s.now)
 next c =
-    let h = c.before in
+    let h = c in
     let a = h.args in
     (drop_next a.lengths.now h.loop-i.i c.loop-i-test.true, omega (arith, sum_drop a.lengths.now h.loop-i.i c.loop-i-test.true, h.loop-i.invariant.1))
 
 pub step_over-r-requires : goal.step_over-r-requires
-step_over-r-requires c = (next c.before).1
+step_over-r-requires c = (next (goal.at.step_over-r-requires c).In-loop-i).1
 
 pub returns-in-Refused : goal.returns-in-Refused
 returns-in-Refused c =
-    let k = c.before in
-    let n = k.before.before in
-    let h = n.before in
+    let k = c in
+    let n = (goal.at.returns-in-Refused c).In-loop-i in
+    let h = c in
     let l = h.loop-i in
     let a = h.args in
     let s = a.s.now in
@@ -43,37 +43,37 @@ returns-in-Refused c =
 
 -- the step went on
 went : (c : In-On)
-    → let k = c.before in let h = k.before.before.before in let a = h.args in
+    → let k = c in let h = c in let a = h.args in
     GoesOn a.s.now h.loop-i.at (get_or a.lengths.now h.loop-i.i 0) h.loop-i.x c.in-On.state c.in-On.t
 went c =
-    let k = c.before in
-    let h = k.before.before.before in
+    let k = c in
+    let h = c in
     let a = h.args in
     goes_on a.s.now h.loop-i.at (get_or a.lengths.now h.loop-i.i 0) h.loop-i.x (sym k.step_over-r.ensures ∙ c.in-On.is)
 
 -- its traces are no more than its bytes
 few : (c : In-On)
-    → let k = c.before in let h = k.before.before.before in let a = h.args in
+    → let k = c in let h = c in let a = h.args in
     c.in-On.t ≤ get_or a.lengths.now h.loop-i.i 0
 few c =
-    let k = c.before in
-    let n = k.before.before in
-    let h = n.before in
+    let k = c in
+    let n = (goal.at.In-On c).In-loop-i in
+    let h = c in
     let a = h.args in
-    let g = went c in
+    let g = went (goal.at.In-On c).In-On in
     omega (arith, g.count, (lies a.s.now h.loop-i.at (get_or a.lengths.now h.loop-i.i 0) (next n).1 (own_fine a.s.now h.loop-i.at (get_or a.lengths.now h.loop-i.i 0) h.loop-i.x g.checks)).few)
 
 pub loop-i-preserved : goal.loop-i-preserved
 loop-i-preserved c =
-    let k = c.before in
-    let n = k.before.before in
-    let h = n.before in
+    let k = c in
+    let n = (goal.at.loop-i-preserved c).In-loop-i in
+    let h = c in
     let l = h.loop-i in
     let a = h.args in
     let s = a.s.now in
     let ls = a.lengths.now in
     let m = get_or ls l.i 0 in
-    let g = went c in (
+    let g = went (goal.at.loop-i-preserved c).In-On in (
       omega (arith, n.loop-i-test.true),
       omega (arith, sum_drop ls l.i n.loop-i-test.true, l.invariant.1),
       omega (arith, few c, l.invariant.2),
@@ -93,7 +93,7 @@ returns c =
     ap (λ (x : ℕ). taken (length ls ∷ x ∷ [])) t ∙ sym (ap (box_found s ls) f)
 
 pub overflow_add-traces : goal.overflow_add-traces
-overflow_add-traces c = let k = c.before in let n = k.before.before in record { fits = omega (arith, few c, (next n).1, n.loop-i.invariant.2) }
+overflow_add-traces c = let k = c in let n = (goal.at.overflow_add-traces c).In-loop-i in record { fits = omega (arith, few c, (next n).1, n.loop-i.invariant.2) }
 
 pub overflow_add-at : goal.overflow_add-at
-overflow_add-at c = let n = c.before.before.before in record { fits = omega (arith, (next n).1) }
+overflow_add-at c = let n = (goal.at.overflow_add-at c).In-loop-i in record { fits = omega (arith, (next n).1) }

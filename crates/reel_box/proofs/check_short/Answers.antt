@@ -15,13 +15,13 @@ use Rattle.reel_box.proofs.check_short.Goals as goal
 -- the field's place
 place : (c : After-field_at) → let a = c.args in place_no c.field_at.result ≡ byte_place a.start (byte_no a.b)
 place c =
-    let s = c.before.before.before in
+    let s = c in
     let l : s.args.start + byte_no s.args.b < 2 ^ 64 = search rules in
     ap place_no (c.field_at.ensures ∙ field_place_lem (record { 0 = s.args.start }) s.args.b s.requires.0 l)
 
 pub returns : goal.returns
 returns c =
-    let n = c.before.before in
+    let n = c in
     let a = n.args in
     let f : SFits w64 n.short_number.result = sfits_of n.short_number.type_inv in
-    c.check_expected.ensures ∙ ap₂ (λ (z : ℤ) (x : ℕ). rule_cause a.e z x) (to_z-of_z f ∙ n.short_number.ensures) (place c.before)
+    c.check_expected.ensures ∙ ap₂ (λ (z : ℤ) (x : ℕ). rule_cause a.e z x) (to_z-of_z f ∙ n.short_number.ensures) (place (goal.at.returns c).After-field_at)

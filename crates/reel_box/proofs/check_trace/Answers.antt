@@ -16,7 +16,7 @@ use Rattle.reel_box.proofs.check_trace.Goals as goal
 pub returns-in_default : goal.returns-in_default
 unfolding trace_rules
 returns-in_default c =
-    let k = c.before in
+    let k = c in
     let a = k.args in
     k.check_long-a.ensures
     ∙ then_stop (rule_cause a.e (field_number a.s.now a.at (long_field 1)) (byte_place a.at 1)) (rule_cause (Number (pos a.i)) (field_number a.s.now a.at (long_field 5)) (byte_place a.at 5))
@@ -25,7 +25,7 @@ returns-in_default c =
 pub returns : goal.returns
 unfolding trace_rules
 returns c =
-    let k = c.before.before in
+    let k = c in
     let a = k.args in
     let e : to_z w64 a.i ≡ pos a.i = to_z_pos w64 {n = a.i} k.requires.1 in
     c.check_long.ensures ∙ ap (λ (z : ℤ). rule_cause (Number z) (field_number a.s.now a.at (long_field 5)) (byte_place a.at 5)) e

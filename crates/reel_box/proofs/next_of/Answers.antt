@@ -17,7 +17,7 @@ more : (c : After-long_number) → SFits w64 (c.long_number.result +ℤ pos 1)
 more c = plus_one c.long_number.result c.long_number.ensures.1
 
 pub overflow_add-result : goal.overflow_add-result
-overflow_add-result c = rw (to_z-of_z (fits c)) (more c)
+overflow_add-result c = rw (to_z-of_z (fits (goal.at.overflow_add-result c).After-long_number)) (more (goal.at.overflow_add-result c).After-long_number)
 
 pub returns : goal.returns
-returns c = rw (to_z-of_z (fits c), to_z-of_z (more c)) (ap next_of c.long_number.ensures.0)
+returns c = rw (to_z-of_z (fits (goal.at.returns c).After-long_number), to_z-of_z (more (goal.at.returns c).After-long_number)) (ap next_of c.long_number.ensures.0)

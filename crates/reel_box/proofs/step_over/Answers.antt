@@ -28,18 +28,18 @@ judged c =
 refused : (c : In-Refused)
     → let a = c.args in
     causes_of (reel_at a.s.now a.at a.l) ≡ Refused c.in-Refused.number c.in-Refused.place
-refused c = refused_is Plain _ (sym (judged c.before) ∙ c.in-Refused.is)
+refused c = refused_is Plain _ (sym (judged (goal.at.In-Refused c).After-judge_reel-c) ∙ c.in-Refused.is)
 
 pub in_slice-requires : goal.in_slice-requires
 in_slice-requires c =
-    let s = c.before.before.before.before in
+    let s = c in
     let a = s.args in
     let all : length a.s.now < 2 ^ 64 = search rules in
-    omega (arith, place_within (reel_at a.s.now a.at a.l) (refused c), part_length a.s.now a.at a.l s.requires, s.requires, all)
+    omega (arith, place_within (reel_at a.s.now a.at a.l) (refused (goal.at.in_slice-requires c).In-Refused), part_length a.s.now a.at a.l s.requires, s.requires, all)
 
 pub returns-in-Refused : goal.returns-in-Refused
 returns-in-Refused c =
-    let k = c.before in
+    let k = (goal.at.returns-in-Refused c).In-Refused in
     let a = k.args in
     ap (λ (p : Place). step.Refused k.in-Refused.number p) (ap at_place c.in_slice.ensures) ∙ step_refused a.s.now a.at a.l a.x (refused k)
 
@@ -47,19 +47,19 @@ returns-in-Refused c =
 owns : (c : In-Fine)
     → let a = c.args in let g = c.c-in-Fine-1.given.0 in
     Own Plain (reel_at a.s.now a.at a.l) g.0 g.1.0 g.1.1.0 g.1.1.1.0 g.1.1.1.1.0 g.1.1.1.1.1.0
-owns c = own Plain _ (sym (judged c.before) ∙ c.in-Fine.is)
+owns c = own Plain _ (sym (judged (goal.at.In-Fine c).After-judge_reel-c) ∙ c.in-Fine.is)
 
 pub step_on-requires : goal.step_on-requires
 step_on-requires c =
-    let s = c.before.before.before.before in
+    let s = c in
     let a = s.args in
-    let o = owns c in
+    let o = owns (goal.at.step_on-requires c).In-Fine in
     let i = lies a.s.now a.at a.l s.requires o.fine in
     (subst (λ (w : ℕ). 240 ≤ w) o.w_is i.wide, omega (arith, i.room, ap₂ (λ (w t : ℕ). t * w) o.w_is o.t_is))
 
 pub returns-in-Fine : goal.returns-in-Fine
 returns-in-Fine c =
-    let k = c.before in
+    let k = (goal.at.returns-in-Fine c).In-Fine in
     let a = k.args in
     let s = a.s.now in
     let o = owns k in

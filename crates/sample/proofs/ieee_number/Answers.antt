@@ -16,5 +16,5 @@ by_parts n e a k p q r =
 
 pub returns : goal.returns
 returns c =
-    let x = c.before.before.before in
+    let x = c in
     c.canonical.ensures ∙ ap pair_of (by_parts x.args.n _ _ _ x.ieee_exponent-e.ensures.0 c.significand_of.ensures.0 c.counted_exponent.ensures.0)

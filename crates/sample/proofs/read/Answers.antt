@@ -28,7 +28,7 @@ bad : (c : After-is_bad) → let a = c.args in is_bad a.code (word_number a.code
 unfolding bytes_at
 bad c =
     let a = c.args in
-    sym (c.is_bad.ensures ∙ ap (is_bad a.code) c.be32.ensures ∙ by_four a.code a.t2 (code c.before.before))
+    sym (c.is_bad.ensures ∙ ap (is_bad a.code) c.be32.ensures ∙ by_four a.code a.t2 (code (goal.at.After-is_bad c).Else-not-is_code))
 
 pub returns-then-not-is_code : goal.returns-then-not-is_code
 returns-then-not-is_code c =
@@ -37,13 +37,13 @@ returns-then-not-is_code c =
 
 pub returns-then-is_bad : goal.returns-then-is_bad
 returns-then-is_bad c =
-    let b = c.before.before in
-    rw (code b.before.before, bad b ∙ c.if-is_bad.true) (ap Refused c.bad_number.ensures)
+    let b = (goal.at.returns-then-is_bad c).After-is_bad in
+    rw (code (goal.at.returns-then-is_bad c).Else-not-is_code, bad b ∙ c.if-is_bad.true) (ap Refused c.bad_number.ensures)
 
 pub returns : goal.returns
 returns c =
     let p = c.number-pair in
-    let b = c.before.before.before in
+    let b = (goal.at.returns c).After-is_bad in
     let x : SFits w16 p.result.e = search rules in
     let y : SFits w32 p.result.m = search rules in
-    rw (to_z-of_z x, to_z-of_z y, p.ensures, code b.before.before, bad b ∙ c.if-is_bad.false)
+    rw (to_z-of_z x, to_z-of_z y, p.ensures, code (goal.at.returns c).Else-not-is_code, bad b ∙ c.if-is_bad.false)

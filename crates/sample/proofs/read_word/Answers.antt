@@ -6,8 +6,8 @@ use Rattle.sample.proofs.read_word.Goals as goal
 
 pub returns-in-Taken : goal.returns-in-Taken
 returns-in-Taken c =
-    let k = c.before.before.before in
-    let r = k.before in
+    let k = c in
+    let r = c in
     let a = r.args in
     let x : SFits w16 k.in-Taken.e = search rules in
     let y : SFits w32 k.in-Taken.m = search rules in
@@ -15,6 +15,6 @@ returns-in-Taken c =
 
 pub returns-in-Refused : goal.returns-in-Refused
 returns-in-Refused c =
-    let r = c.before.before in
+    let r = c in
     let a = r.args in
     rw c.no_place.ensures (ap (read_said (not_normal a.code a.word)) (sym c.in-Refused.is ∙ r.read.ensures))

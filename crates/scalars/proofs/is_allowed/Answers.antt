@@ -37,10 +37,10 @@ pub overflow_cast-scalar : goal.overflow_cast-scalar
 overflow_cast-scalar c = rw (to_z-of_z c.ranges.scalar) (wide c.args.scalar c.ranges.scalar)
 
 pub returns-in_default : goal.returns-in_default
-returns-in_default c = rw (← (magnitude_is c.before)) (none_of _ c.in_default.if-this-lt2-own.false c.in_default.in_default-own.rest.1)
+returns-in_default c = rw (← (magnitude_is (goal.at.returns-in_default c).After-magnitude)) (none_of _ c.in_default.if-this-lt2-own.false c.in_default.in_default-own.rest.1)
 
 pub returns-in-0 : goal.returns-in-0
-returns-in-0 c = rw (← (magnitude_is c.before)) (one_of _ c.in-0.is)
+returns-in-0 c = rw (← (magnitude_is (goal.at.returns-in-0 c).After-magnitude)) (one_of _ c.in-0.is)
 
 pub returns-in-0-2 : goal.returns-in-0-2
-returns-in-0-2 c = rw (← (magnitude_is c.before)) (below_two _ c.in-0.if-this-lt2-own.true)
+returns-in-0-2 c = rw (← (magnitude_is (goal.at.returns-in-0-2 c).After-magnitude)) (below_two _ c.in-0.if-this-lt2-own.true)

@@ -15,10 +15,10 @@ found c = rw (to_z-of_z c.ranges.scalar) at c.smallest_power.ensures
 pub scalar_of-requires : goal.scalar_of-requires
 scalar_of-requires c =
     let w = array_fits c.args.group _ c.well_formed.0 in
-    rw (found c) (smallest_lt c.args.group _ (power_lt c.args.scalar) w.1)
+    rw (found (goal.at.scalar_of-requires c).After-smallest_power) (smallest_lt c.args.group _ (power_lt c.args.scalar) w.1)
 
 pub returns : goal.returns
 unfolding is_smallest group_scalar
 returns c =
     let z = c.args.scalar in
-    same_bits z c.scalar_of.result c.ranges.scalar (sfits_of c.scalar_of.type_inv) ∙ ap (same_number z) (c.scalar_of.ensures ∙ ap scalar_of (found c.before))
+    same_bits z c.scalar_of.result c.ranges.scalar (sfits_of c.scalar_of.type_inv) ∙ ap (same_number z) (c.scalar_of.ensures ∙ ap scalar_of (found (goal.at.returns c).After-smallest_power))

@@ -8,7 +8,7 @@ use Rattle.scalars.proofs.largest_of.Goals as goal
 
 pub returns : goal.returns
 returns c =
-    let st = c.before.before.before.before.before.before.before.before.before.before.before.before.before.before.before.before.before.before.before.before in
+    let st = c in
     let g = st.args.g in
     let w = array_fits g _ st.well_formed.0 in
     let m5 : c.magnitude.result ≡ nat_abs (get_or g 5 (pos 0)) = rw (read_at g 5 w.1) at c.magnitude.ensures.0 in

@@ -9,7 +9,7 @@ use Rattle.scalars.proofs.smallest_power.Goals as goal
 
 pub returns : goal.returns
 returns c =
-    let st = c.before.before.before in
+    let st = c in
     let z = st.args.scalar in
     let g = st.args.group in
     let w = array_fits g _ st.well_formed.0 in

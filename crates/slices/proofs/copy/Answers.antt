@@ -18,7 +18,7 @@ loop-i-init c = (omega arith, c.if-out-src.false, start _ _ c.if-out-src.false)
 
 pub loop-i-preserved : goal.loop-i-preserved
 loop-i-preserved c =
-    let h = c.before.before in
+    let h = c in
     let s = c.args.src.now in
     (omega arith, simp length-set (omega arith), put _ (again h.loop-i.invariant.2 (drop_next s h.loop-i.i c.loop-i-test.true)))
 

@@ -14,6 +14,6 @@ returns-then-not-are_within c =
 
 pub overflow_mul-result : goal.overflow_mul-result
 overflow_mul-result c =
-    let s = c.before.before in
+    let s = c in
     let l : 0 + s.args.n * s.args.w ≤ s.args.bytes = leb-true (0 + s.args.n * s.args.w) s.args.bytes (sym c.are_within.ensures ∙ c.if-not-are_within.false) in
     omega (arith, l, s.ranges.bytes.fits)

@@ -9,8 +9,8 @@ use Rattle.slices.proofs.number32_at.Goals as goal
 
 pub returns : goal.returns
 returns c =
-    let d = c.before.before in
-    let b = d.before.before in
+    let d = c in
+    let b = c in
     let a = b.args in
     let high = b.byte_after.ensures ∙ ap (λ (i : ℕ). get_or a.s.now i 0) (add-zero a.at.0) in
     c.be32.ensures

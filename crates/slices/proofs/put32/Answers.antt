@@ -47,10 +47,10 @@ bounds-out-3 c =
 
 pub returns : goal.returns
 returns c =
-    let s = c.before.before.before in
+    let s = c in
     rw c.bytes32-b.ensures (stored_copy (bytes_of 4 s.args.n) s.args.out.now c.if-out-ne4.false)
 
 pub shape_of-out : goal.shape_of-out
 shape_of-out c =
-    let s = c.before.before.before in
+    let s = c in
     ap length (returns c ∙ copied (bytes_of 4 s.args.n) s.args.out.now refl c.if-out-ne4.false) ∙ sym c.if-out-ne4.false

@@ -21,22 +21,22 @@ pub returns-then-not-is_code : goal.returns-then-not-is_code
 returns-then-not-is_code c = rw (sym c.is_code.ensures ∙ c.if-not-is_code.true)
 
 pub bits_at-requires : goal.bits_at-requires
-bits_at-requires c = let a = (apart c.before).1 in (known c.before.before, a.odd, a.low, a.few)
+bits_at-requires c = let a = (apart (goal.at.bits_at-requires c).In-Odd-2).1 in (known (goal.at.bits_at-requires c).Else-not-is_code, a.odd, a.low, a.few)
 
 pub returns-in-NotCanonical : goal.returns-in-NotCanonical
 returns-in-NotCanonical c =
-    let e = c.before.before in
+    let e = (goal.at.returns-in-NotCanonical c).Else-not-is_code in
     let a = e.args in
     sym (ap word_bits (not_canonical a.code a.p (known e) (subst (PartsOf a.p) c.in-NotCanonical.is c.parts.ensures)))
 
 pub returns-in-Zero : goal.returns-in-Zero
 returns-in-Zero c =
-    let e = c.before.before in
+    let e = (goal.at.returns-in-Zero c).Else-not-is_code in
     let a = e.args in
     sym (ap word_bits (zero_pair a.code a.p (known e) (subst (PartsOf a.p) c.in-Zero.is c.parts.ensures)))
 
 pub returns-in-Odd : goal.returns-in-Odd
 returns-in-Odd c =
-    let e = c.before.before.before in
+    let e = (goal.at.returns-in-Odd c).Else-not-is_code in
     let a = e.args in
-    c.bits_at.ensures ∙ ap word_bits (sym (odd_pair a.code a.p (known e) _ _ _ (apart c.before.before)))
+    c.bits_at.ensures ∙ ap word_bits (sym (odd_pair a.code a.p (known e) _ _ _ (apart (goal.at.returns-in-Odd c).In-Odd-2)))

@@ -23,16 +23,16 @@ whole c = c.shifted_wide.ensures ∙ one-mul (2 ^ c.args.w)
 
 pub overflow_sub-result : goal.overflow_sub-result
 overflow_sub-result c =
-    let s = c.before.before in
+    let s = (goal.at.overflow_sub-result c).Start in
     omega (arith, whole c, double s.args.w s.requires.0, magnitude_le s.args.w s.requires.0 s.requires.1 s.args.neg s.args.q s.requires.3)
 
 pub overflow_cast-result-then-neg : goal.overflow_cast-result-then-neg
 overflow_cast-result-then-neg c =
-    let s = c.before.before in
+    let s = (goal.at.overflow_cast-result-then-neg c).Start in
     omega (arith, whole c, double s.args.w s.requires.0, half_le s.args.w s.requires.0 s.requires.1, s.requires.2)
 
 pub returns-then-neg : goal.returns-then-neg
-returns-then-neg c = rw (whole c, c.if-neg.true) (rw c.if-neg.true at (is c.before.before))
+returns-then-neg c = rw (whole c, c.if-neg.true) (rw c.if-neg.true at (is (goal.at.returns-then-neg c).Start))
 
 pub returns-else-neg : goal.returns-else-neg
-returns-else-neg c = rw c.if-neg.false (rw c.if-neg.false at (is c.before))
+returns-else-neg c = rw c.if-neg.false (rw c.if-neg.false at (is (goal.at.returns-else-neg c).Start))

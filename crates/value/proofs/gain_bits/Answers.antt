@@ -62,19 +62,19 @@ returns-then-f-eq0 c =
     ∙ ap (λ (y : ℕ). word_bits (gain_word (sign_magnitude a.neg y))) (zero-mul (unit gain_format a.c)) ∙ ap (λ (v : ℤ). word_bits (gain_word v)) (signed_zero a.neg) ∙ ap word_bits gain_zero)
 
 -- t of its twos are taken out
-count : (c : After-lesser-t) → c.lesser-t.result ≡ min (twos c.before) (255 - c.args.c)
+count : (c : After-lesser-t) → c.lesser-t.result ≡ min (twos (goal.at.After-lesser-t c).Else-f-eq0) (255 - c.args.c)
 count c = c.lesser-t.ensures
 
 pub shifted_down-requires : goal.shifted_down-requires
-shifted_down-requires c = omega (arith, count c, short c.before)
+shifted_down-requires c = omega (arith, count c, short (goal.at.shifted_down-requires c).Else-f-eq0)
 
 -- what is left of it
-rest : (c : After-shifted_down) → let e = c.before.before in c.shifted_down.result ≡ f e / 2 ^ min (twos e) (255 - e.args.c)
-rest c = let e = c.before.before in c.shifted_down.ensures ∙ ap (λ (t : ℕ). f e / 2 ^ t) (count c.before)
+rest : (c : After-shifted_down) → let e = (goal.at.After-shifted_down c).Else-f-eq0 in c.shifted_down.result ≡ f e / 2 ^ min (twos e) (255 - e.args.c)
+rest c = let e = (goal.at.After-shifted_down c).Else-f-eq0 in c.shifted_down.ensures ∙ ap (λ (t : ℕ). f e / 2 ^ t) (count (goal.at.After-shifted_down c).After-lesser-t)
 
 pub complement-requires : goal.complement-requires
 complement-requires c =
-    let e = c.before.before in
+    let e = (goal.at.complement-requires c).Else-f-eq0 in
     let a = e.args in
     let p = parts e in
     let z = size e in
@@ -82,15 +82,15 @@ complement-requires c =
       omega arith,
       omega arith,
       omega (arith, rest c, left_div a.neg p.o (twos e) a.c a.f z.0 p.odd p.is e.requires.0 e.requires.1 z.1, some),
-      subst (λ (y : ℕ). y < 2 ^ 15 + pick a.neg 1 0) (sym (rest c)) (left_few a.neg p.o (twos e) a.c a.f z.0 p.odd p.is e.requires.0 e.requires.1 z.1),
+      subst (λ (y : ℕ). y < 2 ^ 15 + pick a.neg 1 0) (sym (rest (goal.at.complement-requires c).After-shifted_down)) (left_few a.neg p.o (twos e) a.c a.f z.0 p.odd p.is e.requires.0 e.requires.1 z.1),
     )
 
 pub returns : goal.returns
 returns c =
-    let d = c.before in
-    let e = d.before.before in
+    let d = (goal.at.returns c).After-shifted_down in
+    let e = (goal.at.returns c).Else-f-eq0 in
     let a = e.args in
     let p = parts e in
     let z = size e in
-    ap₂ (λ (t q : ℕ). (255 - a.c - t) * 0x1_0000 + q) (count d.before) (c.complement.ensures.0 ∙ ap (λ (q : ℕ). bits_of 16 (sign_magnitude a.neg q)) (rest d))
+    ap₂ (λ (t q : ℕ). (255 - a.c - t) * 0x1_0000 + q) (count (goal.at.returns c).After-lesser-t) (c.complement.ensures.0 ∙ ap (λ (q : ℕ). bits_of 16 (sign_magnitude a.neg q)) (rest d))
     ∙ ap word_bits (sym (gain_placed a.neg p.o (twos e) a.c a.f z.0 p.odd p.is e.requires.0 e.requires.1 z.1))

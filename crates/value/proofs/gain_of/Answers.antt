@@ -12,7 +12,7 @@ use Rattle.value.proofs.gain_of.Goals as goal
 
 module _ (c : After-length_of) where
   abbrev start : Start
-  start = c.before.before.before
+  start = (goal.at.After-length_of c).Start
 
   length : Length (pick start.args.neg 1 0) start.args.o c.length_of.result
   length = c.length_of.ensures.0
@@ -27,32 +27,32 @@ returns-then-k-lt-GAIN_BASE c =
 
 pub returns-then-c-length_of : goal.returns-then-c-length_of
 returns-then-c-length_of c =
-    let l = c.before in
+    let l = (goal.at.returns-then-c-length_of c).After-length_of in
     let a = (start l).args in
     sym (gain_high a.neg a.o a.k (start l).requires.0 _ (length l) l.lesser-c.result l.lesser-c.ensures (reached l) c.if-c-length_of.true)
 
 -- the number is one of 16 bits
-few : (c : Else-c-length_of) → let a = (start c.before).args in a.o * 2 ^ (a.k - (gain_base + c.lesser-c.result)) < 2 ^ 15 + pick a.neg 1 0
+few : (c : Else-c-length_of) → let a = (start (goal.at.Else-c-length_of c).After-length_of).args in a.o * 2 ^ (a.k - (gain_base + c.lesser-c.result)) < 2 ^ 15 + pick a.neg 1 0
 few c =
-    let l = c.before in
+    let l = (goal.at.Else-c-length_of c).After-length_of in
     let a = (start l).args in
     gain_few a.neg a.o a.k (start l).requires.0 _ (length l) l.lesser-c.result l.lesser-c.ensures (reached l) c.if-c-length_of.false
 
 pub shifted_up-requires : goal.shifted_up-requires
 shifted_up-requires c =
-    let a = (start c.before).args in
-    let f = fraction_fits _ 15 a.neg (omega arith) (few c) in
-    (shift_fits a.o _ (odd_pos a.o (start c.before).requires.0) f, f)
+    let a = (start (goal.at.shifted_up-requires c).After-length_of).args in
+    let f = fraction_fits _ 15 a.neg (omega arith) (few (goal.at.shifted_up-requires c).Else-c-length_of) in
+    (shift_fits a.o _ (odd_pos a.o (start (goal.at.shifted_up-requires c).After-length_of).pre.0) f, f)
 
 pub complement-d-requires : goal.complement-d-requires
 complement-d-requires c =
-    let s = start c.before.before in
-    (omega arith, omega arith, rw c.shifted_up.ensures (odd_shl s.args.o _ s.requires.0), rw c.shifted_up.ensures (few c.before))
+    let s = start (goal.at.complement-d-requires c).After-length_of in
+    (omega arith, omega arith, rw c.shifted_up.ensures (odd_shl s.args.o _ s.pre.0), rw c.shifted_up.ensures (few (goal.at.complement-d-requires c).Else-c-length_of))
 
 pub returns : goal.returns
 returns c =
-    let e = c.before.before in
-    let l = e.before in
+    let e = (goal.at.returns c).Else-c-length_of in
+    let l = (goal.at.returns c).After-length_of in
     let a = (start l).args in
     rw (c.complement-d.ensures.0, c.shifted_up.ensures)
     (sym (gain_at_lem a.neg a.o a.k (start l).requires.0 _ (length l) l.lesser-c.result l.lesser-c.ensures (reached l) e.if-c-length_of.false))

@@ -10,7 +10,7 @@ under : (c : Start) → c.args.x.digit * c.args.c ≤ c.args.x.digit * c.args.x.
 under c = mul-le-mul_left c.args.x.digit (le_of_lt c.requires.1)
 
 pub overflow_mul-result : goal.overflow_mul-result
-overflow_mul-result c = record { fits = omega (arith, under c.before, c.requires.0.near) }
+overflow_mul-result c = record { fits = omega (arith, under (goal.at.overflow_mul-result c).Start, c.requires.0.near) }
 
 pub overflow_add-result : goal.overflow_add-result
-overflow_add-result c = record { fits = omega (arith, under c.before.before, c.requires.0.near) }
+overflow_add-result c = record { fits = omega (arith, under (goal.at.overflow_add-result c).Start, c.requires.0.near) }

@@ -8,7 +8,7 @@ overflow_sub-result-then-less c = let p = c.requires in leading_few _ (omega (ar
 
 pub returns-then-less : goal.returns-then-less
 returns-then-less c =
-    let s = c.before in
+    let s = c in
     rw c.if-less.true (length_less s.args.o s.requires.0 s.requires.1, omega arith)
 
 pub overflow_sub-result-2 : goal.overflow_sub-result-2
@@ -16,5 +16,5 @@ overflow_sub-result-2 c = let p = c.requires in leading_few _ (omega arith) (ome
 
 pub returns : goal.returns
 returns c =
-    let s = c.before in
+    let s = c in
     rw c.if-less.false (length_full s.args.o s.requires.0 s.requires.1, omega arith)

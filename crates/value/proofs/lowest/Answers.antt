@@ -14,9 +14,9 @@ short c =
     omega (arith, c.requires.0.near, l, mul-one x.digit)
 
 pub overflow_add-result : goal.overflow_add-result
-overflow_add-result c = let s = c.before.before.before in record { fits = omega (arith, short s, s.requires.1) }
+overflow_add-result c = let s = (goal.at.overflow_add-result c).Start in record { fits = omega (arith, short s, s.requires.1) }
 
 pub returns : goal.returns
 returns c =
-    let l = c.before.before in
+    let l = c in
     rw l.lesser.ensures (lowest_steps _ _ _ l.requires.0.steps)

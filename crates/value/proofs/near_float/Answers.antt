@@ -10,15 +10,15 @@ use Rattle.value.proofs.near_float.Goals as goal
 
 pub packed-requires : goal.packed-requires
 packed-requires c =
-    let p = c.before in
-    let s = p.before in
+    let p = c in
+    let s = c in
     let a = s.args in
     (s.requires.0.low, near_room a.x a.neg (a.o * 2 ^ a.k) (odd_shl a.o a.k s.requires.2) p.near_place-p.result p.near_place-p.ensures 32 a.y s.requires.0)
 
 pub returns : goal.returns
 returns c =
-    let p = c.before.before in
-    let s = p.before in
+    let p = c in
+    let s = c in
     let a = s.args in
     let n = p.near_place-p.result in
     as_rounded (float_word a.x 32 a.y) a.x (sign_magnitude a.neg (a.o * 2 ^ a.k)) _ _

@@ -21,15 +21,15 @@ near_place-p-requires c =
 
 -- the place is one of the gain format
 near : (c : After-near_place-p) → NearPlace gain_format c.args.neg (c.args.o * 2 ^ c.args.k) c.near_place-p.result
-near c = let s = c.before in subst (λ (x : Format). NearPlace x s.args.neg (s.args.o * 2 ^ s.args.k) c.near_place-p.result) s.requires.0 c.near_place-p.ensures
+near c = let s = c in subst (λ (x : Format). NearPlace x s.args.neg (s.args.o * 2 ^ s.args.k) c.near_place-p.result) s.requires.0 c.near_place-p.ensures
 
 pub gain_bits-requires : goal.gain_bits-requires
-gain_bits-requires c = let n = near c in (omega (arith, n.below), n.fits)
+gain_bits-requires c = let n = near (goal.at.gain_bits-requires c).After-near_place-p in (omega (arith, n.below), n.fits)
 
 pub returns : goal.returns
 returns c =
-    let p = c.before in
-    let s = p.before in
+    let p = (goal.at.returns c).After-near_place-p in
+    let s = c in
     let a = s.args in
     let n = p.near_place-p.result in
     as_rounded gain_word gain_format (sign_magnitude a.neg (a.o * 2 ^ a.k)) _ _

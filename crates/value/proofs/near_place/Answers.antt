@@ -16,7 +16,7 @@ use Rattle.value.proofs.near_place.Goals as goal
 
 module _ (c : After-lowest-c) where
   abbrev start : Start
-  start = c.before.before.before
+  start = (goal.at.After-lowest-c c).Start
 
   abbrev bits : ℕ
   bits = c.length_of.result
@@ -32,20 +32,20 @@ module _ (c : After-lowest-c) where
 
 pub returns-then-end-c : goal.returns-then-end-c
 returns-then-end-c c =
-    let l = c.before.before.before in
+    let l = (goal.at.returns-then-end-c c).After-lowest-c in
     let a = (start l).args in
     near_end a.x (rounds l) a.neg a.o a.k (start l).requires.2 (bits l) (length l) l.lowest-c.result (low l) c.if-end-c.true _ c.most.ensures
 
 pub shifted_up-f-requires : goal.shifted_up-f-requires
 shifted_up-f-requires c =
-    let l = c.before.before.before.before in
+    let l = (goal.at.shifted_up-f-requires c).After-lowest-c in
     let a = (start l).args in
     shift_placed a.x a.neg a.o a.k (start l).requires.2 (bits l) (length l) l.lowest-c.result c.last_place-last.result (start l).requires.0.few c.last_place-last.ensures c.if-last-k.true (omega (arith, (low l).enough))
 
 pub returns-then-last-k : goal.returns-then-last-k
 returns-then-last-k c =
-    let e = c.before in
-    let l = e.before.before.before.before in
+    let e = c in
+    let l = (goal.at.returns-then-last-k c).After-lowest-c in
     let a = (start l).args in
     let p = e.last_place-last.ensures in
     near_exact a.x (rounds l) a.neg a.o a.k (start l).requires.2 (bits l) (length l) l.lowest-c.result (low l) (omega (arith, e.if-end-c.false, (start l).requires.0.some)) (omega (arith, e.if-last-k.true, p)) _
@@ -54,7 +54,7 @@ returns-then-last-k c =
 -- the value is rounded to a whole number of last places
 module _ (c : After-rounded_whole-f) where
   abbrev found : After-lowest-c
-  found = c.before.before.before.before.before
+  found = (goal.at.After-rounded_whole-f c).After-lowest-c
 
   abbrev given : Start
   given = start found
@@ -71,7 +71,7 @@ module _ (c : After-rounded_whole-f) where
 
 pub returns-then-c-end : goal.returns-then-c-end
 returns-then-c-end c =
-    let r = c.before.before.before in
+    let r = (goal.at.returns-then-c-end c).After-rounded_whole-f in
     let l = found r in
     let a = (given r).args in
     near_last a.x (rounds l) a.neg a.o a.k (given r).requires.2 (bits l) (length l) l.lowest.result (low l) (above r) r.rounded_whole-f.result (rounded r) c.if-c-end.true _
@@ -79,8 +79,8 @@ returns-then-c-end c =
 
 pub returns-then-f-two_to : goal.returns-then-f-two_to
 returns-then-f-two_to c =
-    let t = c.before.before.before in
-    let r = t.before.before in
+    let t = c in
+    let r = (goal.at.returns-then-f-two_to c).After-rounded_whole-f in
     let l = found r in
     let a = (given r).args in
     near_next a.x (rounds l) a.neg a.o a.k (given r).requires.2 (bits l) (length l) l.lowest.result (low l) (above r) r.rounded_whole-f.result (rounded r) (omega (arith, t.if-c-end.false, r.if-end-c.false))
@@ -88,8 +88,8 @@ returns-then-f-two_to c =
 
 pub returns : goal.returns
 returns c =
-    let t = c.before in
-    let r = t.before.before in
+    let t = c in
+    let r = (goal.at.returns c).After-rounded_whole-f in
     let l = found r in
     let a = (given r).args in
     near_inner a.x (rounds l) a.neg a.o a.k (given r).requires.2 (bits l) (length l) l.lowest.result (low l) (above r) r.rounded_whole-f.result (rounded r) (omega (arith, t.if-c-end.false, r.if-end-c.false))

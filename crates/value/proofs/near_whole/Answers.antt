@@ -26,15 +26,15 @@ near_place-p-requires c =
 
 -- the place is one of such numbers
 near : (c : After-near_place-p) → NearPlace (whole_format c.args.w) c.args.neg (c.args.o * 2 ^ c.args.k) c.near_place-p.result
-near c = let s = c.before in subst (λ (x : Format). NearPlace x s.args.neg (s.args.o * 2 ^ s.args.k) c.near_place-p.result) s.requires.0 c.near_place-p.ensures
+near c = let s = c in subst (λ (x : Format). NearPlace x s.args.neg (s.args.o * 2 ^ s.args.k) c.near_place-p.result) s.requires.0 c.near_place-p.ensures
 
 pub complement_of-requires : goal.complement_of-requires
-complement_of-requires c = let s = c.before in (omega (arith, s.requires.1), s.requires.2, (near c).ranges)
+complement_of-requires c = let s = c in (omega (arith, s.requires.1), s.requires.2, (near (goal.at.complement_of-requires c).After-near_place-p).ranges)
 
 pub returns : goal.returns
 returns c =
-    let p = c.before in
-    let s = p.before in
+    let p = (goal.at.returns c).After-near_place-p in
+    let s = c in
     let a = s.args in
     as_rounded (whole_word a.w) (whole_format a.w) (sign_magnitude a.neg (a.o * 2 ^ a.k)) _ _
     (c.complement_of.ensures ∙ sym (near_whole a.w a.neg (a.o * 2 ^ a.k) (odd_shl a.o a.k s.requires.3) p.near_place-p.result (near p))) (near p).changes

@@ -22,22 +22,22 @@ returns-then-not-is_code c =
     sym (near_no_code a.code a.p (sym c.is_code.ensures ∙ c.if-not-is_code.true))
 
 pub nearest_at-requires : goal.nearest_at-requires
-nearest_at-requires c = let a = (apart c.before).1 in (known c.before.before, a.odd, a.low, a.few)
+nearest_at-requires c = let a = (apart (goal.at.nearest_at-requires c).In-Odd-2).1 in (known (goal.at.nearest_at-requires c).Else-not-is_code, a.odd, a.low, a.few)
 
 pub returns-in-NotCanonical : goal.returns-in-NotCanonical
 returns-in-NotCanonical c =
-    let e = c.before.before in
+    let e = (goal.at.returns-in-NotCanonical c).Else-not-is_code in
     let a = e.args in
     sym (near_not_canonical a.code a.p (known e) (subst (PartsOf a.p) c.in-NotCanonical.is c.parts.ensures))
 
 pub returns-in-Zero : goal.returns-in-Zero
 returns-in-Zero c =
-    let e = c.before.before in
+    let e = (goal.at.returns-in-Zero c).Else-not-is_code in
     let a = e.args in
     sym (near_zero a.code a.p (known e) (subst (PartsOf a.p) c.in-Zero.is c.parts.ensures))
 
 pub returns-in-Odd : goal.returns-in-Odd
 returns-in-Odd c =
-    let e = c.before.before.before in
+    let e = (goal.at.returns-in-Odd c).Else-not-is_code in
     let a = e.args in
-    c.nearest_at.ensures ∙ sym (near_odd a.code a.p (known e) _ _ _ (apart c.before.before))
+    c.nearest_at.ensures ∙ sym (near_odd a.code a.p (known e) _ _ _ (apart (goal.at.returns-in-Odd c).In-Odd-2))

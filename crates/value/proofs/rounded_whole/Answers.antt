@@ -15,13 +15,13 @@ returns-then-s-gt31 c =
 
 pub overflow_add-o : goal.overflow_add-o
 overflow_add-o c =
-    let s = c.before.before in
+    let s = c in
     let z : 2 ^ s.args.s ≤ 2 ^ 31 = pow_mono {j = 31} (omega (arith, c.if-s-gt31.false)) in
     record { fits = omega (arith, z, c.under_half.ensures.0, s.requires) }
 
 pub returns : goal.returns
 returns c =
-    let u = c.before in
+    let u = c in
     let a = u.args in
     ap (λ (y : ℕ). y * 2 ^ a.s) c.shifted_down.ensures
     ∙ rounded_is (2 ^ a.s) a.o u.under_half.result (pow_pos a.s) u.under_half.ensures.0 u.under_half.ensures.1

@@ -24,36 +24,36 @@ abbrev value : Start → ℤ
 value s = sign_magnitude s.args.neg (s.args.o * 2 ^ s.args.k)
 
 -- the value's place
-at : (c : In-At-2) → placed (whole_format c.args.w) (value c.before.before.before) ≡ At c.in-At.c c.in-At.f
+at : (c : In-At-2) → placed (whole_format c.args.w) (value (goal.at.In-At-2 c).Start) ≡ At c.in-At.c c.in-At.f
 at c =
-    let s = c.before.before.before in
+    let s = (goal.at.In-At-2 c).Start in
     ap (λ (x : Format). placed x (value s)) (sym s.requires.0) ∙ sym c.place.ensures ∙ c.in-At.is
 
 pub place-requires : goal.place-requires
 place-requires c =
-    let s = c.before in
+    let s = (goal.at.place-requires c).Start in
     (subst Sound (sym s.requires.0) (whole_sound s.args.w s.requires.1 s.requires.2), s.requires.3, s.requires.4, s.requires.5)
 
 pub complement-requires : goal.complement-requires
 complement-requires c =
-    let s = c.before.before.before in
+    let s = (goal.at.complement-requires c).Start in
     let a = s.args in
-    let p = placed_is (whole_format a.w) (value s) _ _ (at c.before) in
+    let p = placed_is (whole_format a.w) (value s) _ _ (at (goal.at.complement-requires c).In-At-2) in
     (s.requires.1, s.requires.2, fraction_some (whole_format a.w) a.neg a.o a.k _ _ s.requires.3 p, subst (λ (b : Bool). c.in-At.f < 2 ^ (a.w - 1) + pick b 1 0) (odd_sign a.neg a.o a.k s.requires.3) p.fits)
 
 pub returns-then-k-lt-DENOMINATOR_POWER : goal.returns-then-k-lt-DENOMINATOR_POWER
 returns-then-k-lt-DENOMINATOR_POWER c =
-    let s = c.before in
+    let s = (goal.at.returns-then-k-lt-DENOMINATOR_POWER c).Start in
     let a = s.args in
     sym (ap (whole_of a.w (is_negative (value s))) (placed_low (whole_format a.w) a.neg a.o a.k s.requires.3 c.if-k-lt-DENOMINATOR_POWER.true))
 
 pub returns-in-At : goal.returns-in-At
 returns-in-At c =
-    let s = c.before.before.before.before in
+    let s = (goal.at.returns-in-At c).Start in
     let a = s.args in
-    sym (ap (whole_of a.w (is_negative (value s))) (at c.before.before) ∙ ap (λ (b : Bool). Word (bits_of a.w (sign_magnitude b c.in-At.f))) (odd_sign a.neg a.o a.k s.requires.3) ∙ ap (λ (n : ℕ). Word n) (sym c.complement.ensures.0))
+    sym (ap (whole_of a.w (is_negative (value s))) (at (goal.at.returns-in-At c).In-At-2) ∙ ap (λ (b : Bool). Word (bits_of a.w (sign_magnitude b c.in-At.f))) (odd_sign a.neg a.o a.k s.requires.3) ∙ ap (λ (n : ℕ). Word n) (sym c.complement.ensures.0))
 
 pub returns-in-Nowhere : goal.returns-in-Nowhere
 returns-in-Nowhere c =
-    let s = c.before.before.before in
+    let s = (goal.at.returns-in-Nowhere c).Start in
     sym (ap (whole_of s.args.w (is_negative (value s))) (ap (λ (x : Format). placed x (value s)) (sym s.requires.0) ∙ sym c.place.ensures ∙ c.in-Nowhere.is))

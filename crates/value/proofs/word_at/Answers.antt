@@ -15,16 +15,16 @@ value s = sign_magnitude s.args.neg (s.args.o * 2 ^ s.args.k)
 
 pub float_of-requires : goal.float_of-requires
 float_of-requires c =
-    let s = c.before.before in
+    let s = (goal.at.float_of-requires c).Start in
     (subst (λ (x : Format). Float x 32 24) (sym c.format_of.ensures) ibm_float, s.requires.1, s.requires.2, s.requires.3)
 
 pub float_of-requires-in-5 : goal.float_of-requires-in-5
 float_of-requires-in-5 c =
-    let s = c.before.before in
+    let s = (goal.at.float_of-requires-in-5 c).Start in
     (subst (λ (x : Format). Float x 32 23) (sym c.format_of-in-5.ensures) single_float, s.requires.1, s.requires.2, s.requires.3)
 
 pub returns-in-1 : goal.returns-in-1
-returns-in-1 c = rw c.in-1.is (c.float_of.ensures ∙ ap (λ (x : Format). float_word x 32 24 (value c.before.before.before)) c.format_of.ensures)
+returns-in-1 c = rw c.in-1.is (c.float_of.ensures ∙ ap (λ (x : Format). float_word x 32 24 (value (goal.at.returns-in-1 c).Start)) c.format_of.ensures)
 
 pub returns-in-2 : goal.returns-in-2
 returns-in-2 c = rw c.in-2.is c.whole_of.ensures
@@ -36,10 +36,10 @@ pub returns-in-4 : goal.returns-in-4
 returns-in-4 c = rw c.in-4.is c.gain_of.ensures
 
 pub returns-in-5 : goal.returns-in-5
-returns-in-5 c = rw c.in-5.is (c.float_of-in-5.ensures ∙ ap (λ (x : Format). float_word x 32 23 (value c.before.before.before)) c.format_of-in-5.ensures)
+returns-in-5 c = rw c.in-5.is (c.float_of-in-5.ensures ∙ ap (λ (x : Format). float_word x 32 23 (value (goal.at.returns-in-5 c).Start)) c.format_of-in-5.ensures)
 
 pub returns-in_default : goal.returns-in_default
 returns-in_default c =
     let r = c.in_default.in_default-own.rest in
-    let s = c.before.before.before in
+    let s = (goal.at.returns-in_default c).Start in
     rw (last_code s.args.code s.requires.0 r.0.0.0.0.1 r.0.0.0.1 r.0.0.1 r.0.1 r.1) c.whole_of-in_default.ensures

@@ -15,35 +15,35 @@ owns : (c : Start) → let a = c.args in Own a.«record».now (form_causes a.«r
 owns c = let a = c.args in own a.«record».now (form_causes a.«record».now) c.requires.1
 
 fits : (c : Start) → let a = c.args in Fit a.«record».now a.code a.n a.t
-fits c = let a = c.args in fit a.«record».now a.code a.n a.t c.requires.0 (owns c)
+fits c = let a = c.args in fit a.«record».now a.code a.n a.t c.requires.0 (owns (goal.at.Start c).Start)
 
 -- a trace's bytes on the reel, and the reel's length
 wide : (c : After-width_of-v) → 240 + c.args.n * c.width_of-v.result ≤ 131308
-wide c = subst (λ (v : ℕ). 240 + c.args.n * v ≤ 131308) (sym c.width_of-v.ensures.0) (fits c.before.before.before).wide
+wide c = subst (λ (v : ℕ). 240 + c.args.n * v ≤ 131308) (sym c.width_of-v.ensures.0) (fits (goal.at.After-width_of-v c).Start).wide
 
 most : (c : After-width_of-v) → c.args.t * (240 + c.args.n * c.width_of-v.result) ≤ 100000 * 131308
-most c = subst (λ (v : ℕ). c.args.t * (240 + c.args.n * v) ≤ 100000 * 131308) (sym c.width_of-v.ensures.0) (fits c.before.before.before).size
+most c = subst (λ (v : ℕ). c.args.t * (240 + c.args.n * v) ≤ 100000 * 131308) (sym c.width_of-v.ensures.0) (fits (goal.at.After-width_of-v c).Start).size
 
 size : (c : After-width_of-v) → let a = c.args in 3600 + a.t * (240 + a.n * c.width_of-v.result) ≡ first_trace + a.t * stride a.n (sample_bytes a.code)
 size c = let a = c.args in ap (λ (v : ℕ). 3600 + a.t * (240 + a.n * v)) c.width_of-v.ensures.0
 
 pub overflow_mul-w : goal.overflow_mul-w
-overflow_mul-w c = omega (arith, wide c)
+overflow_mul-w c = omega (arith, wide (goal.at.overflow_mul-w c).After-width_of-v)
 
 pub overflow_add-w : goal.overflow_add-w
-overflow_add-w c = omega (arith, wide c)
+overflow_add-w c = omega (arith, wide (goal.at.overflow_add-w c).After-width_of-v)
 
 pub overflow_mul-length : goal.overflow_mul-length
-overflow_mul-length c = omega (arith, most c)
+overflow_mul-length c = omega (arith, most (goal.at.overflow_mul-length c).After-width_of-v)
 
 pub overflow_add-length : goal.overflow_add-length
-overflow_add-length c = omega (arith, most c)
+overflow_add-length c = omega (arith, most (goal.at.overflow_add-length c).After-width_of-v)
 
 pub returns-then-reel-length : goal.returns-then-reel-length
 returns-then-reel-length c =
-    let s = c.before.before.before.before in
+    let s = (goal.at.returns-then-reel-length c).Start in
     let a = s.args in
-    short_end a.near a.«record».now a.code a.n a.t a.reel.now (3600 + a.t * (240 + a.n * c.width_of-v.result)) (size c.before) c.if-reel-length.true
+    short_end a.near a.«record».now a.code a.n a.t a.reel.now (3600 + a.t * (240 + a.n * c.width_of-v.result)) (size (goal.at.returns-then-reel-length c).After-width_of-v) c.if-reel-length.true
 
 pub slice_bounds-put_reel-end : goal.slice_bounds-put_reel-end
 slice_bounds-put_reel-end c = c.if-reel-length.false
@@ -55,7 +55,7 @@ slice_bounds-put_reel-end-2 c =
 
 pub put_reel-count-requires : goal.put_reel-count-requires
 put_reel-count-requires c =
-    let s = c.before.before.before.before.before in
+    let s = (goal.at.put_reel-count-requires c).Start in
     let a = s.args in
     let f = fits s in
     (f.a_code, c.width_of-v.ensures.0, refl, f.front, f.room, length-take-le (3600 + a.t * (240 + a.n * c.width_of-v.result)) a.reel.now c.if-reel-length.false)
@@ -65,9 +65,9 @@ shape_of-reel c = c.reel-1.given.1
 
 pub returns : goal.returns
 returns c =
-    let s = c.before.before.before.before.before.before.before.before in
+    let s = (goal.at.returns c).Start in
     let a = s.args in
-    taken_end a.near a.«record».now a.code a.n a.t a.reel.now (3600 + a.t * (240 + a.n * c.width_of-v.result)) (size c.before.before.before.before.before) _ _ c.put_reel-count.ensures.0 c.put_reel-count.ensures.1 c.if-reel-length.false
+    taken_end a.near a.«record».now a.code a.n a.t a.reel.now (3600 + a.t * (240 + a.n * c.width_of-v.result)) (size (goal.at.returns c).After-width_of-v) _ _ c.put_reel-count.ensures.0 c.put_reel-count.ensures.1 c.if-reel-length.false
 
 pub overflow_cast-n : goal.overflow_cast-n
-overflow_cast-n c = omega (arith, (fits c.before.before.before.before).n_high)
+overflow_cast-n c = omega (arith, (fits (goal.at.overflow_cast-n c).Start).n_high)

@@ -20,14 +20,14 @@ pub overflow_cast-code : goal.overflow_cast-code
 overflow_cast-code c = omega (arith, code_limits c.args.code c.requires.0)
 
 pub overflow_add-p : goal.overflow_add-p
-overflow_add-p c = omega (arith, place c)
+overflow_add-p c = omega (arith, place (goal.at.overflow_add-p c).After-field_at-p)
 
 pub slice_bounds-put16-end : goal.slice_bounds-put16-end
 slice_bounds-put16-end c = omega (arith, place c, c.requires.1)
 
 pub returns : goal.returns
 returns c =
-    let f = c.before.before.before.before in
+    let f = (goal.at.returns c).After-field_at-p in
     let a = f.args in
     let new = bytes_of 2 a.code in
     let p = place_no f.field_at-p.result in

@@ -25,25 +25,25 @@ fields c =
 
 pub loop-left-init : goal.loop-left-init
 loop-left-init c =
-    let s = c.before.before in
+    let s = c in
     let a = s.args in
     (s.requires.3, s.requires.4, omega arith, begin _ _ (s.requires.4 ∙ ap (λ (x : ℕ). a.n * x) s.requires.1 ∙ sym (size_words a.near a.«record».now a.code a.c s.requires.2 a.n a.start)), omega arith, omega arith)
 
 pub put_samples-changed-requires : goal.put_samples-changed-requires
 put_samples-changed-requires c =
-    let b = c.before.before.before.before.before.before in
-    (b.requires.0, omega (arith, c.next_count-count.ensures, times c.before, fields c.before, c.loop-left.invariant.0, c.loop-left.invariant.1, c.loop-left.invariant.2), omega (arith, ap (λ (x : ℕ). c.next_count-count.result * x) b.requires.1))
+    let b = c in
+    (b.requires.0, omega (arith, c.next_count-count.ensures, times (goal.at.put_samples-changed-requires c).After-next_count-count, fields (goal.at.put_samples-changed-requires c).After-next_count-count, c.loop-left.invariant.0, c.loop-left.invariant.1, c.loop-left.invariant.2), omega (arith, ap (λ (x : ℕ). c.next_count-count.result * x) b.requires.1))
 
 pub overflow_add-changed : goal.overflow_add-changed
 overflow_add-changed c =
-    let b = c.before.before.before.before.before.before.before.before.before in
+    let b = c in
     let a = b.args in
     let l = c.loop-left in
     omega (arith, c.next_count-count.ensures, l.invariant.4, c.put_samples-changed.ensures.0, samples_most a.near a.«record».now a.code c.next_count-count.result (l.at + 3))
 
 pub loop-left-preserved : goal.loop-left-preserved
 loop-left-preserved c =
-    let s = c.before.before.before.before.before.before.before.before.before in
+    let s = c in
     let a = s.args in
     let r = a.«record».now in
     let l = c.loop-left in
@@ -62,9 +62,9 @@ loop-left-preserved c =
     let f = lend (samples_copied a.near r a.code count (l.at + 3)) (fields_words a.near r a.code a.c (l.left - count) next) (l.o + count * a.v) (again l.invariant.3 more) (omega arith) (size_samples_copied a.near r a.code count (l.at + 3) ∙ omega arith)
     c.put_samples-changed.ensures.1 in
     let k = c.put_samples-changed.ensures.0 in (
-      omega (arith, q, fields c.before.before.before.before, l.invariant.0, ap (fields_length 6 a.c) less),
+      omega (arith, q, fields (goal.at.loop-left-preserved c).After-next_count-count, l.invariant.0, ap (fields_length 6 a.c) less),
       f.size ∙ sym l.invariant.3.size ∙ l.invariant.1,
-      omega (arith, q, times c.before.before.before.before, l.invariant.2, ap (λ (x : ℕ). x * a.v) less),
+      omega (arith, q, times (goal.at.loop-left-preserved c).After-next_count-count, l.invariant.2, ap (λ (x : ℕ). x * a.v) less),
       f,
       omega (arith, q, l.invariant.4, k, samples_most a.near r a.code count (l.at + 3)),
       omega (arith, l.invariant.5, k, sums),
@@ -75,7 +75,7 @@ shape_of-out c = c.loop-left.invariant.1 ∙ sym c.requires.4
 
 pub returns : goal.returns
 returns c =
-    let b = c.before.before.before.before in
+    let b = c in
     let a = b.args in
     let l = c.loop-left in (
       omega (arith, l.invariant.5, changed_none a.near a.«record».now a.code a.c b.requires.2 l.left l.at c.loop-left-test.false),
@@ -95,13 +95,13 @@ pub slice_bounds-put_samples-end : goal.slice_bounds-put_samples-end
 slice_bounds-put_samples-end c = omega (arith, c.next_count-count.ensures, times c, fields c, c.loop-left.invariant.0, c.loop-left.invariant.1, c.loop-left.invariant.2)
 
 pub overflow_mul-at : goal.overflow_mul-at
-overflow_mul-at c = omega (arith, c.next_count-count.ensures, fields c.before.before.before.before, c.loop-left.invariant.0, c.loop-left.invariant.1, c.loop-left.invariant.2)
+overflow_mul-at c = omega (arith, c.next_count-count.ensures, fields (goal.at.overflow_mul-at c).After-next_count-count, c.loop-left.invariant.0, c.loop-left.invariant.1, c.loop-left.invariant.2)
 
 pub overflow_add-at-in-loop-left : goal.overflow_add-at-in-loop-left
-overflow_add-at-in-loop-left c = omega (arith, c.next_count-count.ensures, fields c.before.before.before.before, c.loop-left.invariant.0, c.loop-left.invariant.1, c.loop-left.invariant.2)
+overflow_add-at-in-loop-left c = omega (arith, c.next_count-count.ensures, fields (goal.at.overflow_add-at-in-loop-left c).After-next_count-count, c.loop-left.invariant.0, c.loop-left.invariant.1, c.loop-left.invariant.2)
 
 pub overflow_add-at-in-loop-left-2 : goal.overflow_add-at-in-loop-left-2
-overflow_add-at-in-loop-left-2 c = omega (arith, c.next_count-count.ensures, fields c.before.before.before.before, c.loop-left.invariant.0, c.loop-left.invariant.1, c.loop-left.invariant.2)
+overflow_add-at-in-loop-left-2 c = omega (arith, c.next_count-count.ensures, fields (goal.at.overflow_add-at-in-loop-left-2 c).After-next_count-count, c.loop-left.invariant.0, c.loop-left.invariant.1, c.loop-left.invariant.2)
 
 pub overflow_sub-left : goal.overflow_sub-left
 overflow_sub-left c = omega (arith, c.next_count-count.ensures)

@@ -13,8 +13,8 @@ use Rattle.write_reel.proofs.put_header.Goals as goal
 pub returns : goal.returns
 unfolding reel_header_copied
 returns c =
-    let copy = c.before.before.before.before.before.before in
-    let b = copy.before.before.before.before in
+    let copy = c in
+    let b = c in
     let l = b.args.assigned.now in
     let out = b.args.out.now in
     let k = length l in

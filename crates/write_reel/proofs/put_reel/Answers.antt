@@ -18,22 +18,22 @@ use native.Mathlib.Omega.{arith}
 use Rattle.write_reel.proofs.put_reel.Goals as goal
 
 pub put_traces-count-requires : goal.put_traces-count-requires
-put_traces-count-requires c = let s = c.before.before.before.before.before.before.before.before.before.before.before.before.before in (s.requires.0, s.requires.1, s.requires.2, s.requires.4, omega (arith, s.requires.5))
+put_traces-count-requires c = let s = c in (s.requires.0, s.requires.1, s.requires.2, s.requires.4, omega (arith, s.requires.5))
 
 pub put_code-requires : goal.put_code-requires
 put_code-requires c =
-    let two = c.before.before.before.before.before.before in
-    let one = two.before.before.before.before.before in
-    let s = one.before.before.before.before.before.before in
+    let two = c in
+    let one = c in
+    let s = c in
     (s.requires.0, omega (arith, s.requires.5, one.out-1.given.1, two.out-2-1.given.1, c.out-3-1.given.1))
 
 pub returns : goal.returns
 unfolding reel_copied parts_copied
 returns c =
-    let traces = c.before.before.before.before.before.before in
-    let header = traces.before.before.before.before in
-    let copy = header.before.before.before.before.before in
-    let b = copy.before.before.before.before.before in
+    let traces = c in
+    let header = c in
+    let copy = c in
+    let b = c in
     let a = b.args in
     let s = a.«record».now in
     let from = byte_place binary_start 3201 in
@@ -52,6 +52,6 @@ returns c =
 
 pub shape_of-out : goal.shape_of-out
 shape_of-out c =
-    let b = c.before.before.before.before.before.before.before.before.before.before.before.before.before.before.before.before.before.before.before.before in
+    let b = c in
     let a = b.args in
     ap length (returns c).1 ∙ (size_reel a.near a.«record».now a.code a.n a.t ∙ ap (λ (k : ℕ). first_trace + a.t * k) (sym (b.requires.2 ∙ ap (stride a.n) b.requires.1)) ∙ sym b.requires.5)

@@ -7,8 +7,8 @@ use Rattle.write_reel.proofs.put_samples.Goals as goal
 
 pub returns-then-near : goal.returns-then-near
 returns-then-near c =
-    let t = c.before.before.before.before in
-    let b = t.before.before.before in
+    let t = c in
+    let b = c in
     let a = b.args in
     let s = a.«record».now in
     let w = c.write_nearest.ensures in
@@ -18,8 +18,8 @@ returns-then-near c =
 
 pub returns : goal.returns
 returns c =
-    let t = c.before.before.before.before in
-    let b = t.before.before.before in
+    let t = c in
+    let b = c in
     let a = b.args in
     let s = a.«record».now in
     let k = copied_exact s a.code a.n a.start a.near t.if-near.false in

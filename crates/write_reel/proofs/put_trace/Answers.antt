@@ -27,15 +27,15 @@ some c = let a = c.args in subst (λ (x : ℕ). 0 < x) (sym c.share_at-c.ensures
 
 pub put_fields-requires : goal.put_fields-requires
 put_fields-requires c =
-    let b = c.before.before.before.before.before.before.before.before.before in
+    let b = (goal.at.put_fields-requires c).Start in
     let a = b.args in
-    (b.requires.0, b.requires.1, some c.before, subst (λ (x : ℕ). a.at + 183 + fields_length 6 x a.n ≤ length a.«record».now) (sym c.share_at-c.ensures) (omega (arith, room b)), omega (arith, b.requires.3))
+    (b.requires.0, b.requires.1, some (goal.at.put_fields-requires c).After-share_at-c, subst (λ (x : ℕ). a.at + 183 + fields_length 6 x a.n ≤ length a.«record».now) (sym c.share_at-c.ensures) (omega (arith, room b)), omega (arith, b.requires.3))
 
 pub returns : goal.returns
 unfolding trace_changed_at reel_trace_copied
 returns c =
-    let h = c.before.before.before.before.before.before.before in
-    let b = h.before.before.before.before.before in
+    let h = c in
+    let b = (goal.at.returns c).Start in
     let a = b.args in
     let s = a.«record».now in
     let from = a.at + field_head in
@@ -52,13 +52,13 @@ returns c =
     (r.0 ∙ ap (λ (c : ℕ). fields_changed_at a.near s a.code c a.n (a.at + to_samples)) is, close z (length a.out.now) w₁ (omega (arith, b.requires.3)) size (r.1 ∙ ap (λ (c : ℕ). fields_words a.near s a.code c a.n (a.at + to_samples)) is))
 
 pub overflow_add-at : goal.overflow_add-at
-overflow_add-at c = omega (arith, room c.before.before)
+overflow_add-at c = omega (arith, room (goal.at.overflow_add-at c).Start)
 
 pub overflow_add-at-2 : goal.overflow_add-at-2
-overflow_add-at-2 c = omega (arith, room c.before.before)
+overflow_add-at-2 c = omega (arith, room (goal.at.overflow_add-at-2 c).Start)
 
 pub slice_bounds-put_header-end : goal.slice_bounds-put_header-end
-slice_bounds-put_header-end c = omega (arith, room c.before.before)
+slice_bounds-put_header-end c = omega (arith, room (goal.at.slice_bounds-put_header-end c).Start)
 
 pub overflow_add-at-3 : goal.overflow_add-at-3
-overflow_add-at-3 c = omega (arith, room c.before.before.before.before.before.before.before.before)
+overflow_add-at-3 c = omega (arith, room (goal.at.overflow_add-at-3 c).Start)

@@ -26,7 +26,7 @@ ends s n t left some few room =
 pub loop-left-init : goal.loop-left-init
 unfolding trace_place_in
 loop-left-init c =
-    let s = c.before.before in
+    let s = c in
     let a = s.args in
     let r = a.«record».now in
     let z : a.t - a.t ≡ 0 = omega arith in (
@@ -47,7 +47,7 @@ slice_bounds-put_trace-end c = omega (arith, times_more c.loop-left.left c.args.
 
 pub put_trace-count-requires : goal.put_trace-count-requires
 put_trace-count-requires c =
-    let s = c.before.before.before.before.before in
+    let s = c in
     let a = s.args in
     let r = a.«record».now in
     let l = c.loop-left in
@@ -56,7 +56,7 @@ put_trace-count-requires c =
 -- a trace's count with those before it is no more than there are samples, of which the record has as many pairs
 pub overflow_add-count : goal.overflow_add-count
 overflow_add-count c =
-    let s = c.before.before.before.before.before.before.before.before in
+    let s = c in
     let a = s.args in
     let r = a.«record».now in
     let l = c.loop-left in
@@ -75,7 +75,7 @@ next c =
 
 pub overflow_add-at : goal.overflow_add-at
 overflow_add-at c =
-    let s = c.before.before.before.before.before.before.before.before.before in
+    let s = c in
     let a = s.args in
     let r = a.«record».now in
     let l = c.loop-left in
@@ -83,7 +83,7 @@ overflow_add-at c =
 
 pub loop-left-preserved : goal.loop-left-preserved
 loop-left-preserved c =
-    let s = c.before.before.before.before.before.before.before.before.before in
+    let s = c in
     let a = s.args in
     let r = a.«record».now in
     let l = c.loop-left in
@@ -99,7 +99,7 @@ loop-left-preserved c =
     let same = ap (trace_changed_at a.near r a.code a.n) l.invariant.1 in
     let rest = ap (traces_changed_at a.near r a.code a.n (l.left - 1)) one in (
       omega (arith, l.invariant.0),
-      next c ∙ ap (trace_place r a.n) one,
+      next (goal.at.loop-left-preserved c).After-stride_at-at ∙ ap (trace_place r a.n) one,
       f.size ∙ sym l.invariant.4.size ∙ l.invariant.2,
       omega (arith, times_more l.left a.w some, l.invariant.3),
       again f (ap (traces_copied a.near r a.code a.n (l.left - 1)) one),

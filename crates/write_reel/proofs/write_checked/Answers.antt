@@ -16,7 +16,7 @@ owns c = let a = c.args in own a.«record».now (target_causes a.«record».now 
 
 pub put_checked-c-requires : goal.put_checked-c-requires
 put_checked-c-requires c =
-    let s = c.before.before.before in
+    let s = (goal.at.put_checked-c-requires c).Start in
     let a = s.args in
     let f = own_form a.«record».now a.code a.reel.now a.n a.t (owns s) in
     (f.0, own_judged a.«record».now a.n a.t f.1)
@@ -25,14 +25,14 @@ put_checked-c-requires c =
 ends : (c : After-put_checked-c) (r : Counted) → c.put_checked-c.result ≡ r
     → let a = c.args in without_count (counted_outcome r c.put_checked-c.new.1.1.1.1.1.0) ≡ write_outcome a.«record».now a.code a.reel.now
 ends c r told =
-    let b = c.before.before.before.before in
+    let b = (goal.at.After-put_checked-c c).Start in
     let a = b.args in
     let s = a.«record».now in
     ap (λ (x : Counted). without_count (counted_outcome x c.put_checked-c.new.1.1.1.1.1.0)) (sym told) ∙ ap without_count c.put_checked-c.ensures
     ∙ exact_end s a.code a.reel.now a.n a.t (all_bytes s (λ i. omega (arith, c.shared_slice_known-1.given i))) (owns b)
 
 pub returns-in-Taken : goal.returns-in-Taken
-returns-in-Taken c = ends c.before.before.before _ c.in-Taken.is
+returns-in-Taken c = ends (goal.at.returns-in-Taken c).After-put_checked-c _ c.in-Taken.is
 
 pub returns-in-Refused : goal.returns-in-Refused
-returns-in-Refused c = ends c.before.before.before _ c.in-Refused.is
+returns-in-Refused c = ends (goal.at.returns-in-Refused c).After-put_checked-c _ c.in-Refused.is

@@ -16,28 +16,28 @@ use Rattle.write_reel.proofs.write_nearest.Goals as goal
 abbrev causes : Start → Check
 causes b = then (refuse_if (not (is_code b.args.code)) 11 0) (form_causes b.args.«record».now)
 
-owns : (c : In-Fine-2) → let b = c.before.before.before.before in Own b.args.«record».now (causes b) c.in-Fine.samples c.in-Fine.traces
+owns : (c : In-Fine-2) → let b = (goal.at.In-Fine-2 c).Start in Own b.args.«record».now (causes b) c.in-Fine.samples c.in-Fine.traces
 owns c =
-    let b = c.before.before.before.before in
+    let b = (goal.at.In-Fine-2 c).Start in
     own b.args.«record».now (causes b) (sym c.judge_target_and_form-c.ensures ∙ c.in-Fine.is)
 
 pub put_checked-requires : goal.put_checked-requires
 put_checked-requires c =
-    let k = c.before.before in
+    let k = (goal.at.put_checked-requires c).In-Fine-2 in
     let a = k.args in
     let f = own_valid a.«record».now a.code a.reel.now _ _ (owns k) in
     (f.0, own_judged a.«record».now _ _ f.1)
 
 pub returns-in-Refused : goal.returns-in-Refused
 returns-in-Refused c =
-    let b = c.before.before.before.before in
+    let b = (goal.at.returns-in-Refused c).Start in
     let a = b.args in
     nearest_call_refused a.«record».now a.code a.reel.now _ _ (refused_is a.«record».now (causes b) (sym c.judge_target_and_form-c.ensures ∙ c.in-Refused.is))
 
 pub returns-in-Fine : goal.returns-in-Fine
 returns-in-Fine c =
-    let k = c.before.before.before.before.before in
-    let b = k.before.before.before.before in
+    let k = (goal.at.returns-in-Fine c).In-Fine-2 in
+    let b = (goal.at.returns-in-Fine c).Start in
     let a = b.args in
     let s = a.«record».now in
     c.put_checked.ensures

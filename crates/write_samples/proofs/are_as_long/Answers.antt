@@ -13,7 +13,7 @@ returns-then-not-are_there c =
 
 pub returns : goal.returns
 returns c =
-    let e = c.before.before in
+    let e = c in
     let a = e.args in
     c.make_up.ensures ∙ ap (λ (v : ℕ). eqb a.room (a.n * v)) c.width_of.ensures.0
     ∙ sym (ap (λ (b : Bool). b && eqb a.room (a.n * sample_bytes a.code)) (sym e.are_there.ensures ∙ e.if-not-are_there.false))

@@ -47,7 +47,7 @@ cause c =
 
 pub returns-in_default : goal.returns-in_default
 returns-in_default c =
-    let w = c.before.before.before.before in
+    let w = (goal.at.returns-in_default c).After-word_of-word in
     let a = w.args in
     let l = w.loop-left in
     let p = c.pair_of_bits-in_default in
@@ -77,7 +77,7 @@ loop-left-smaller c = omega (arith, c.loop-left-test.true)
 
 pub loop-left-preserved : goal.loop-left-preserved
 loop-left-preserved c =
-    let w = c.before.before.before in
+    let w = (goal.at.loop-left-preserved c).After-word_of-word in
     let a = w.args in
     let l = w.loop-left in
     let some = w.loop-left-test.true in (

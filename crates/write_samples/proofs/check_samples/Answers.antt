@@ -19,7 +19,7 @@ code_is c = sym c.is_code.ensures ∙ c.if-not-is_code.false
 
 pub returns-then-not-are_within : goal.returns-then-not-are_within
 unfolding samples_checked
-returns-then-not-are_within c = rw (code_is c.before.before, sym c.are_within.ensures ∙ c.if-not-are_within.true)
+returns-then-not-are_within c = rw (code_is (goal.at.returns-then-not-are_within c).Else-not-is_code, sym c.are_within.ensures ∙ c.if-not-are_within.true)
 
 room : (c : Else-not-are_within) → let a = c.args in a.start.0 + a.n * 6 ≤ length a.«record».now
 room c =
@@ -27,9 +27,9 @@ room c =
     leb-true (a.start.0 + a.n * 6) (length a.«record».now) (sym c.are_within.ensures ∙ c.if-not-are_within.false)
 
 pub check_pairs-requires : goal.check_pairs-requires
-check_pairs-requires c = (code_is c.before.before, room c)
+check_pairs-requires c = (code_is (goal.at.check_pairs-requires c).Else-not-is_code, room (goal.at.check_pairs-requires c).Else-not-are_within)
 
 pub returns : goal.returns
 returns c =
     let a = c.args in
-    c.check_pairs.ensures ∙ sym (samples_checked_lem a.«record».now a.code a.n a.start.0 (code_is c.before.before.before) (room c.before))
+    c.check_pairs.ensures ∙ sym (samples_checked_lem a.«record».now a.code a.n a.start.0 (code_is (goal.at.returns c).Else-not-is_code) (room (goal.at.returns c).Else-not-are_within))

@@ -18,24 +18,24 @@ size c = c.requires.2 ∙ sym (size_nearest c.args.«record».now c.args.code c.
 
 pub returns-then-n-lt1 : goal.returns-then-n-lt1
 returns-then-n-lt1 c =
-    let b = c.before.before.before in
+    let b = (goal.at.returns-then-n-lt1 c).Start in
     let a = b.args in
     let none : a.n ≤ 0 = omega (arith, c.if-n-lt1.true) in
     (sym (changed_none a.«record».now a.code a.n a.start none), finish (begin _ _ (size b)) (words_none a.«record».now a.code a.n a.start none))
 
 pub exponent_at-e-requires : goal.exponent_at-e-requires
 exponent_at-e-requires c =
-    let b = c.before.before.before.before in
+    let b = (goal.at.exponent_at-e-requires c).Start in
     omega (arith, times_more b.args.n 6 (omega (arith, c.if-n-lt1.false)), b.requires.1)
 
 pub mantissa_at-m-requires : goal.mantissa_at-m-requires
 mantissa_at-m-requires c =
-    let b = c.before.before.before.before.before in
+    let b = (goal.at.mantissa_at-m-requires c).Start in
     omega (arith, times_more b.args.n 6 (omega (arith, c.if-n-lt1.false)), b.requires.1)
 
 pub loop-left-init : goal.loop-left-init
 loop-left-init c =
-    let b = c.before.before.before.before.before.before in
+    let b = (goal.at.loop-left-init c).Start in
     let a = b.args in
     let some = c.if-n-lt1.false in
     let w = c.width_of-v in
@@ -84,13 +84,13 @@ pub put_nearest_word-requires : goal.put_nearest_word-requires
 put_nearest_word-requires c = (c.requires.0, c.put_nearest_word-arg-1.given.1 ∙ omega arith ∙ c.loop-left.invariant.1)
 
 pub overflow_cast-count : goal.overflow_cast-count
-overflow_cast-count c = record { fits = omega (arith, (word c.before.before).1) }
+overflow_cast-count c = record { fits = omega (arith, (word (goal.at.overflow_cast-count c).After-put_nearest_word).1) }
 
 pub overflow_add-count : goal.overflow_add-count
 overflow_add-count c =
     let l = c.loop-left in
-    let s = c.before.before.before.before.before.before.before.before.before.before.before.before.before in
-    record { fits = omega (arith, (word c.before.before).1, l.invariant.7, times_more l.left 6 (omega (arith, c.loop-left-test.true)), s.requires.1, s.well_formed.0) }
+    let s = (goal.at.overflow_add-count c).Start in
+    record { fits = omega (arith, (word (goal.at.overflow_add-count c).After-put_nearest_word).1, l.invariant.7, times_more l.left 6 (omega (arith, c.loop-left-test.true)), s.requires.1, s.well_formed.0) }
 
 pub overflow_add-at : goal.overflow_add-at
 overflow_add-at c =
@@ -116,9 +116,9 @@ loop-left-smaller c = omega (arith, c.loop-left-test.true)
 pub loop-left-preserved : goal.loop-left-preserved
 unfolding nearest_words
 loop-left-preserved c =
-    let w = c.before.before.before.before in
+    let w = (goal.at.loop-left-preserved c).After-put_nearest_word in
     let l = c.loop-left in
-    let b = c.before.before.before.before.before.before.before.before.before.before.before.before.before.before.before in
+    let b = (goal.at.loop-left-preserved c).Start in
     let s = b.args.«record».now in
     let k = b.args.code in
     let some = c.loop-left-test.true in
@@ -147,28 +147,28 @@ pub put_rounded-requires : goal.put_rounded-requires
 put_rounded-requires c = (c.requires.0, c.put_rounded-arg-1.given.1 ∙ omega arith ∙ c.loop-left.invariant.1)
 
 pub overflow_cast-result : goal.overflow_cast-result
-overflow_cast-result c = record { fits = omega (arith, (last c.before.before).1) }
+overflow_cast-result c = record { fits = omega (arith, (last (goal.at.overflow_cast-result c).After-put_rounded).1) }
 
 pub overflow_add-result : goal.overflow_add-result
 overflow_add-result c =
     let l = c.loop-left in
-    let s = c.before.before.before.before.before.before.before.before.before.before.before.before.before.before in
-    record { fits = omega (arith, (last c.before.before).1, l.invariant.7, s.requires.1, s.well_formed.0) }
+    let s = (goal.at.overflow_add-result c).Start in
+    record { fits = omega (arith, (last (goal.at.overflow_add-result c).After-put_rounded).1, l.invariant.7, s.requires.1, s.well_formed.0) }
 
 pub returns : goal.returns
 unfolding nearest_words
 returns c =
     let l = c.loop-left in
-    let b = c.before.before.before.before.before.before.before.before.before.before.before.before.before.before in
+    let b = (goal.at.returns c).Start in
     let s = b.args.«record».now in
     let k = b.args.code in
     let v = c.width_of-v.result in
     let none = c.loop-left-test.false in
-    let w = last c.before.before in
+    let w = last (goal.at.returns c).After-put_rounded in
     let more = changed_more s k l.left l.at in (
       omega (arith, l.invariant.8, more, w.0, changed_none s k l.left (l.at + 6) (omega (arith, none))),
       last_put (rounded_bytes k) (nearest_at s k) 6 (sample_bytes k) (λ p. size_rounded k (nearest_at s k p)) l.left l.at l.o (l.o + v) none (ap (λ (x : ℕ). l.o + x) l.invariant.1) l.invariant.6 w.2,
     )
 
 pub shape_of-out : goal.shape_of-out
-shape_of-out c = ap length (returns c).1 ∙ sym (size c.before.before.before.before.before.before.before.before.before.before.before.before.before.before)
+shape_of-out c = ap length (returns c).1 ∙ sym (size (goal.at.shape_of-out c).Start)

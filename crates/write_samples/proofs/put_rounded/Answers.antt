@@ -7,8 +7,8 @@ use Rattle.write_samples.proofs.put_rounded.Goals as goal
 
 pub returns : goal.returns
 returns c =
-    let e = c.before.before.before.before in
-    let s = e.before.before.before in
+    let e = c in
+    let s = c in
     let w = e.width_of in
     let v : sample_bytes s.args.code ≡ 4 = omega (arith, w.ensures.0, w.ensures.2, e.if-width_of-lt4.false) in
     (refl, bits_stored s.args.code s.args.word.bits s.args.out.now v (s.requires.1 ∙ v) c.put32.ensures)

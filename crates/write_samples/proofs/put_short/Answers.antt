@@ -25,25 +25,25 @@ byte s t =
     (e, s.requires.2 ∙ ap sample_bytes (sym e))
 
 pub bounds-out-0 : goal.bounds-out-0
-bounds-out-0 c = omega (arith, (half c.before.before.before c.if-code-lt4.true).1)
+bounds-out-0 c = omega (arith, (half (goal.at.bounds-out-0 c).Start c.if-code-lt4.true).1)
 
 pub bounds-out-1 : goal.bounds-out-1
 bounds-out-1 c =
-    let s = c.before.before.before in
+    let s = (goal.at.bounds-out-1 c).Start in
     lt-length-sets s.args.out.now 0 (get_or c.bytes32-b.result 2 0 ∷ []) (omega (arith, (half s c.if-code-lt4.true).1))
 
 pub returns-then-code-lt4 : goal.returns-then-code-lt4
 returns-then-code-lt4 c =
-    let s = c.before.before.before in
+    let s = (goal.at.returns-then-code-lt4 c).Start in
     let h = half s c.if-code-lt4.true in
     rw c.bytes32-b.ensures (stored (bytes_of 2 s.args.bits) s.args.out.now h.1) ∙ ap (λ (k : ℕ). bytes_of (sample_bytes k) s.args.bits) h.0
 
 pub bounds-out-0-2 : goal.bounds-out-0-2
-bounds-out-0-2 c = omega (arith, (byte c.before.before.before c.if-code-lt4.false).1)
+bounds-out-0-2 c = omega (arith, (byte (goal.at.bounds-out-0-2 c).Start c.if-code-lt4.false).1)
 
 pub returns : goal.returns
 returns c =
-    let s = c.before.before.before in
+    let s = (goal.at.returns c).Start in
     let h = byte s c.if-code-lt4.false in
     rw c.bytes32-b.ensures (stored (bytes_of 1 s.args.bits) s.args.out.now h.1) ∙ ap (λ (k : ℕ). bytes_of (sample_bytes k) s.args.bits) h.0
 

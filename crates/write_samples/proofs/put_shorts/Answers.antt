@@ -17,22 +17,22 @@ size c = c.requires.3 ∙ sym (size_samples c.args.«record».now c.args.code c.
 
 pub returns-then-n-lt1 : goal.returns-then-n-lt1
 returns-then-n-lt1 c =
-    let b = c.before.before.before in
+    let b = (goal.at.returns-then-n-lt1 c).Start in
     finish (begin _ _ (size b)) (samples_none b.args.«record».now b.args.code b.args.n b.args.start (omega (arith, c.if-n-lt1.true)))
 
 pub exponent_at-e-requires : goal.exponent_at-e-requires
 exponent_at-e-requires c =
-    let b = c.before.before.before.before in
+    let b = (goal.at.exponent_at-e-requires c).Start in
     omega (arith, times_more b.args.n 6 (omega (arith, c.if-n-lt1.false)), b.requires.2)
 
 pub mantissa_at-m-requires : goal.mantissa_at-m-requires
 mantissa_at-m-requires c =
-    let b = c.before.before.before.before.before in
+    let b = (goal.at.mantissa_at-m-requires c).Start in
     omega (arith, times_more b.args.n 6 (omega (arith, c.if-n-lt1.false)), b.requires.2)
 
 pub loop-left-init : goal.loop-left-init
 loop-left-init c =
-    let b = c.before.before.before.before.before.before in
+    let b = (goal.at.loop-left-init c).Start in
     let a = b.args in
     let some = c.if-n-lt1.false in
     let w = c.width_of-v in
@@ -87,7 +87,7 @@ pub loop-left-preserved : goal.loop-left-preserved
 unfolding sample_words
 loop-left-preserved c =
     let l = c.loop-left in
-    let b = c.before.before.before.before.before.before.before.before.before.before.before.before.before.before.before.before in
+    let b = (goal.at.loop-left-preserved c).Start in
     let s = b.args.«record».now in
     let k = b.args.code in
     let some = c.loop-left-test.true in
@@ -120,7 +120,7 @@ pub returns : goal.returns
 unfolding sample_words
 returns c =
     let l = c.loop-left in
-    let b = c.before.before.before.before.before.before.before.before.before.before.before.before.before.before in
+    let b = (goal.at.returns c).Start in
     let s = b.args.«record».now in
     let k = b.args.code in
     let p = c.pair_of_bits-2 in
@@ -131,5 +131,5 @@ returns c =
 
 pub shape_of-out : goal.shape_of-out
 shape_of-out c =
-    let b = c.before.before.before.before.before.before.before.before.before.before.before.before.before.before in
+    let b = (goal.at.shape_of-out c).Start in
     ap length (returns c) ∙ sym (size b)

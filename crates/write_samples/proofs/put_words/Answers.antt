@@ -17,7 +17,7 @@ size c = c.requires.3 ∙ ap (λ (v : ℕ). c.args.n * v) (sym c.requires.1) ∙
 
 pub returns-then-n-lt1 : goal.returns-then-n-lt1
 returns-then-n-lt1 c =
-    let b = c.before.before.before in
+    let b = (goal.at.returns-then-n-lt1 c).Start in
     finish (begin _ _ (size b)) (samples_none b.args.«record».now b.args.code b.args.n b.args.start (omega (arith, c.if-n-lt1.true)))
 
 pub exponent_at-e-requires : goal.exponent_at-e-requires
@@ -28,7 +28,7 @@ mantissa_at-m-requires c = omega (arith, times_more c.args.n 6 (omega (arith, c.
 
 pub loop-left-init : goal.loop-left-init
 loop-left-init c =
-    let b = c.before.before.before.before.before in
+    let b = (goal.at.loop-left-init c).Start in
     let a = b.args in
     let some = c.if-n-lt1.false in
     let e : a.n ≡ a.n - 1 + 1 = omega (arith, some) in (
@@ -76,7 +76,7 @@ pub loop-left-preserved : goal.loop-left-preserved
 unfolding sample_words
 loop-left-preserved c =
     let l = c.loop-left in
-    let b = c.before.before.before.before.before.before.before.before.before.before.before.before.before.before in
+    let b = (goal.at.loop-left-preserved c).Start in
     let s = b.args.«record».now in
     let some = c.loop-left-test.true in
     let p = c.pair_of_bits in
@@ -101,7 +101,7 @@ pub returns : goal.returns
 unfolding sample_words
 returns c =
     let l = c.loop-left in
-    let b = c.before.before.before.before.before.before.before.before.before.before.before.before.before in
+    let b = (goal.at.returns c).Start in
     let s = b.args.«record».now in
     let k = b.args.code in
     let p = c.pair_of_bits-2 in
@@ -112,5 +112,5 @@ returns c =
 
 pub shape_of-out : goal.shape_of-out
 shape_of-out c =
-    let b = c.before.before.before.before.before.before.before.before.before.before.before.before.before in
+    let b = (goal.at.shape_of-out c).Start in
     ap length (returns c) ∙ sym (size b)

@@ -19,11 +19,11 @@ long c = sym c.are_as_long.ensures ∙ c.if-not-are_as_long.false
 pub put_nearest-requires : goal.put_nearest-requires
 put_nearest-requires c =
     let a = c.args in
-    they_are_as_long a.«record».now a.code a.n a.start.0 a.out.now (long c.before)
+    they_are_as_long a.«record».now a.code a.n a.start.0 a.out.now (long (goal.at.put_nearest-requires c).Else-not-are_as_long)
 
 pub returns : goal.returns
 returns c =
-    let d = c.before.before.before.before in
+    let d = (goal.at.returns c).Else-not-are_as_long in
     let a = d.args in
     let e = nearest_put a.«record».now a.code a.n a.start.0 a.out.now (long d) in
     (c.put_nearest.ensures.0 ∙ sym e.0, c.put_nearest.ensures.1 ∙ sym e.1)

@@ -18,10 +18,10 @@ long c = sym c.are_as_long.ensures ∙ c.if-not-are_as_long.false
 pub put_samples-requires : goal.put_samples-requires
 put_samples-requires c =
     let a = c.args in
-    they_are_as_long a.«record».now a.code a.n a.start.0 a.out.now (long c.before)
+    they_are_as_long a.«record».now a.code a.n a.start.0 a.out.now (long (goal.at.put_samples-requires c).Else-not-are_as_long)
 
 pub returns : goal.returns
 returns c =
-    let d = c.before.before.before.before in
+    let d = (goal.at.returns c).Else-not-are_as_long in
     let a = d.args in
     c.put_samples.ensures ∙ sym (samples_put a.«record».now a.code a.n a.start.0 a.out.now (long d))

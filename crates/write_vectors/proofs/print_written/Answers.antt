@@ -5,5 +5,5 @@ use Rattle.write_vectors.proofs.print_written.Goals as goal
 
 pub slice_bounds-print_again-end : goal.slice_bounds-print_again-end
 slice_bounds-print_again-end c =
-    let s = c.before.before.before.before.before.before in
+    let s = c in
     sym (length-take-le s.args.length s.args.out.now c.if-out-length.false)

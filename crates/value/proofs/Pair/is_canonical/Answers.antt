@@ -34,7 +34,7 @@ known c =
 
 pub returns-then-bits-eq1 : goal.returns-then-bits-eq1
 returns-then-bits-eq1 c =
-    let b = c.before.before.before in
+    let b = (goal.at.returns-then-bits-eq1 c).After-bits32-bits in
     let k = known b in
     let p = b.args.self in
     let o : nat_abs p.m % 2 ≡ 1 = sym (bits_odd p.m k.fm) ∙ sym (ap (λ (x : ℕ). x % 2) k.bits) ∙ c.if-bits-eq1.true in
@@ -43,21 +43,21 @@ returns-then-bits-eq1 c =
 -- an even mantissa
 even : (c : Else-bits-eq1) → let p = c.args.self in nat_abs p.m % 2 ≡ 0
 even c =
-    let k = known c.before in
+    let k = known (goal.at.Else-bits-eq1 c).After-bits32-bits in
     let p = c.args.self in
     sym (bits_odd p.m k.fm) ∙ sym (ap (λ (x : ℕ). x % 2) k.bits) ∙ (let z : c.bits32-bits.result % 2 ≡ 0 = omega (arith, c.if-bits-eq1.false) in z)
 
 pub returns-then-bits-ne0 : goal.returns-then-bits-ne0
 returns-then-bits-ne0 c =
-    let b = c.before.before in
+    let b = (goal.at.returns-then-bits-ne0 c).After-bits32-bits in
     let k = known b in
     let p = b.args.self in
-    sym (even_no p (λ h. c.if-bits-ne0.true (k.bits ∙ none_bits p.m k.fm h)) (even c.before))
+    sym (even_no p (λ h. c.if-bits-ne0.true (k.bits ∙ none_bits p.m k.fm h)) (even (goal.at.returns-then-bits-ne0 c).Else-bits-eq1))
 
 pub returns : goal.returns
 returns c =
-    let f = c.before.before in
-    let b = f.before.before in
+    let f = c in
+    let b = (goal.at.returns c).After-bits32-bits in
     let k = known b in
     let p = b.args.self in
     let m : nat_abs p.m ≡ 0 = bits_none p.m k.fm (sym k.bits ∙ f.if-bits-ne0.false) in

@@ -45,11 +45,11 @@ odd c = omega (arith, c.if-o-eq0-2.false)
 
 -- what the test of the exponent says
 tested : (c : After-is_exponent) → is_exponent c.args.self.e ≡ c.is_exponent.result
-tested c = sym (c.is_exponent.ensures ∙ ap is_exponent (to_z-of_z (known c.before.before.before.before).se))
+tested c = sym (c.is_exponent.ensures ∙ ap is_exponent (to_z-of_z (known (goal.at.After-is_exponent c).After-magnitude32-o).se))
 
 pub returns-then-bits16-eq0 : goal.returns-then-bits16-eq0
 returns-then-bits16-eq0 c =
-    let k = known c.before.before.before.before in
+    let k = known (goal.at.returns-then-bits16-eq0 c).After-magnitude32-o in
     let p = c.args.self in
     let m : nat_abs p.m ≡ 0 = sym k.abs ∙ c.if-o-eq0.true in
     let e : nat_abs p.e ≡ 0 = zero_bits p.e k.fe (sym (c.bits16.ensures ∙ ap (bits_of 16) (to_z-of_z k.se)) ∙ c.if-bits16-eq0.true) in
@@ -57,14 +57,14 @@ returns-then-bits16-eq0 c =
 
 pub returns-then-o-eq0 : goal.returns-then-o-eq0
 returns-then-o-eq0 c =
-    let k = known c.before.before.before.before in
+    let k = known (goal.at.returns-then-o-eq0 c).After-magnitude32-o in
     let p = c.args.self in
     let m : nat_abs p.m ≡ 0 = sym k.abs ∙ c.if-o-eq0.true in
     zero_no p m (λ h. c.if-bits16-eq0.false (c.bits16.ensures ∙ ap (bits_of 16) (to_z-of_z k.se) ∙ bits_zero p.e h))
 
 pub returns-then-o-eq0-2 : goal.returns-then-o-eq0-2
 returns-then-o-eq0-2 c =
-    let k = known c.before.before in
+    let k = known (goal.at.returns-then-o-eq0-2 c).After-magnitude32-o in
     let p = c.args.self in
     even_no p (λ h. c.if-o-eq0.false (k.abs ∙ h)) (sym (ap (λ (x : ℕ). x % 2) k.abs) ∙ c.if-o-eq0-2.true)
 
@@ -73,15 +73,15 @@ shift-requires c = sym c.is_exponent.ensures ∙ c.if-is_exponent.true
 
 pub returns-then-is_exponent : goal.returns-then-is_exponent
 returns-then-is_exponent c =
-    let k = known c.before.before.before.before.before.before.before in
+    let k = known (goal.at.returns-then-is_exponent c).After-magnitude32-o in
     let p = c.args.self in
     let s = c.shift.ensures in
     rw k.abs
-    (apart p _ _ k.fm k.bits (tested c.before.before.before ∙ c.if-is_exponent.true) (s.0 ∙ ap (λ (z : ℤ). nat_abs (z +ℤ pos denominator_power)) (to_z-of_z k.se)) s.1
-    (rw k.abs at (odd c.before.before.before.before.before)) (rw k.abs at k.most))
+    (apart p _ _ k.fm k.bits (tested (goal.at.returns-then-is_exponent c).After-is_exponent ∙ c.if-is_exponent.true) (s.0 ∙ ap (λ (z : ℤ). nat_abs (z +ℤ pos denominator_power)) (to_z-of_z k.se)) s.1
+    (rw k.abs at (odd (goal.at.returns-then-is_exponent c).Else-o-eq0-2)) (rw k.abs at k.most))
 
 pub returns : goal.returns
 returns c =
-    let k = known c.before.before.before.before.before in
+    let k = known (goal.at.returns c).After-magnitude32-o in
     let p = c.args.self in
-    high_no p (λ h. c.if-o-eq0.false (k.abs ∙ h)) (tested c.before ∙ c.if-is_exponent.false)
+    high_no p (λ h. c.if-o-eq0.false (k.abs ∙ h)) (tested (goal.at.returns c).After-is_exponent ∙ c.if-is_exponent.false)
