@@ -111,6 +111,18 @@ def turn(crate, path, names, said):
             place = entry["places"][indices[place]][1]
         return place
 
+    # A place inside an arm is today the place of the arm.
+    promoted = {}
+    for i, p in enumerate(entry["places"]):
+        if arms[i] and arms[i][1] > 1:
+            q = p[0]
+            for _ in range(arms[i][1] - 1):
+                q = entry["places"][indices[q]][1]
+                if q is not None:
+                    promoted.setdefault(q, p[0])
+    dashed = {n: promoted.get(q, q) for n, q in dashed.items()}
+    places = {n: entry["places_by_name"][indices[q]] for n, q in dashed.items()}
+
     def steps_of(way):
         """The steps on the way to a place, by their old names, and what their fields are called; then those of all places."""
         steps, fields = {}, {}
@@ -180,6 +192,8 @@ def turn(crate, path, names, said):
         """The place k steps before a known one: by its name where a lemma is stated at it, else as what comes after it."""
         root, label, place = known
         q = above(place, k)
+        if promoted.get(q) in stated:
+            q = promoted[q]
         return f"(goal.at.{label} {root}).{today[q]}" if q in stated and label else root
 
     def path_in(var, known, tail):
@@ -216,11 +230,18 @@ def turn(crate, path, names, said):
 
     def paths_in(t, env):
         out, at = [], 0
-        for m in re.finditer(r"(?<![\w'.-])let ([\w'-]+) = ([\w'-]+)((?:\.before)*) in\b|(?<![\w'.-])([a-zA-Z][\w'-]*|\))((?:\.[\w'«»-]+)+)|(?<![\w'.λ-])(?<!λ )([a-z])(?![\w'.-])", t):
+        for m in re.finditer(r"(?<![\w'.-])let ([\w'-]+) = ([\w'-]+)((?:\.before)*|(?: [\w'.-]+)+) in\b|(?<![\w'.-])([a-zA-Z][\w'-]*|\))((?:\.[\w'«»-]+)+)|(?<![\w'.λ-])(?<!λ )([a-z])(?![\w'.-])", t):
             out.append(t[at : m.start()])
             at = m.end()
             if m.group(1):
                 known = env.get(m.group(2))
+                if m.group(3).startswith(" "):
+                    # a place that a lemma gives
+                    env.pop(m.group(1), None)
+                    if m.group(2) in constants:
+                        env[m.group(1)] = (m.group(1), None, constants[m.group(2)][2])
+                    out.append(f"let {m.group(1)} = {m.group(2)}" + paths_in(m.group(3), env) + " in")
+                    continue
                 if known is not None:
                     k = len(m.group(3)) // 7
                     env[m.group(1)] = (known[0], known[1], above(known[2], k))
@@ -237,7 +258,16 @@ def turn(crate, path, names, said):
             else:
                 var = m.group(4)
                 if var == ")":
-                    out.append(")" + path_in("", None, m.group(5)))
+                    depth, i = 0, m.start()
+                    while i >= 0:
+                        depth += (t[i] == ")") - (t[i] == "(")
+                        if depth == 0:
+                            break
+                        i -= 1
+                    head = re.match(r"\(([\w'-]+)", t[i:]) if i >= 0 else None
+                    known = constants.get(head.group(1)) if head else None
+                    tail = path_in("", ("", None, known[2]) if known else None, m.group(5))
+                    out.append(")" + tail)
                 else:
                     out.append(path_in(var, env.get(var), m.group(5)))
         out.append(t[at:])
@@ -261,6 +291,7 @@ def turn(crate, path, names, said):
         t = places_in(paths_in(t, env))
         t = re.sub(r"not-true (?:[\w'.-]+|_) ([\w'.-]+\.true)(?![\w'.-])", r"\1", t)
         t = re.sub(r"not-false (?:[\w'.-]+|_) ([\w'.-]+\.false)(?![\w'.-])", r"\1", t)
+        t = re.sub(r"\.pre(?![\w'-])", ".requires", t)
         t = re.sub(r"(-arg(?:-\d+)+\.given)\.2", r"\1.1", t)
         for_names = {o: n for o, n in named.items() if n and o != n}
         if for_names:

@@ -6,7 +6,7 @@ use Rattle.formats.specs.Codes.{is_code}
 use Rattle.formats.specs.Words.{word_bits}
 use mathlib.Core.Bool.{true}
 use mathlib.Core.Path.{◌≡◌, sym, ap, subst, ◌∙◌}
-use Rattle.value.proofs.bits.Goals.{Else-not-is_code, In-Odd-2}
+use Rattle.value.proofs.bits.Goals.{Else-not-is_code, In-Odd}
 use Rattle.value.proofs.bits.Goals as goal
 
 -- the code is one of the codes
@@ -14,14 +14,14 @@ known : (c : Else-not-is_code) → is_code c.args.code ≡ true
 known c = sym c.is_code.ensures ∙ c.if-not-is_code.false
 
 -- the pair taken apart
-apart : (c : In-Odd-2) → PartsOf c.args.p (Odd c.in-Odd.neg c.in-Odd.o c.in-Odd.k)
+apart : (c : In-Odd) → PartsOf c.args.p (Odd c.in-Odd.neg c.in-Odd.o c.in-Odd.k)
 apart c = subst (PartsOf c.args.p) c.in-Odd.is c.parts.ensures
 
 pub returns-then-not-is_code : goal.returns-then-not-is_code
 returns-then-not-is_code c = rw (sym c.is_code.ensures ∙ c.if-not-is_code.true)
 
 pub bits_at-requires : goal.bits_at-requires
-bits_at-requires c = let a = (apart (goal.at.bits_at-requires c).In-Odd-2).1 in (known (goal.at.bits_at-requires c).Else-not-is_code, a.odd, a.low, a.few)
+bits_at-requires c = let a = (apart (goal.at.bits_at-requires c).In-Odd).1 in (known (goal.at.bits_at-requires c).Else-not-is_code, a.odd, a.low, a.few)
 
 pub returns-in-NotCanonical : goal.returns-in-NotCanonical
 returns-in-NotCanonical c =
@@ -39,4 +39,4 @@ pub returns-in-Odd : goal.returns-in-Odd
 returns-in-Odd c =
     let e = (goal.at.returns-in-Odd c).Else-not-is_code in
     let a = e.args in
-    c.bits_at.ensures ∙ ap word_bits (sym (odd_pair a.code a.p (known e) _ _ _ (apart (goal.at.returns-in-Odd c).In-Odd-2)))
+    c.bits_at.ensures ∙ ap word_bits (sym (odd_pair a.code a.p (known e) _ _ _ (apart (goal.at.returns-in-Odd c).In-Odd)))

@@ -11,28 +11,28 @@ use Prim.Native.Nat.{ℕ, ◌*◌, ◌^◌}
 use mathlib.Core.Bool.{Bool}
 use mathlib.Core.Path.{◌≡◌, sym, ap, ◌∙◌}
 use lib.IntN.{ℤ}
-use Rattle.value.proofs.float_of.Goals.{In-At-2, Start}
+use Rattle.value.proofs.float_of.Goals.{In-At, Start}
 use Rattle.value.proofs.float_of.Goals as goal
 
 abbrev value : Start → ℤ
 value s = sign_magnitude s.args.neg (s.args.o * 2 ^ s.args.k)
 
 -- the value's place
-at : (c : In-At-2) → placed c.args.x (value (goal.at.In-At-2 c).Start) ≡ At c.in-At.c c.in-At.f
+at : (c : In-At) → placed c.args.x (value c) ≡ At c.in-At.c c.in-At.f
 at c = sym c.place.ensures ∙ c.in-At.is
 
 pub packed-requires : goal.packed-requires
 packed-requires c =
     let s = (goal.at.packed-requires c).Start in
     let a = s.args in
-    (s.requires.0.low, room_for a.x 32 a.y (value s) _ _ s.requires.0 (placed_is a.x (value s) _ _ (at (goal.at.packed-requires c).In-At-2)))
+    (s.requires.0.low, room_for a.x 32 a.y (value s) _ _ s.requires.0 (placed_is a.x (value s) _ _ (at (goal.at.packed-requires c).In-At)))
 
 pub returns-in-At : goal.returns-in-At
 returns-in-At c =
     let s = (goal.at.returns-in-At c).Start in
     let a = s.args in
     let g = c.c-1.given.0 in
-    sym (ap (float_of 32 a.y (is_negative (value s))) (at (goal.at.returns-in-At c).In-At-2) ∙ ap (λ (b : Bool). Word (float_bits 32 a.y b g.0 g.1.0)) (odd_sign a.neg a.o a.k s.requires.1) ∙ ap (λ (n : ℕ). Word n) (sym c.packed.ensures))
+    sym (ap (float_of 32 a.y (is_negative (value s))) (at (goal.at.returns-in-At c).In-At) ∙ ap (λ (b : Bool). Word (float_bits 32 a.y b g.0 g.1.0)) (odd_sign a.neg a.o a.k s.requires.1) ∙ ap (λ (n : ℕ). Word n) (sym c.packed.ensures))
 
 pub returns-in-Nowhere : goal.returns-in-Nowhere
 returns-in-Nowhere c =

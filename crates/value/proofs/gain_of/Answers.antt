@@ -42,12 +42,12 @@ pub shifted_up-requires : goal.shifted_up-requires
 shifted_up-requires c =
     let a = (start (goal.at.shifted_up-requires c).After-length_of).args in
     let f = fraction_fits _ 15 a.neg (omega arith) (few (goal.at.shifted_up-requires c).Else-c-length_of) in
-    (shift_fits a.o _ (odd_pos a.o (start (goal.at.shifted_up-requires c).After-length_of).pre.0) f, f)
+    (shift_fits a.o _ (odd_pos a.o (start (goal.at.shifted_up-requires c).After-length_of).requires.0) f, f)
 
 pub complement-d-requires : goal.complement-d-requires
 complement-d-requires c =
     let s = start (goal.at.complement-d-requires c).After-length_of in
-    (omega arith, omega arith, rw c.shifted_up.ensures (odd_shl s.args.o _ s.pre.0), rw c.shifted_up.ensures (few (goal.at.complement-d-requires c).Else-c-length_of))
+    (omega arith, omega arith, rw c.shifted_up.ensures (odd_shl s.args.o _ s.requires.0), rw c.shifted_up.ensures (few (goal.at.complement-d-requires c).Else-c-length_of))
 
 pub returns : goal.returns
 returns c =

@@ -74,7 +74,7 @@ returns-then-c-end c =
     let r = (goal.at.returns-then-c-end c).After-rounded_whole-f in
     let l = found r in
     let a = (given r).args in
-    near_last a.x (rounds l) a.neg a.o a.k (given r).requires.2 (bits l) (length l) l.lowest.result (low l) (above r) r.rounded_whole-f.result (rounded r) c.if-c-end.true _
+    near_last a.x (rounds l) a.neg a.o a.k (given r).requires.2 (bits l) (length l) l.lowest-c.result (low l) (above r) r.rounded_whole-f.result (rounded r) c.if-c-end.true _
     (c.lesser-f.ensures ∙ ap (min r.rounded_whole-f.result) c.most-then-c-end.ensures)
 
 pub returns-then-f-two_to : goal.returns-then-f-two_to
@@ -83,7 +83,7 @@ returns-then-f-two_to c =
     let r = (goal.at.returns-then-f-two_to c).After-rounded_whole-f in
     let l = found r in
     let a = (given r).args in
-    near_next a.x (rounds l) a.neg a.o a.k (given r).requires.2 (bits l) (length l) l.lowest.result (low l) (above r) r.rounded_whole-f.result (rounded r) (omega (arith, t.if-c-end.false, r.if-end-c.false))
+    near_next a.x (rounds l) a.neg a.o a.k (given r).requires.2 (bits l) (length l) l.lowest-c.result (low l) (above r) r.rounded_whole-f.result (rounded r) (omega (arith, t.if-c-end.false, r.if-end-c.false))
     (c.if-f-two_to.true ∙ t.two_to.ensures.0) _ c.two_to-f.ensures.0
 
 pub returns : goal.returns
@@ -92,5 +92,5 @@ returns c =
     let r = (goal.at.returns c).After-rounded_whole-f in
     let l = found r in
     let a = (given r).args in
-    near_inner a.x (rounds l) a.neg a.o a.k (given r).requires.2 (bits l) (length l) l.lowest.result (low l) (above r) r.rounded_whole-f.result (rounded r) (omega (arith, t.if-c-end.false, r.if-end-c.false))
+    near_inner a.x (rounds l) a.neg a.o a.k (given r).requires.2 (bits l) (length l) l.lowest-c.result (low l) (above r) r.rounded_whole-f.result (rounded r) (omega (arith, t.if-c-end.false, r.if-end-c.false))
     (λ e. c.if-f-two_to.false (e ∙ sym t.two_to.ensures.0))

@@ -5,7 +5,7 @@ use Rattle.value.specs.Parts.{PartsOf}
 use Rattle.formats.specs.Codes.{is_code}
 use mathlib.Core.Bool.{true}
 use mathlib.Core.Path.{◌≡◌, sym, subst, ◌∙◌}
-use Rattle.value.proofs.nearest.Goals.{Else-not-is_code, In-Odd-2}
+use Rattle.value.proofs.nearest.Goals.{Else-not-is_code, In-Odd}
 use Rattle.value.proofs.nearest.Goals as goal
 
 -- the code is one of the codes
@@ -13,7 +13,7 @@ known : (c : Else-not-is_code) → is_code c.args.code ≡ true
 known c = sym c.is_code.ensures ∙ c.if-not-is_code.false
 
 -- the pair taken apart
-apart : (c : In-Odd-2) → PartsOf c.args.p (Odd c.in-Odd.neg c.in-Odd.o c.in-Odd.k)
+apart : (c : In-Odd) → PartsOf c.args.p (Odd c.in-Odd.neg c.in-Odd.o c.in-Odd.k)
 apart c = subst (PartsOf c.args.p) c.in-Odd.is c.parts.ensures
 
 pub returns-then-not-is_code : goal.returns-then-not-is_code
@@ -22,7 +22,7 @@ returns-then-not-is_code c =
     sym (near_no_code a.code a.p (sym c.is_code.ensures ∙ c.if-not-is_code.true))
 
 pub nearest_at-requires : goal.nearest_at-requires
-nearest_at-requires c = let a = (apart (goal.at.nearest_at-requires c).In-Odd-2).1 in (known (goal.at.nearest_at-requires c).Else-not-is_code, a.odd, a.low, a.few)
+nearest_at-requires c = let a = (apart (goal.at.nearest_at-requires c).In-Odd).1 in (known (goal.at.nearest_at-requires c).Else-not-is_code, a.odd, a.low, a.few)
 
 pub returns-in-NotCanonical : goal.returns-in-NotCanonical
 returns-in-NotCanonical c =
@@ -40,4 +40,4 @@ pub returns-in-Odd : goal.returns-in-Odd
 returns-in-Odd c =
     let e = (goal.at.returns-in-Odd c).Else-not-is_code in
     let a = e.args in
-    c.nearest_at.ensures ∙ sym (near_odd a.code a.p (known e) _ _ _ (apart (goal.at.returns-in-Odd c).In-Odd-2))
+    c.nearest_at.ensures ∙ sym (near_odd a.code a.p (known e) _ _ _ (apart (goal.at.returns-in-Odd c).In-Odd))

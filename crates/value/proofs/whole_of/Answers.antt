@@ -17,16 +17,16 @@ use Prim.Native.Nat.{ℕ, ◌+◌, ◌-◌, ◌*◌, ◌^◌, ◌<◌}
 use mathlib.Core.Bool.{Bool}
 use mathlib.Core.Path.{◌≡◌, sym, ap, subst, ◌∙◌}
 use lib.IntN.{ℤ}
-use Rattle.value.proofs.whole_of.Goals.{In-At-2, Start}
+use Rattle.value.proofs.whole_of.Goals.{In-At, Start}
 use Rattle.value.proofs.whole_of.Goals as goal
 
 abbrev value : Start → ℤ
 value s = sign_magnitude s.args.neg (s.args.o * 2 ^ s.args.k)
 
 -- the value's place
-at : (c : In-At-2) → placed (whole_format c.args.w) (value (goal.at.In-At-2 c).Start) ≡ At c.in-At.c c.in-At.f
+at : (c : In-At) → placed (whole_format c.args.w) (value c) ≡ At c.in-At.c c.in-At.f
 at c =
-    let s = (goal.at.In-At-2 c).Start in
+    let s = c in
     ap (λ (x : Format). placed x (value s)) (sym s.requires.0) ∙ sym c.place.ensures ∙ c.in-At.is
 
 pub place-requires : goal.place-requires
@@ -38,7 +38,7 @@ pub complement-requires : goal.complement-requires
 complement-requires c =
     let s = (goal.at.complement-requires c).Start in
     let a = s.args in
-    let p = placed_is (whole_format a.w) (value s) _ _ (at (goal.at.complement-requires c).In-At-2) in
+    let p = placed_is (whole_format a.w) (value s) _ _ (at (goal.at.complement-requires c).In-At) in
     (s.requires.1, s.requires.2, fraction_some (whole_format a.w) a.neg a.o a.k _ _ s.requires.3 p, subst (λ (b : Bool). c.in-At.f < 2 ^ (a.w - 1) + pick b 1 0) (odd_sign a.neg a.o a.k s.requires.3) p.fits)
 
 pub returns-then-k-lt-DENOMINATOR_POWER : goal.returns-then-k-lt-DENOMINATOR_POWER
@@ -51,7 +51,7 @@ pub returns-in-At : goal.returns-in-At
 returns-in-At c =
     let s = (goal.at.returns-in-At c).Start in
     let a = s.args in
-    sym (ap (whole_of a.w (is_negative (value s))) (at (goal.at.returns-in-At c).In-At-2) ∙ ap (λ (b : Bool). Word (bits_of a.w (sign_magnitude b c.in-At.f))) (odd_sign a.neg a.o a.k s.requires.3) ∙ ap (λ (n : ℕ). Word n) (sym c.complement.ensures.0))
+    sym (ap (whole_of a.w (is_negative (value s))) (at (goal.at.returns-in-At c).In-At) ∙ ap (λ (b : Bool). Word (bits_of a.w (sign_magnitude b c.in-At.f))) (odd_sign a.neg a.o a.k s.requires.3) ∙ ap (λ (n : ℕ). Word n) (sym c.complement.ensures.0))
 
 pub returns-in-Nowhere : goal.returns-in-Nowhere
 returns-in-Nowhere c =

@@ -9,21 +9,21 @@ use Rattle.numbers.proofs.ByteLaws.{all_bytes}
 use mathlib.Core.Bool.{not}
 use mathlib.Core.Path.{sym, ◌∙◌}
 use native.Mathlib.Omega.{arith}
-use Rattle.write_reel.proofs.write_nearest.Goals.{In-Fine-2, Start}
+use Rattle.write_reel.proofs.write_nearest.Goals.{In-Fine, Start}
 use Rattle.write_reel.proofs.write_nearest.Goals as goal
 
 -- 11, 12 and 13
 abbrev causes : Start → Check
 causes b = then (refuse_if (not (is_code b.args.code)) 11 0) (form_causes b.args.«record».now)
 
-owns : (c : In-Fine-2) → let b = (goal.at.In-Fine-2 c).Start in Own b.args.«record».now (causes b) c.in-Fine.samples c.in-Fine.traces
+owns : (c : In-Fine) → let b = c in Own b.args.«record».now (causes b) c.in-Fine.samples c.in-Fine.traces
 owns c =
-    let b = (goal.at.In-Fine-2 c).Start in
+    let b = c in
     own b.args.«record».now (causes b) (sym c.judge_target_and_form-c.ensures ∙ c.in-Fine.is)
 
 pub put_checked-requires : goal.put_checked-requires
 put_checked-requires c =
-    let k = (goal.at.put_checked-requires c).In-Fine-2 in
+    let k = (goal.at.put_checked-requires c).In-Fine in
     let a = k.args in
     let f = own_valid a.«record».now a.code a.reel.now _ _ (owns k) in
     (f.0, own_judged a.«record».now _ _ f.1)
@@ -36,7 +36,7 @@ returns-in-Refused c =
 
 pub returns-in-Fine : goal.returns-in-Fine
 returns-in-Fine c =
-    let k = (goal.at.returns-in-Fine c).In-Fine-2 in
+    let k = (goal.at.returns-in-Fine c).In-Fine in
     let b = (goal.at.returns-in-Fine c).Start in
     let a = b.args in
     let s = a.«record».now in
