@@ -120,8 +120,7 @@ def turn(crate, path, names, said):
                 q = entry["places"][indices[q]][1]
                 if q is not None:
                     promoted.setdefault(q, p[0])
-    dashed = {n: promoted.get(q, q) for n, q in dashed.items()}
-    places = {n: entry["places_by_name"][indices[q]] for n, q in dashed.items()}
+    places = {n: entry["places_by_name"][indices[promoted.get(q, q)]] for n, q in dashed.items()}
 
     def steps_of(way):
         """The steps on the way to a place, by their old names, and what their fields are called; then those of all places."""
@@ -185,7 +184,7 @@ def turn(crate, path, names, said):
     everywhere = steps_of([])
 
     # the places that a lemma of the file is stated at
-    stated = {dashed[norm(m)] for m in re.findall(r"tie\.([A-Z][\w'-]*)", text) if norm(m) in dashed}
+    stated = {promoted.get(dashed[norm(m)], dashed[norm(m)]) for m in re.findall(r"tie\.([A-Z][\w'-]*)", text) if norm(m) in dashed}
     today = dict(zip((p[0] for p in entry["places"]), entry["places_by_name"]))
 
     def value_of(known, k):
@@ -251,7 +250,7 @@ def turn(crate, path, names, said):
                     out.append(m.group(0))
             elif m.group(6):
                 known = env.get(m.group(6))
-                if known is not None and known[0] == m.group(6) and known[2] in stated and known[1] and re.match(r"[\s)]", t[m.end() : m.end() + 1] or " ") and not re.match(r"(?: [\w'«»]+)* (?:=|:)\s", t[m.end() :]):
+                if known is not None and known[0] == m.group(6) and promoted.get(known[2], known[2]) in stated and known[1] and re.match(r"[\s)]", t[m.end() : m.end() + 1] or " ") and not re.match(r"(?: [\w'«»]+)* (?:=|:)\s", t[m.end() :]):
                     out.append(value_of(known, 0))
                 else:
                     out.append(m.group(0))
@@ -284,7 +283,7 @@ def turn(crate, path, names, said):
             for v in m.group(1).split():
                 if norm(m.group(2)) in dashed:
                     q = dashed[norm(m.group(2))]
-                    env[v] = (v, today[q], q)
+                    env[v] = (v, today[promoted.get(q, q)], q)
         if place is not None:
             env["c"] = ("c", label, place)
         t = re.sub(r"λ c κs\.", "λ c.", t)

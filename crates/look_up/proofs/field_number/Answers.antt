@@ -24,7 +24,7 @@ at_is : (c : In-At) → let a = c.args in
     c.in-At.p.0 ≡ place_no a.start + (byte_no a.b - 1)
 at_is c =
     let a = c.args in
-    let e : c.in-At.p ≡ record { 0 = place_no a.start + (byte_no a.b - 1) } = cc (sym c.in-At.is ∙ is_at c) in
+    let e : c.in-At.p ≡ record { 0 = place_no a.start + (byte_no a.b - 1) } = cc (sym c.in-At.is ∙ is_at (goal.at.In-At c).After-place_of-place) in
     ap place_no e
 
 pub returns-in_default : goal.returns-in_default

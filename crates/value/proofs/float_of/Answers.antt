@@ -18,7 +18,7 @@ abbrev value : Start → ℤ
 value s = sign_magnitude s.args.neg (s.args.o * 2 ^ s.args.k)
 
 -- the value's place
-at : (c : In-At) → placed c.args.x (value c) ≡ At c.in-At.c c.in-At.f
+at : (c : In-At) → placed c.args.x (value (goal.at.In-At c).Start) ≡ At c.in-At.c c.in-At.f
 at c = sym c.place.ensures ∙ c.in-At.is
 
 pub packed-requires : goal.packed-requires
@@ -31,8 +31,7 @@ pub returns-in-At : goal.returns-in-At
 returns-in-At c =
     let s = (goal.at.returns-in-At c).Start in
     let a = s.args in
-    let g = c.c-1.given.0 in
-    sym (ap (float_of 32 a.y (is_negative (value s))) (at (goal.at.returns-in-At c).In-At) ∙ ap (λ (b : Bool). Word (float_bits 32 a.y b g.0 g.1.0)) (odd_sign a.neg a.o a.k s.requires.1) ∙ ap (λ (n : ℕ). Word n) (sym c.packed.ensures))
+    sym (ap (float_of 32 a.y (is_negative (value s))) (at (goal.at.returns-in-At c).In-At) ∙ ap (λ (b : Bool). Word (float_bits 32 a.y b c.in-At.c c.in-At.f)) (odd_sign a.neg a.o a.k s.requires.1) ∙ ap (λ (n : ℕ). Word n) (sym c.packed.ensures))
 
 pub returns-in-Nowhere : goal.returns-in-Nowhere
 returns-in-Nowhere c =

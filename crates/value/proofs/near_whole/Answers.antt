@@ -29,7 +29,7 @@ near : (c : After-near_place-p) → NearPlace (whole_format c.args.w) c.args.neg
 near c = let s = c in subst (λ (x : Format). NearPlace x s.args.neg (s.args.o * 2 ^ s.args.k) c.near_place-p.result) s.requires.0 c.near_place-p.ensures
 
 pub complement_of-requires : goal.complement_of-requires
-complement_of-requires c = let s = c in (omega (arith, s.requires.1), s.requires.2, (near (goal.at.complement_of-requires c).After-near_place-p).ranges)
+complement_of-requires c = let s = c in (omega (arith, s.requires.1), s.requires.2, (near (goal.at.complement_of-requires c).After-near_place-p).fits)
 
 pub returns : goal.returns
 returns c =

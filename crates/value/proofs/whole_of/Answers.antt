@@ -24,9 +24,9 @@ abbrev value : Start → ℤ
 value s = sign_magnitude s.args.neg (s.args.o * 2 ^ s.args.k)
 
 -- the value's place
-at : (c : In-At) → placed (whole_format c.args.w) (value c) ≡ At c.in-At.c c.in-At.f
+at : (c : In-At) → placed (whole_format c.args.w) (value (goal.at.In-At c).Start) ≡ At c.in-At.c c.in-At.f
 at c =
-    let s = c in
+    let s = (goal.at.In-At c).Start in
     ap (λ (x : Format). placed x (value s)) (sym s.requires.0) ∙ sym c.place.ensures ∙ c.in-At.is
 
 pub place-requires : goal.place-requires

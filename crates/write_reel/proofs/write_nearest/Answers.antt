@@ -16,9 +16,9 @@ use Rattle.write_reel.proofs.write_nearest.Goals as goal
 abbrev causes : Start → Check
 causes b = then (refuse_if (not (is_code b.args.code)) 11 0) (form_causes b.args.«record».now)
 
-owns : (c : In-Fine) → let b = c in Own b.args.«record».now (causes b) c.in-Fine.samples c.in-Fine.traces
+owns : (c : In-Fine) → let b = (goal.at.In-Fine c).Start in Own b.args.«record».now (causes b) c.in-Fine.samples c.in-Fine.traces
 owns c =
-    let b = c in
+    let b = (goal.at.In-Fine c).Start in
     own b.args.«record».now (causes b) (sym c.judge_target_and_form-c.ensures ∙ c.in-Fine.is)
 
 pub put_checked-requires : goal.put_checked-requires
