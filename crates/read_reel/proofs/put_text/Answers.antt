@@ -15,7 +15,7 @@ use Rattle.read_reel.proofs.put_text.Goals.{After-put_cards}
 use Rattle.read_reel.proofs.put_text.Goals as goal
 
 -- the card bytes as they were put first, each by the rule for one
-put : (c : After-put_cards) → c.put_cards.new.1.0 ≡ map blank (bytes_at c.args.reel.now 0 card_bytes)
+put : (c : After-put_cards) → c.put_cards.new.out ≡ map blank (bytes_at c.args.reel.now 0 card_bytes)
 put c =
     let s = c in
     cards_put_lem _ _ c.put_cards.ensures c.put_cards-arg-1.given.1 s.requires.1

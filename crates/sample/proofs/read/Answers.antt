@@ -24,11 +24,11 @@ by_four code w h = go code (code_is code h)
 code : (c : Else-not-is_code) → is_code c.args.code ≡ true
 code c = sym c.is_code.ensures ∙ c.if-not-is_code.false
 
-bad : (c : After-is_bad) → let a = c.args in is_bad a.code (word_number a.code a.t2) ≡ c.is_bad.result
+bad : (c : After-is_bad) → let a = c.args in is_bad a.code (word_number a.code a.word) ≡ c.is_bad.result
 unfolding bytes_at
 bad c =
     let a = c.args in
-    sym (c.is_bad.ensures ∙ ap (is_bad a.code) c.be32.ensures ∙ by_four a.code a.t2 (code (goal.at.After-is_bad c).Else-not-is_code))
+    sym (c.is_bad.ensures ∙ ap (is_bad a.code) c.be32.ensures ∙ by_four a.code a.word (code (goal.at.After-is_bad c).Else-not-is_code))
 
 pub returns-then-not-is_code : goal.returns-then-not-is_code
 returns-then-not-is_code c =

@@ -59,7 +59,7 @@ slice_bounds-put_nearest_word-end c = omega (arith, c.loop-left.invariant.2, c.l
 
 -- the word of the pair that was fetched, and whether it changed
 word : (c : After-put_nearest_word) → let l = c.loop-left in let a = c.args in
-    (c.put_nearest_word.result ≡ (nearest_at a.«record».now a.code l.at).changed) × (c.put_nearest_word.result ≤ 1) × (c.put_nearest_word.new.1.1.0 ≡ rounded_bytes a.code (nearest_at a.«record».now a.code l.at))
+    (c.put_nearest_word.result ≡ (nearest_at a.«record».now a.code l.at).changed) × (c.put_nearest_word.result ≤ 1) × (c.put_nearest_word.new.out ≡ rounded_bytes a.code (nearest_at a.«record».now a.code l.at))
 word c =
     let l = c.loop-left in
     let a = c.args in
@@ -70,7 +70,7 @@ word c =
 
 -- the same of the last
 last : (c : After-put_rounded) → let l = c.loop-left in let a = c.args in
-    (c.put_rounded.result ≡ (nearest_at a.«record».now a.code l.at).changed) × (c.put_rounded.result ≤ 1) × (c.put_rounded.new.1.1.0 ≡ rounded_bytes a.code (nearest_at a.«record».now a.code l.at))
+    (c.put_rounded.result ≡ (nearest_at a.«record».now a.code l.at).changed) × (c.put_rounded.result ≤ 1) × (c.put_rounded.new.out ≡ rounded_bytes a.code (nearest_at a.«record».now a.code l.at))
 last c =
     let l = c.loop-left in
     let a = c.args in
@@ -81,7 +81,7 @@ last c =
     (t.0 ∙ ap (λ (w : Rounded). w.changed) e, omega (arith, t.0, changed_most a.code p.result), t.1 ∙ ap (rounded_bytes a.code) e)
 
 pub put_nearest_word-requires : goal.put_nearest_word-requires
-put_nearest_word-requires c = (c.requires.0, c.put_nearest_word-arg-1.given.1 ∙ omega arith ∙ c.loop-left.invariant.1)
+put_nearest_word-requires c = (c.requires.0, c.put_nearest_word-arg-1.given.2 ∙ omega arith ∙ c.loop-left.invariant.1)
 
 pub overflow_cast-count : goal.overflow_cast-count
 overflow_cast-count c = record { fits = omega (arith, (word (goal.at.overflow_cast-count c).After-put_nearest_word).1) }
@@ -144,7 +144,7 @@ pub slice_bounds-put_rounded-end : goal.slice_bounds-put_rounded-end
 slice_bounds-put_rounded-end c = omega (arith, c.loop-left.invariant.2, c.loop-left.invariant.3)
 
 pub put_rounded-requires : goal.put_rounded-requires
-put_rounded-requires c = (c.requires.0, c.put_rounded-arg-1.given.1 ∙ omega arith ∙ c.loop-left.invariant.1)
+put_rounded-requires c = (c.requires.0, c.put_rounded-arg-1.given.2 ∙ omega arith ∙ c.loop-left.invariant.1)
 
 pub overflow_cast-result : goal.overflow_cast-result
 overflow_cast-result c = record { fits = omega (arith, (last (goal.at.overflow_cast-result c).After-put_rounded).1) }

@@ -60,7 +60,7 @@ short_bits-bits-requires c =
 pub put_short-requires : goal.put_short-requires
 put_short-requires c =
     let p = c.requires in
-    (p.0, p.1, c.put_short-arg-1.given.1 ∙ omega arith ∙ c.loop-left.invariant.1)
+    (p.0, p.1, c.put_short-arg-1.given.2 ∙ omega arith ∙ c.loop-left.invariant.1)
 
 pub overflow_add-at : goal.overflow_add-at
 overflow_add-at c =
@@ -114,7 +114,7 @@ slice_bounds-put_short-end-2 c = omega (arith, c.loop-left.invariant.2, c.loop-l
 pub put_short-requires-2 : goal.put_short-requires-2
 put_short-requires-2 c =
     let p = c.requires in
-    (p.0, p.1, c.put_short-arg-2-1.given.1 ∙ omega arith ∙ c.loop-left.invariant.1)
+    (p.0, p.1, c.put_short-arg-2-1.given.2 ∙ omega arith ∙ c.loop-left.invariant.1)
 
 pub returns : goal.returns
 unfolding sample_words

@@ -49,7 +49,7 @@ slice_bounds-put_word-end c = omega (arith, c.loop-left.invariant.1, c.loop-left
 pub put_word-requires : goal.put_word-requires
 put_word-requires c =
     let p = c.requires in
-    (p.0, p.1, c.put_word-arg-1.given.1 ∙ omega arith)
+    (p.0, p.1, c.put_word-arg-1.given.2 ∙ omega arith)
 
 pub overflow_add-at : goal.overflow_add-at
 overflow_add-at c =
@@ -106,7 +106,7 @@ returns c =
     let k = b.args.code in
     let p = c.pair_of_bits-2 in
     let bits = c.bits-bits in
-    let stored = bits_stored k bits.result _ b.requires.1 (c.put32-arg-1.given.1 ∙ omega arith) c.put32.ensures in
+    let stored = bits_stored k bits.result _ b.requires.1 (c.put32-arg-1.given.2 ∙ omega arith) c.put32.ensures in
     let new = fetched_stored s k l.at l.e l.m p.result bits.result stored bits.ensures p.ensures l.invariant.3 l.invariant.4 in
     last_put (word_bytes k) (written_at s k) 6 (sample_bytes k) (size_written s k) l.left l.at l.o (l.o + 4) c.loop-left-test.false (ap (λ (v : ℕ). l.o + v) (sym b.requires.1)) l.invariant.5 new
 
