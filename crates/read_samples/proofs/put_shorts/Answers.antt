@@ -58,7 +58,7 @@ put_whole16_word-w-requires c =
     let b = c in
     let a = b.args in
     let p = b.requires in
-    (p.0, fewer a.code a.v p.1 p.2, rw p.1 (omega (arith, times_more l.left a.v c.loop-left-test.true, l.invariant.0)), c.put_whole16_word-arg-1.given.1 ∙ omega arith)
+    (p.0, fewer a.code a.v p.1 p.2, rw p.1 (omega (arith, times_more l.left a.v c.loop-left-test.true, l.invariant.0)), c.put_whole16_word-arg-1.given.2 ∙ omega arith)
 
 pub overflow_sub-left-in-loop-left : goal.overflow_sub-left-in-loop-left
 overflow_sub-left-in-loop-left c = omega (arith, c.loop-left-test.true)
@@ -93,7 +93,7 @@ pub slice_bounds-put_sample-end : goal.slice_bounds-put_sample-end
 slice_bounds-put_sample-end c = omega (arith, c.loop-left.invariant.1, c.loop-left.invariant.2)
 
 pub put_sample-requires : goal.put_sample-requires
-put_sample-requires c = c.put_sample-arg-1.given.1 ∙ omega arith
+put_sample-requires c = c.put_sample-arg-1.given.2 ∙ omega arith
 
 pub returns : goal.returns
 unfolding sample_pairs

@@ -53,7 +53,7 @@ pub put_word-w-requires : goal.put_word-w-requires
 put_word-w-requires c =
     let l = c.loop-left in
     let p = c.requires in
-    (p.0, p.1, omega (arith, times_more l.left 4 c.loop-left-test.true, l.invariant.0), c.put_word-arg-1.given.1 ∙ omega arith, l.invariant.4)
+    (p.0, p.1, omega (arith, times_more l.left 4 c.loop-left-test.true, l.invariant.0), c.put_word-arg-1.given.2 ∙ omega arith, l.invariant.4)
 
 pub overflow_add-at : goal.overflow_add-at
 overflow_add-at c = omega (arith, c.loop-left.invariant.0)
@@ -92,7 +92,7 @@ pub slice_bounds-put_sample-end : goal.slice_bounds-put_sample-end
 slice_bounds-put_sample-end c = omega (arith, c.loop-left.invariant.1, c.loop-left.invariant.2)
 
 pub put_sample-requires : goal.put_sample-requires
-put_sample-requires c = c.put_sample-arg-1.given.1 ∙ omega arith
+put_sample-requires c = c.put_sample-arg-1.given.2 ∙ omega arith
 
 pub returns : goal.returns
 unfolding sample_pairs

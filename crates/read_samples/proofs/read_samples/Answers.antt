@@ -25,4 +25,4 @@ returns c =
     c.put_samples.ensures ∙ sym (fit_read a.reel.now a.code a.n a.start.0 a.out.now (fits (goal.at.returns c).Else-not-do_fit))
 
 pub shape_of-out : goal.shape_of-out
-shape_of-out c = c.put_samples.auto.1.1.1.1.0
+shape_of-out c = c.put_samples.auto.out
