@@ -14,12 +14,9 @@ use mathlib.Core.List.{List}
 use Prim.Native.Nat.{ℕ, ◌+◌, ◌-◌, ◌*◌, ◌≤◌, ◌<◌}
 use mathlib.Core.Path.{◌≡◌, sym, ap, ap₂, ◌∙◌}
 use native.Mathlib.Omega.{arith}
+use Rattle.compare.proofs.compare_fields.Invariants.{from}
 use Rattle.compare.proofs.compare_fields.Goals.{After-compare_run-x, After-run_of-m, In-loop-j}
 use Rattle.compare.proofs.compare_fields.Goals as goal
-
--- samples from sample j on
-abbrev from : List ℕ → ℕ → ℕ → List ℕ → ℕ → ℕ → ℕ → ℕ → Order
-from a p c b q d n j = lex_z (walk (λ x. held_value a (pair_place 6 c p x)) 1 (n - j) j) (walk (λ x. held_value b (pair_place 6 d q x)) 1 (n - j) j)
 
 pub loop-j-init : goal.loop-j-init
 loop-j-init c =

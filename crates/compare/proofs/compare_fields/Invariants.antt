@@ -1,9 +1,17 @@
+use Rattle.exact.specs.declared.Order.{Order}
+use Rattle.numbers.specs.Walk.{walk}
+use mathlib.Core.List.{List}
+use Prim.Native.Nat.{ℕ}
 use Rattle.exact.specs.Order.{lex_z}
 use Rattle.record.specs.Held.{held_value}
 use Rattle.fields.specs.Fields.{each, pair_place}
 use Prim.Native.Nat.{◌-◌, ◌≤◌}
 use mathlib.Core.Path.{◌≡◌}
 use Rattle.compare.proofs.compare_fields.Given as goal
+
+-- samples from sample j on
+abbrev pub from : List ℕ → ℕ → ℕ → List ℕ → ℕ → ℕ → ℕ → ℕ → Order
+from a p c b q d n j = lex_z (walk (λ x. held_value a (pair_place 6 c p x)) 1 (n - j) j) (walk (λ x. held_value b (pair_place 6 d q x)) 1 (n - j) j)
 
 abbrev pub invariant-loop-j : goal.invariant-loop-j
 invariant-loop-j l =

@@ -29,5 +29,5 @@ returns c =
     let f = (goal.at.returns c).After-field_at-p in
     let l = f.args.out.now in
     let p = place_no f.field_at-p.result in
-    over l (bytes_of 2 f.own_at-v.result) p (p + 2) refl (copied _ _ c.put16.ensures (c.put16-arg-1.given.1 ∙ omega arith))
+    over l (bytes_of 2 f.own_at-v.result) p (p + 2) refl (copied _ _ c.put16.ensures (c.put16-arg-1.given.2 ∙ omega arith))
     ∙ ap₂ (λ (x v : ℕ). overwritten l x (bytes_of 2 v)) (place f) f.own_at-v.ensures

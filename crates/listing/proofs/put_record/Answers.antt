@@ -27,6 +27,6 @@ returns c =
     let parts = text_parts r y s.requires.1 y-size in
     let whole : length a.out.now ≡ length (x ++ (y ++ z)) = s.requires.3 ∙ sym (size_over r y field_head (omega (arith, y-size, s.requires.1))) ∙ ap length parts in
     let w₀ = start _ a.out.now whole in
-    let w₁ = lend x (y ++ z) field_head w₀ (omega arith) (size_bytes r 0 field_head) (copied _ _ front.copy.ensures (omega (arith, front.copy-arg-1.given.1, front.copy-arg-2-1.given.1)) ∙ bytes_between r 0 field_head field_head (omega (arith, s.requires.1)) refl) in
+    let w₁ = lend x (y ++ z) field_head w₀ (omega arith) (size_bytes r 0 field_head) (copied _ _ front.copy.ensures (omega (arith, front.copy-arg-1.given.1, front.copy-arg-2-1.given.2)) ∙ bytes_between r 0 field_head field_head (omega (arith, s.requires.1)) refl) in
     let w₂ = lend y z binary_place w₁ (omega arith) y-size text.put_parts.ensures in
     close z (length r) w₂ s.requires.1 (size_bytes r binary_place (length r - binary_place)) (copied _ _ behind.copy-2.ensures (omega (arith, behind.copy-arg-3-1.given.1, behind.copy-arg-4-1.given.1)) ∙ bytes_between r binary_place (length r) (length r - binary_place) (omega arith) (omega (arith, s.requires.1))) ∙ sym parts

@@ -19,4 +19,4 @@ returns c =
     let w₀ = start _ a.out.now (b.requires.3 ∙ sym (size_field s a.code a.count a.at)) in
     let w₁ = lend (tag_bytes 4 (a.count * 6)) z 3 w₀ (omega arith) refl c.put_tag.ensures in
     close z (3 + a.count * 6) w₁ (omega arith) (size_samples s a.code a.count a.at ∙ omega arith)
-    (c.read_samples.ensures ∙ samples_read_lem s a.code a.count a.at _ b.requires.0 b.requires.2 (c.read_samples-arg-1.given.1 ∙ omega arith))
+    (c.read_samples.ensures ∙ samples_read_lem s a.code a.count a.at _ b.requires.0 b.requires.2 (c.read_samples-arg-1.given.2 ∙ omega arith))

@@ -10,4 +10,4 @@ use Rattle.read_reel.proofs.put_over.Goals as goal
 pub returns : goal.returns
 returns c =
     let a = c.args in
-    over a.out.now (bytes_of 2 a.n) a.at.0 (a.at.0 + 2) refl (copied _ _ c.put16.ensures (c.put16-arg-1.given.1 ∙ omega arith))
+    over a.out.now (bytes_of 2 a.n) a.at.0 (a.at.0 + 2) refl (copied _ _ c.put16.ensures (c.put16-arg-1.given.2 ∙ omega arith))

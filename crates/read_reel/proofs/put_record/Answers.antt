@@ -24,7 +24,7 @@ pub slice_bounds-put_head-end : goal.slice_bounds-put_head-end
 slice_bounds-put_head-end c = omega (arith, c.requires.6)
 
 pub put_head-requires : goal.put_head-requires
-put_head-requires c = (omega (arith, c.requires.5), c.put_head-arg-1.given.1)
+put_head-requires c = (omega (arith, c.requires.5), c.put_head-arg-1.given.2)
 
 pub slice_bounds-put_traces-end : goal.slice_bounds-put_traces-end
 slice_bounds-put_traces-end c = omega (arith, c.requires.6, c.out-1.given.1)
@@ -32,7 +32,7 @@ slice_bounds-put_traces-end c = omega (arith, c.requires.6, c.out-1.given.1)
 pub put_traces-count-requires : goal.put_traces-count-requires
 put_traces-count-requires c =
     let s = c in
-    (s.requires.0, s.requires.1, s.requires.2, s.requires.3, s.requires.7, s.requires.5, omega (arith, c.put_traces-arg-1.given.1))
+    (s.requires.0, s.requires.1, s.requires.2, s.requires.3, s.requires.7, s.requires.5, omega (arith, c.put_traces-arg-1.given.2))
 
 pub overflow_cast-t : goal.overflow_cast-t
 overflow_cast-t c = omega (arith, c.requires.4)
@@ -44,7 +44,7 @@ pub slice_bounds-put_count-end : goal.slice_bounds-put_count-end
 slice_bounds-put_count-end c = omega (arith, c.requires.6, c.out-1.given.1, c.out-2-1.given.1)
 
 pub put_count-requires : goal.put_count-requires
-put_count-requires c = omega (arith, c.put_count-arg-1.given.1)
+put_count-requires c = omega (arith, c.put_count-arg-1.given.2)
 
 pub returns : goal.returns
 unfolding record_copied

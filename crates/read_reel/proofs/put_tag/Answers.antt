@@ -18,7 +18,7 @@ slice_bounds-put16-end c = simp length-set (omega arith)
 pub returns : goal.returns
 returns c =
     let s = c in
-    finish (lend (bytes_of 2 s.args.size) [] 3 (put s.args.tag (start _ s.args.out.now s.requires)) (omega arith) refl (copied _ _ c.put16.ensures c.put16-arg-1.given.1)) refl
+    finish (lend (bytes_of 2 s.args.size) [] 3 (put s.args.tag (start _ s.args.out.now s.requires)) (omega arith) refl (copied _ _ c.put16.ensures c.put16-arg-1.given.2)) refl
 
 pub shape_of-out : goal.shape_of-out
 shape_of-out c = ap length (returns c) ∙ sym c.requires

@@ -26,7 +26,7 @@ returns c =
     let z = samples_copied s a.code a.n (a.at + trace_header) in
     let w₀ = start _ a.out.now (b.requires.3 ∙ sym (size_trace s a.code a.n a.i a.at)) in
     let w₁ = lend (tag_bytes 3 180) (y ++ z) 3 w₀ (omega arith) refl c.put_tag.ensures in
-    let w₂ = lend y z 183 w₁ (omega arith) (size_header (trace_number s a.n a.i a.at)) (c.read_header.ensures ∙ header_read_lem s a.n a.i a.at _ (omega (arith, b.requires.2)) c.read_header-arg-1.given.1) in
+    let w₂ = lend y z 183 w₁ (omega arith) (size_header (trace_number s a.n a.i a.at)) (c.read_header.ensures ∙ header_read_lem s a.n a.i a.at _ (omega (arith, b.requires.2)) c.read_header-arg-1.given.2) in
     let filled = close z (length a.out.now) w₂ (omega (arith, b.requires.3)) (size_in_fields s a.code a.n (a.at + trace_header) ∙ omega (arith, b.requires.3)) c.put_samples.ensures in
     let room : a.at + trace_header + a.n * sample_bytes a.code ≤ length s = omega (arith, b.requires.2) in
     (c.count_words.ensures ∙ fit_counted s a.code a.n (a.at + trace_header) b.requires.1 room, filled)

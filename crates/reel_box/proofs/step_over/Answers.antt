@@ -45,8 +45,8 @@ returns-in-Refused c =
 
 -- a reel with no cause of its own, by its numbers
 owns : (c : In-Fine)
-    → let a = c.args in let g = c.c-in-Fine-1.given.0 in
-    Own Plain (reel_at a.s.now a.at a.l) g.0 g.1.0 g.1.1.0 g.1.1.1.0 g.1.1.1.1.0 g.1.1.1.1.1.0
+    → let a = c.args in let g = c.in-Fine in
+    Own Plain (reel_at a.s.now a.at a.l) g.code g.samples g.interval g.width g.stride g.traces
 owns c = own Plain _ (sym (judged (goal.at.In-Fine c).After-judge_reel-c) ∙ c.in-Fine.is)
 
 pub step_on-requires : goal.step_on-requires

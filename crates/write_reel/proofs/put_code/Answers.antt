@@ -31,5 +31,5 @@ returns c =
     let a = f.args in
     let new = bytes_of 2 a.code in
     let p = place_no f.field_at-p.result in
-    over a.out.now new p (p + 2) refl (copied _ _ c.put16.ensures (c.put16-arg-1.given.1 ∙ omega arith))
+    over a.out.now new p (p + 2) refl (copied _ _ c.put16.ensures (c.put16-arg-1.given.2 ∙ omega arith))
     ∙ ap (λ (x : ℕ). overwritten a.out.now x new) (place f)
