@@ -27,7 +27,7 @@ loop-left-init c =
     let all = times_walk a.reel.now a.factor a.k a.at in
     let size : length (left_of a.reel.now a.factor a.k a.at) ≡ a.k * 4 =
     sym (ap length all) ∙ size_group (times_factor a.factor (numbers_in a.reel.now a.k a.at)) ∙ ap (λ (x : ℕ). x * 4) (length-map (numbers_in a.reel.now a.k a.at) _ ∙ size_in a.reel.now a.k a.at) in
-    (s.requires.0, s.requires.1, omega arith, s.requires.2, begin _ _ (s.requires.1 ∙ sym size))
+    rw (to_z-of_z s.ranges.factor) (s.requires.0, s.requires.1, omega arith, s.requires.2, begin _ _ (s.requires.1 ∙ sym size))
 
 pub overflow_add-e : goal.overflow_add-e
 overflow_add-e c = omega (arith, c.loop-left.invariant.1, c.loop-left.invariant.2, c.loop-left-test.true)
@@ -43,7 +43,7 @@ pub times-requires : goal.times-requires
 times-requires c =
     let l = c.loop-left in
     let a = c.args in
-    rw (number_is (goal.at.times-requires c).After-number_at, to_z-of_z c.ranges.factor) (fit_more a.reel.now a.factor l.left l.p c.loop-left-test.true l.invariant.3).0
+    rw (number_is (goal.at.times-requires c).After-number_at) (fit_more a.reel.now (to_z w32 (of_z w32 a.factor)) l.left l.p c.loop-left-test.true l.invariant.3).0
 
 pub slice_bounds-put32-end : goal.slice_bounds-put32-end
 slice_bounds-put32-end c = let l = c.loop-left in omega (arith, l.invariant.1, l.invariant.2, c.loop-left-test.true)
@@ -57,9 +57,9 @@ loop-left-preserved c =
     let l = t.loop-left in
     let a = c.args in
     let r = a.reel.now in
-    let z = a.factor in
+    let z = to_z w32 (of_z w32 a.factor) in
     let product : to_z w32 (of_z w32 c.times.result) ≡ number4 r l.p *ℤ z =
-    to_z-of_z {w = w32} (sfits_of c.times.type_inv) ∙ c.times.ensures ∙ ap (λ (n : ℤ). n *ℤ to_z w32 (of_z w32 z)) (number_is (goal.at.loop-left-preserved c).After-number_at) ∙ ap (λ (f : ℤ). number4 r l.p *ℤ f) (to_z-of_z c.ranges.factor) in
+    to_z-of_z {w = w32} (sfits_of c.times.type_inv) ∙ c.times.ensures ∙ ap (λ (n : ℤ). n *ℤ z) (number_is (goal.at.loop-left-preserved c).After-number_at) in
     let e = copied _ _ c.put32.ensures (omega (arith, c.put32-arg-1.given.2)) ∙ ap (bytes_of 4) (c.bits32.ensures ∙ ap (bits_of 32) product) in
     let f = part_put (stored z) (number4 r) 4 4 (λ x. refl) l.left l.p l.o (l.o + 4) t.loop-left-test.true refl l.invariant.4 e in
     (omega (arith, l.invariant.0, t.loop-left-test.true), f.size ∙ sym l.invariant.4.size ∙ l.invariant.1, omega (arith, l.invariant.2, t.loop-left-test.true), (fit_more r z l.left l.p t.loop-left-test.true l.invariant.3).1, f)
@@ -73,5 +73,5 @@ returns c =
     let a = s.args in
     let l = c.loop-left in
     let r = a.reel.now in
-    finish l.invariant.4 (flat_none (stored a.factor) (number4 r) 4 l.left l.p c.loop-left-test.false)
-    ∙ sym (times_walk r a.factor a.k a.at)
+    finish l.invariant.4 (flat_none (stored (to_z w32 (of_z w32 a.factor))) (number4 r) 4 l.left l.p c.loop-left-test.false)
+    ∙ ap (λ (z : ℤ). left_of r z a.k a.at) (to_z-of_z s.ranges.factor) ∙ sym (times_walk r a.factor a.k a.at)
