@@ -3,16 +3,15 @@ use Rattle.numbers.specs.Walk.{bytes_at}
 use Rattle.numbers.specs.BigEndian.{number}
 use Rattle.record.specs.declared.Numbers.{Numbers}
 use lib.ListN.{length}
-use mathlib.Core.Logic.{⊎_elim}
 use mathlib.Core.Path.{◌≡◌, ap, ap₂, ◌∙◌}
 use Prim.Native.Nat.{ℕ, ◌-◌}
 use native.Mathlib.Omega.{arith}
-use Rattle.record.proofs.numbers_in.Goals.{Joined-size-lt4}
+use Rattle.record.proofs.numbers_in.Goals.{Joined-size-lt4, then-size-lt4, else-size-lt4}
 use Rattle.record.proofs.numbers_in.Goals as goal
 
 -- where the last four bytes begin
-last_four : (c : Joined-size-lt4) → c.if-size-lt4.new ≡ length c.args.«record».now - 4
-last_four c = ⊎_elim (λ w. omega (arith, w.0.taken, w.1)) (λ w. w.1) c.if-size-lt4.branch
+last_four : (c : Joined-size-lt4) → c.if-size-lt4.last ≡ length c.args.«record».now - 4
+last_four c = elim c.if-size-lt4.branch [ then-size-lt4 w ↦ omega arith | else-size-lt4 w ↦ omega arith ]
 
 pub returns : goal.returns
 returns c =
