@@ -34,8 +34,8 @@ is c =
     let g = c in
     let x = g.number_at in
     let y = g.number_at-in-loop-left in
-    let fx : SFits w32 x.result = sfits_of x.type-inv in
-    let fy : SFits w32 y.result = sfits_of y.type-inv in
+    let fx : SFits w32 x.result = sfits_of x.type_inv in
+    let fy : SFits w32 y.result = sfits_of y.type_inv in
     g.compare_numbers-c.ensures ∙ ap₂ order_z (to_z-of_z fx ∙ x.ensures) (to_z-of_z fy ∙ y.ensures)
 
 pub returns-then-decides : goal.returns-then-decides

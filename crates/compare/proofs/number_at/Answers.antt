@@ -28,7 +28,7 @@ returns-then-w-eq4 c =
     let t = c in
     let a = t.args in
     let s = a.s.now in
-    to_z-of_z (sfits_of c.signed32.type_inv) ∙ c.signed32.ensures ∙ ap (signed_of 32) c.number32_at.ensures
+    to_z-of_z {w = w32} (sfits_of c.signed32.type_inv) ∙ c.signed32.ensures ∙ ap (signed_of 32) c.number32_at.ensures
     ∙ sym (ap (λ (x : Bool). by s a.at x (eqb a.w 2)) (eq-eqb a.w 4 t.if-w-eq4.true))
 
 fits : (c : After-signed16) → SFits w16 c.signed16.result
@@ -58,5 +58,5 @@ returns c =
     let e = c in
     let a = e.args in
     let s = a.s.now in
-    to_z-of_z (sfits_of c.byte_at.type_inv) ∙ c.byte_at.ensures
+    to_z-of_z {w = w32} (sfits_of c.byte_at.type_inv) ∙ c.byte_at.ensures
     ∙ sym (ap (λ (x : Bool). by s a.at x (eqb a.w 2)) (ne_eqb a.w 4 e.if-w-eq4.false) ∙ ap (by s a.at false) (ne_eqb a.w 2 t.if-w-eq2.false))

@@ -1,6 +1,5 @@
 -- `compare::same_bytes_lem` meets its contract. Assumes nothing.
 use mathlib.Core.Path.{◌≡◌, refl, sym, ap, ◌∙◌}
-use mathlib.Core.Logic.{⊎_elim}
 use mathlib.Core.Bool.{Bool, ◌&&◌}
 use Prim.Native.Nat.{◌+◌, ◌-◌, ◌<◌}
 use native.Mathlib.Omega.{arith}
@@ -10,6 +9,7 @@ use lib.ListN.{length, get_or, drop}
 use Rattle.numbers.proofs.BoolLaws.{and_right, and_false}
 use Rattle.compare.specs.Parts.{same_bytes}
 use Rattle.compare.proofs.BytesLaws.{same_next, same_end}
+use Rattle.compare.proofs.same_bytes.Goals.{then-a-i, else-a-i}
 use Rattle.compare.proofs.same_bytes.Goals as goal
 
 pub bounds-b-i : goal.bounds-b-i
@@ -28,9 +28,10 @@ loop-i-preserved c =
     let k : i < length b = omega (arith, l, s.requires) in
     let step : (h.same && (eqb (get_or a i 0) (get_or b i 0) && rest)) ≡ same_bytes a b = ap (λ (x : Bool). h.same && x) (sym (same_next a b i l k)) ∙ h.invariant.1 in (
       omega arith,
-      ⊎_elim
-          (λ w. ap (λ (x : Bool). x && rest) w.1 ∙ sym (and_false h.same) ∙ ap (λ (x : Bool). h.same && (x && rest)) (sym (ne_eqb (get_or a i 0) (get_or b i 0) w.0.taken)) ∙ step)
-          (λ w. ap (λ (x : Bool). x && rest) w.1 ∙ ap (λ (x : Bool). h.same && (x && rest)) (sym (eq-eqb (get_or a i 0) (get_or b i 0) w.0.left)) ∙ step) c.if-a-i.branch,
+      elim c.if-a-i.branch [
+        then-a-i w ↦ ap (λ (x : Bool). x && rest) w.same-is ∙ sym (and_false h.same) ∙ ap (λ (x : Bool). h.same && (x && rest)) (sym (ne_eqb (get_or a i 0) (get_or b i 0) w.if-a-i.true)) ∙ step
+        | else-a-i w ↦ ap (λ (x : Bool). x && rest) w.same-is ∙ ap (λ (x : Bool). h.same && (x && rest)) (sym (eq-eqb (get_or a i 0) (get_or b i 0) w.if-a-i.false)) ∙ step
+      ],
     )
 
 pub returns : goal.returns

@@ -37,7 +37,7 @@ pub put_part-requires : goal.put_part-requires
 put_part-requires c =
     let s = c in
     let is = c.put_part-arg-in-loop-left-1.given.2 ∙ lent c.loop-left.o s.args.size in
-    (s.requires.0, c.put_part-arg-1.given.2 ∙ lent c.loop-left.at card_length, ap (λ (n : ℕ). card_length + length (closing n)) is ∙ s.requires.4 ∙ sym is)
+    (s.requires.0, c.put_part-arg-1.given.1 ∙ lent c.loop-left.at card_length, ap (λ (n : ℕ). card_length + length (closing n)) is ∙ s.requires.4 ∙ sym is)
 
 pub overflow_add-at-in-loop-left : goal.overflow_add-at-in-loop-left
 overflow_add-at-in-loop-left c = let s = c in omega (arith, times_more c.loop-left.left s.args.from c.loop-left-test.true, c.loop-left.invariant.0, s.requires.2)
