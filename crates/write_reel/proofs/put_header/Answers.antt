@@ -20,5 +20,5 @@ returns c =
     let k = length l in
     let e = length out in
     let zeros : List ℕ = replicate (e - k) 0 in
-    let w = lend l zeros k (start _ out (sym (size_header e l b.requires))) (omega arith) (omega arith) (copied _ _ copy.copy.ensures (copy.copy-arg-1.given.1 ∙ omega arith)) in
+    let w = lend l zeros k (start _ out (sym (size_header e l b.requires))) (omega arith) (omega arith) (copied _ _ copy.copy.ensures (copy.copy-arg-1.given.2 ∙ omega arith)) in
     close zeros e w b.requires (length-replicate {A = ℕ} (e - k) 0) (zeroed _ (e - k) c.put_zeros.ensures c.put_zeros-arg-1.given.2)

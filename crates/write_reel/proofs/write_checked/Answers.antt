@@ -23,12 +23,12 @@ put_checked-c-requires c =
 
 -- the answer without its count, by what was told of it
 ends : (c : After-put_checked-c) (r : Counted) → c.put_checked-c.result ≡ r
-    → let a = c.args in without_count (counted_outcome r c.put_checked-c.new.out) ≡ write_outcome a.«record».now a.code a.reel.now
+    → let a = c.args in without_count (counted_outcome r c.put_checked-c.new.reel) ≡ write_outcome a.«record».now a.code a.reel.now
 ends c r told =
     let b = (goal.at.After-put_checked-c c).Start in
     let a = b.args in
     let s = a.«record».now in
-    ap (λ (x : Counted). without_count (counted_outcome x c.put_checked-c.new.out)) (sym told) ∙ ap without_count c.put_checked-c.ensures
+    ap (λ (x : Counted). without_count (counted_outcome x c.put_checked-c.new.reel)) (sym told) ∙ ap without_count c.put_checked-c.ensures
     ∙ exact_end s a.code a.reel.now a.n a.t (all_bytes s (λ i. omega (arith, c.shared_slice_known-1.given i))) (owns b)
 
 pub returns-in-Taken : goal.returns-in-Taken
