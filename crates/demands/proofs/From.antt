@@ -113,11 +113,11 @@ pub from_numbers : {s : List ℕ} {p : ℕ} (start b : ℕ) (ws : List ℕ) (zs 
 from_numbers start b [] [] rest l e h f = refl
 from_numbers start b [] (z ∷ zs) rest l e h f = absurd h
 from_numbers start b (w ∷ ws) [] rest l e h f = absurd h
-from_numbers {s} {p} start b (w ∷ ws) (z ∷ zs) rest l e h f =
+from_numbers {s = s} {p = p} start b (w ∷ ws) (z ∷ zs) rest l e h f =
     let x = bytes_of w (bits_of (8 * w) z) in
     let g = from_parts x (number_bytes ws zs) rest f in
     cons_eq (rw e (from_signed w z (number_bytes ws zs ++ rest) h.0 h.1 g))
-    (from_numbers start (b + w) ws zs rest (omega arith) (omega arith) h.2 (from_next x (number_bytes ws zs ++ rest) w (length_bytes w (bits_of (8 * w) z)) g))
+    (from_numbers {s = s} {p = p + w} start (b + w) ws zs rest (omega arith) (omega arith) h.2 (from_next x (number_bytes ws zs ++ rest) w (length_bytes w (bits_of (8 * w) z)) g))
 
 -- Where each part gives 0, so does their sum.
 pub sum_zeros : {A : Type 0} (l : List A) → sum (map (λ (x : A). 0) l) ≡ 0
