@@ -196,7 +196,7 @@ pub extern "C" fn aukpocket_write_nearest(record: &[u8], code: u32, out: &mut [u
 
 // What listing a record's cards answers, in numbers.
 fn listing_answer(answer: Listed) -> ReelAnswer
-    ensures { handed result ≡ listing_answer (calls.saidBy answer) }
+    ensures { handed result ≡ listing_answer (calls.said_by answer) }
 {
     match answer {
         Listed::Taken { length } => taken_answer(0, 0, length, 0, 0),
@@ -207,7 +207,7 @@ fn listing_answer(answer: Listed) -> ReelAnswer
 // Lists the cards of a record, by code page 037, into the front of an output.
 #[unsafe(no_mangle)]
 pub extern "C" fn aukpocket_list_cards(record: &[u8], out: &mut [u8]) -> ReelAnswer
-    ensures { reel_in result out.new ≡ listing_handed (calls.listOutcome latin «record».now out.old) }
+    ensures { reel_in result out.new ≡ listing_handed (calls.list_outcome latin «record».now out.old) }
 {
     listing_answer(listing::list_cards(record, out))
 }
@@ -215,7 +215,7 @@ pub extern "C" fn aukpocket_list_cards(record: &[u8], out: &mut [u8]) -> ReelAns
 // Takes a corrected listing back, by code page 037: the record with its text, into the front of an output.
 #[unsafe(no_mangle)]
 pub extern "C" fn aukpocket_take_cards(record: &[u8], listing: &[u8], out: &mut [u8]) -> ReelAnswer
-    ensures { reel_in result out.new ≡ reel_handed (calls.takeOutcome latin «record».now listing.now out.old) }
+    ensures { reel_in result out.new ≡ reel_handed (calls.take_outcome latin «record».now listing.now out.old) }
 {
     reel_answer(listing::take_cards(record, listing, out))
 }
@@ -308,7 +308,7 @@ pub extern "C" fn aukpocket_check_box(reels: &[u8], lengths: &[u64]) -> BoxAnswe
 
 // What writing a pair answers, in numbers.
 fn sample_answer(answer: sample::Answer) -> SampleAnswer
-    ensures { handed result ≡ sample_answer (single.saidBy answer) }
+    ensures { handed result ≡ sample_answer (single.said_by answer) }
 {
     match answer {
         sample::Answer::Taken => SampleAnswer {
@@ -326,7 +326,7 @@ fn sample_answer(answer: sample::Answer) -> SampleAnswer
 
 // What reading a word answers, in numbers.
 fn word_answer(answer: WordAnswer) -> SampleAnswer
-    ensures { handed result ≡ word_answer (single.wordSaid answer) }
+    ensures { handed result ≡ word_answer (single.word_said answer) }
 {
     match answer {
         WordAnswer::Taken { not_normal } => SampleAnswer {
@@ -345,7 +345,7 @@ fn word_answer(answer: WordAnswer) -> SampleAnswer
 // One sample, from the four bytes of its word to the six of its canonical pair.
 #[unsafe(no_mangle)]
 pub extern "C" fn aukpocket_read_word(code: u32, word: &[u8; 4], pair: &mut [u8; 6]) -> SampleAnswer
-    ensures { sample_in result pair.new ≡ word_handed (single.wordOutcome code word.now) }
+    ensures { sample_in result pair.new ≡ word_handed (single.word_outcome code word.now) }
 {
     let read = sample::read_word(code, *word);
     let bytes = read.pair;
@@ -361,7 +361,7 @@ pub extern "C" fn aukpocket_write_pair(
     pair: &[u8; 6],
     word: &mut [u8; 4],
 ) -> SampleAnswer
-    ensures { sample_in result word.new ≡ sample_handed (single.pairOutcome code pair.now) }
+    ensures { sample_in result word.new ≡ sample_handed (single.pair_outcome code pair.now) }
 {
     let written = sample::write_pair(code, *pair);
     let bytes = written.word;

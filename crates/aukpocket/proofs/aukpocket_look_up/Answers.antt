@@ -10,9 +10,9 @@ use Rattle.aukpocket.proofs.aukpocket_look_up.Goals as goal
 
 pub returns-in-Taken : goal.returns-in-Taken
 returns-in-Taken c =
-    let n = c.value-1 in
-    let x : SFits w32 n.given.0.0 = search rules in
-    rw (to_z-of_z x) (ap (λ y. field_handed (looked_up y)) (sym n.given.1) ∙ ap field_handed c.look_up.ensures)
+    let n = c.in-Taken in
+    let x : SFits w32 n.value = search rules in
+    rw (to_z-of_z x) (ap (λ y. field_handed (looked_up y)) (sym n.is) ∙ ap field_handed c.look_up.ensures)
 
 pub returns-in-Refused : goal.returns-in-Refused
 returns-in-Refused c = ap (λ x. field_handed (looked_up x)) (sym c.in-Refused.is) ∙ ap field_handed c.look_up.ensures
