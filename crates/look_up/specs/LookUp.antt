@@ -77,7 +77,7 @@ unfoldable pub look_up_outcome : List ℕ → ℕ → ByteNo → NumberOutcome
 look_up_outcome s k b = number_said (look_up_causes s k b) (found_number s k (field_at k b))
 
 -- Document 01's number and values for each case of the answer: taken with the signed number; or refused with the number and what stands
--- beside it, and then the looked_up_lem number is 0.
+-- beside it, and then the looked-up number is 0.
 abbrev pub looked_up : Answer → NumberOutcome
 looked_up (answer.Taken z) = record { said = taken []; value = z }
 looked_up (answer.Refused number place) = record { said = refused number (place_no place); value = pos 0 }

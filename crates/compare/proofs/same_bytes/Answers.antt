@@ -1,4 +1,4 @@
--- `compare::same_bytes_lem` meets its contract. Assumes nothing.
+-- `compare::same_bytes` meets its contract. Assumes nothing.
 use mathlib.Core.Path.{◌≡◌, refl, sym, ap, ◌∙◌}
 use mathlib.Core.Bool.{Bool, ◌&&◌}
 use Prim.Native.Nat.{◌+◌, ◌-◌, ◌<◌}
