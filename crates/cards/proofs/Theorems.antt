@@ -1,7 +1,7 @@
 -- What a word of eight card bytes becomes, said by its bytes. Assumes nothing.
-use Prim.Native.Nat.{ℕ, zero, suc, ◌+◌, ◌*◌, ◌/◌, ◌%◌, ◌^◌, ◌<◌}
+use Prim.Native.Nat.{ℕ, zero, suc, ◌/◌, ◌%◌, ◌^◌, ◌<◌}
 use mathlib.Core.Path.{◌≡◌, refl, sym, ap, ◌∙◌}
-use mathlib.Core.List.{List, [], ◌∷◌, map, reverse}
+use mathlib.Core.List.{List, map, reverse}
 use native.Mathlib.Nat.{div-one, pow-suc, mul_comm, div-div-eq-div-mul, mod-eq_of_lt, mul-add-mod_self_right}
 use native.Mathlib.Omega.{arith}
 use lib.Arith.{digits_div}

@@ -1,12 +1,12 @@
 -- The six codes and their formats. Assumes nothing.
-use mathlib.Core.Path.{◌≡◌, refl, sym, ap, ◌∙◌, subst}
+use mathlib.Core.Path.{◌≡◌, refl, sym, ap, subst}
 use mathlib.Core.Bool.{Bool, true, false, ◌||◌}
-use Prim.Native.Nat.{ℕ, ◌-◌, ◌*◌, ◌+◌, ◌^◌, ◌≤◌, ◌<◌}
+use Prim.Native.Nat.{ℕ, ◌≤◌}
 use native.Mathlib.Omega.{arith}
 use borrow.Author.Tests.{eqb-true, ne_eqb}
 use lib.Dec.{T, eqb}
 use Rattle.numbers.specs.Walk.{pick, bytes_at}
-use Rattle.formats.specs.Codes.{is_code, sample_bytes, word_length, ibm_format, ieee_format, no_format, format_of}
+use Rattle.formats.specs.Codes.{is_code, sample_bytes, word_length, ibm_format, ieee_format, format_of}
 use Rattle.formats.specs.Value.{word_number}
 use Rattle.formats.specs.Steps.{Sound, Float}
 use Rattle.numbers.specs.BigEndian.{number}

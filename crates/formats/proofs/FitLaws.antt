@@ -1,17 +1,17 @@
 -- Which characteristics serve ± o × 2 ^ k with an odd o: k says where it is whole, the length of o where it is small. Assumes nothing.
-use mathlib.Core.Path.{◌≡◌, refl, sym, ap, ◌∙◌, subst}
-use mathlib.Core.Logic.{◌⊎◌, inl, inr, ⊎_elim}
+use mathlib.Core.Path.{◌≡◌, sym, ap, ◌∙◌, subst}
+use mathlib.Core.Logic.{⊎_elim}
 use mathlib.Core.Bool.{Bool, true, false, ◌&&◌}
-use Prim.Native.Nat.{ℕ, zero, suc, ◌+◌, ◌-◌, ◌*◌, ◌/◌, ◌%◌, ◌^◌, ◌≤◌, ◌<◌}
-use native.Mathlib.Nat.{le_trans, le_of_eq, mul_assoc, mul-add, add_comm, zero-mod, zero-div, pow-suc, lt_of_lt_of_le, lt_of_le_of_lt, mul-le-mul_left, mul-le-mul_right, mul-lt-mul_of_pos_right, le_of_mul-le-mul_right, lt_of_mul-lt-mul_right, mul-pos}
+use Prim.Native.Nat.{ℕ, suc, ◌+◌, ◌-◌, ◌*◌, ◌/◌, ◌%◌, ◌^◌, ◌≤◌, ◌<◌}
+use native.Mathlib.Nat.{le_trans, le_of_eq, mul_assoc, zero-mod, zero-div, pow-suc, lt_of_lt_of_le, mul-le-mul_left, mul-le-mul_right, mul-lt-mul_of_pos_right, le_of_mul-le-mul_right, lt_of_mul-lt-mul_right, mul-pos}
 use native.Mathlib.Omega.{arith}
 use borrow.Author.Tests.{lt-ltb, le-ltb, le-leb, lt-leb, eq-eqb, ne_eqb}
-use lib.Dec.{leb, ltb, eqb}
+use lib.Dec.{leb}
 use lib.Pow.{pow-add, pow_pos, pow_mono}
-use lib.IntN.{ℤ, pos, nat_abs}
+use lib.IntN.{pos}
 use Rattle.numbers.specs.Walk.{pick}
 use Rattle.numbers.proofs.SignLaws.{below_or}
-use Rattle.numbers.specs.SignMagnitude.{sign_magnitude, is_negative}
+use Rattle.numbers.specs.SignMagnitude.{sign_magnitude}
 use Rattle.numbers.proofs.BoolLaws.{and_false}
 use Rattle.formats.specs.Format.{unit, limit, fits_at, placed_at, placed}
 use Rattle.formats.specs.Steps.{Length, Lowest}
@@ -19,7 +19,7 @@ use Rattle.formats.specs.declared.Format.{Format}
 use Rattle.formats.specs.declared.Placed.TheVariants.{At, Nowhere}
 use Rattle.numbers.proofs.FirstLaws.{first_at, none_passes}
 use Rattle.formats.proofs.Powers.{parted, exact_div, exact_mod, inexact, whole}
-use Rattle.numbers.proofs.Magnitudes.{neg_signed, abs_signed, signed_zero}
+use Rattle.numbers.proofs.Magnitudes.{neg_signed, abs_signed}
 
 -- ## Bit lengths
 

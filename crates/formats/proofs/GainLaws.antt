@@ -1,18 +1,18 @@
 -- The word of ± o × 2 ^ k with the smallest gain. Assumes nothing.
-use mathlib.Core.Path.{◌≡◌, refl, sym, ap, ap₂, ◌∙◌, subst}
-use mathlib.Core.Logic.{◌⊎◌, inl, inr, ⊎_elim}
-use mathlib.Core.Bool.{Bool, true, false, ◌&&◌}
-use Prim.Native.Nat.{ℕ, zero, suc, ◌+◌, ◌-◌, ◌*◌, ◌/◌, ◌%◌, ◌^◌, ◌≤◌, ◌<◌, min}
+use mathlib.Core.Path.{◌≡◌, sym, ap, ap₂, ◌∙◌, subst}
+use mathlib.Core.Logic.{⊎_elim}
+use mathlib.Core.Bool.{Bool, false}
+use Prim.Native.Nat.{ℕ, ◌+◌, ◌-◌, ◌*◌, ◌/◌, ◌%◌, ◌^◌, ◌≤◌, ◌<◌, min}
 use native.Mathlib.Nat.{zero-div, div-le_self, lt_of_le_of_lt, mul_assoc, mul-one, mul-div_cancel}
 use native.Mathlib.Omega.{arith}
-use borrow.Author.Tests.{lt-ltb, le-ltb}
-use lib.IntN.{ℤ, pos, nat_abs}
+use borrow.Author.Tests.{lt-ltb}
+use lib.IntN.{ℤ, pos}
 use lib.Pow.{pow-add, pow_pos}
 use native.Mathlib.Nat.{mul-pos}
 use Rattle.numbers.specs.Walk.{pick}
 use Rattle.numbers.specs.TwosComplement.{bits_of}
 use Rattle.numbers.proofs.SignLaws.{below_or}
-use Rattle.numbers.specs.SignMagnitude.{sign_magnitude, is_negative}
+use Rattle.numbers.specs.SignMagnitude.{sign_magnitude}
 use Rattle.formats.specs.Format.{unit}
 use Rattle.formats.specs.Codes.{denominator_power, gain_format}
 use Rattle.formats.specs.Words.{gain_fits, gain_at, gain_word}

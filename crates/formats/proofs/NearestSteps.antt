@@ -1,21 +1,21 @@
 -- The steps by which the nearest value of ± o × 2 ^ k with an odd o is found: by the length of o, the least characteristic that reaches it,
 -- and the nearest whole number of its last places. Assumes nothing.
-use mathlib.Core.Path.{◌≡◌, refl, sym, ap, ◌∙◌, subst}
+use mathlib.Core.Path.{◌≡◌, sym, ap, ◌∙◌, subst}
 use mathlib.Core.Logic.{◌⊎◌, inl, inr, ⊎_elim}
-use mathlib.Core.Bool.{Bool, true, false, not, ◌&&◌}
+use mathlib.Core.Bool.{Bool, true, false, ◌&&◌}
 use Prim.Native.Nat.{ℕ, zero, suc, ◌+◌, ◌-◌, ◌*◌, ◌/◌, ◌%◌, ◌^◌, ◌≤◌, ◌<◌, min}
 use native.Mathlib.Nat.{one-mul, mul-pos, pow-suc, mul_assoc, mul_comm, mul-mod_left, le_trans, le_of_eq, lt_of_lt_of_le, mul-le-mul, mul-le-mul_right, mul-lt-mul_of_pos_right, le_of_mul-le-mul_right, div-lt_iff_lt-mul, le-div_iff_mul-le}
 use native.Mathlib.Omega.{arith}
 use borrow.Author.Tests.{lt-ltb, le-ltb}
 use lib.Dec.{T, ltb}
 use lib.Pow.{pow-add, pow_pos, pow_mono}
-use lib.IntN.{ℤ, nat_abs}
+use lib.IntN.{nat_abs}
 use Rattle.numbers.specs.Walk.{pick}
 use Rattle.numbers.specs.SignMagnitude.{sign_magnitude}
 use Rattle.numbers.proofs.SignLaws.{below_or}
 use Rattle.numbers.proofs.Magnitudes.{neg_signed, abs_signed}
 use Rattle.numbers.proofs.FirstLaws.{first_at, none_passes}
-use Rattle.formats.specs.Format.{unit, limit, in_format}
+use Rattle.formats.specs.Format.{unit, limit}
 use Rattle.formats.specs.Steps.{Length, Lowest}
 use Rattle.formats.specs.Nearest.{nearest_multiple, reaching, range_end, nearest_magnitude, nearest_in, changes_in}
 use Rattle.formats.specs.declared.Format.{Format}
@@ -23,7 +23,7 @@ use Rattle.formats.proofs.FitLaws.{place, places_rise, placed_at_lem, placed_odd
 use Rattle.formats.proofs.PlacedLaws.{placed_in, placed_none}
 use Rattle.formats.proofs.DifferLaws.{same_differs, other_differs}
 use Rattle.formats.proofs.RoundLaws.{multiple_above, multiple_below}
-use Rattle.formats.proofs.NearestLaws.{ShortDigits, step, step_fits, under_limit, nearest_self, nearest_other}
+use Rattle.formats.proofs.NearestLaws.{ShortDigits, step, step_fits, nearest_self, nearest_other}
 
 -- ## Changes
 

@@ -1,14 +1,14 @@
 -- What a value's place says of it, and which places a value has. Assumes nothing.
 use mathlib.Core.Path.{◌≡◌, refl, sym, ap, ◌∙◌, subst}
 use mathlib.Core.Logic.{◌⊎◌, inl, inr, ⊎_elim}
-use mathlib.Core.Bool.{Bool, true, false, ◌&&◌}
+use mathlib.Core.Bool.{Bool, true, false}
 use Prim.Native.Nat.{ℕ, zero, suc, ◌+◌, ◌-◌, ◌*◌, ◌/◌, ◌%◌, ◌^◌, ◌≤◌, ◌<◌}
-use native.Mathlib.Nat.{zero-mul, mul_assoc, mul-suc, mul-mod_left, mul-div_cancel, mul-le-mul_left, mul-le-mul_right, le_trans, le_of_eq, mul-pos, sub-add_cancel, lt_of_lt_of_le, mul-lt-mul_of_pos_right, le_of_lt}
+use native.Mathlib.Nat.{zero-mul, mul_assoc, mul-suc, mul-mod_left, mul-div_cancel, mul-le-mul_left, mul-le-mul_right, mul-pos, sub-add_cancel, mul-lt-mul_of_pos_right}
 use native.Mathlib.Omega.{arith}
-use borrow.Author.Tests.{lt-ltb, le-ltb, eq-eqb, ltb-true, ltb-false, eqb-true}
-use lib.Dec.{T, ltb, eqb}
+use borrow.Author.Tests.{lt-ltb, ltb-true, eqb-true}
+use lib.Dec.{T, ltb}
 use lib.Pow.{pow-add, pow_pos, pow_mono}
-use lib.IntN.{ℤ, pos, negsuc, nat_abs}
+use lib.IntN.{ℤ, pos, nat_abs}
 use Rattle.numbers.specs.Walk.{pick}
 use Rattle.numbers.proofs.SignLaws.{below_or}
 use Rattle.numbers.specs.SignMagnitude.{sign_magnitude, is_negative, is_multiple}
@@ -16,7 +16,7 @@ use Rattle.numbers.proofs.BoolLaws.{and_true}
 use Rattle.formats.specs.Format.{Value, unit, limit, fits_at, least_serving, in_format, placed_at, placed}
 use Rattle.formats.specs.declared.Format.{Format}
 use Rattle.formats.specs.declared.Placed.TheVariants.{At, Nowhere}
-use Rattle.numbers.proofs.FirstLaws.{Found, found, first_at}
+use Rattle.numbers.proofs.FirstLaws.{found, first_at}
 use Rattle.formats.proofs.Powers.{whole}
 use Rattle.numbers.proofs.Magnitudes.{neg_signed, abs_signed, signed_back, signed_zero}
 use Rattle.formats.proofs.FitLaws.{zero_fits}

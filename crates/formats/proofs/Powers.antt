@@ -1,11 +1,10 @@
 -- Powers of two: which of them divide a number, and powers compared. Assumes nothing.
-use mathlib.Core.Path.{◌≡◌, refl, sym, ap, ◌∙◌, subst}
-use Prim.Native.Nat.{ℕ, zero, suc, ◌+◌, ◌-◌, ◌*◌, ◌/◌, ◌%◌, ◌^◌, ◌≤◌, ◌<◌}
-use native.Mathlib.Nat.{mul-one, one-mul, mul_assoc, pow-suc, mul-mod_left, mul-div_cancel, mul-le-mul_right, sub-add_cancel, div-add-mod', add-zero, le_of_lt, le_trans, le_of_eq, le_refl, zero-lt-suc, le_of_suc-le-suc, lt_of_le_of_lt}
+use mathlib.Core.Path.{◌≡◌, sym, ap, ◌∙◌}
+use Prim.Native.Nat.{ℕ, suc, ◌+◌, ◌-◌, ◌*◌, ◌/◌, ◌%◌, ◌^◌, ◌≤◌, ◌<◌}
+use native.Mathlib.Nat.{mul_assoc, pow-suc, mul-mod_left, mul-div_cancel, sub-add_cancel, div-add-mod', add-zero, le_of_lt}
 use native.Mathlib.Omega.{arith}
 use mathlib.Core.Logic.{⊎_elim}
 use Rattle.numbers.proofs.SignLaws.{below_or}
-use lib.Count.{count_trailing_zeros, under}
 use lib.Pow.{pow-add, pow_pos, pow_mono, shl-shr}
 
 -- o times 2 ^ k, by another power of two below it

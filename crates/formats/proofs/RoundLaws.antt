@@ -1,13 +1,12 @@
 -- The nearest multiple of a number: which of the two that enclose it, that no multiple is nearer, and the same by a shift. Assumes nothing.
-use mathlib.Core.Path.{◌≡◌, refl, sym, ap, ap₂, ◌∙◌, subst}
+use mathlib.Core.Path.{◌≡◌, sym, ap, ◌∙◌, subst}
 use mathlib.Core.Logic.{◌⊎◌, inl, inr, ⊎_elim}
-use mathlib.Core.Bool.{Bool, true, false}
-use Prim.Native.Nat.{ℕ, zero, suc, ◌+◌, ◌-◌, ◌*◌, ◌/◌, ◌%◌, ◌^◌, ◌≤◌, ◌<◌}
-use native.Mathlib.Nat.{zero-mul, zero-div, zero-mod, suc-mul, pow-suc, add-mul, mul_assoc, mul_comm, mul-mod_left, mul-div_cancel, mul-div-mul_right, mul-add-div_right, mul-lt-mul_of_pos_right, mul-le-mul_right, div-add-mod', div-eq_of_lt, mod-lt, mod-eq_of_lt, le_trans, le_of_eq, lt_of_lt_of_le, sub-add_cancel}
+use Prim.Native.Nat.{ℕ, suc, ◌+◌, ◌-◌, ◌*◌, ◌/◌, ◌%◌, ◌^◌, ◌≤◌, ◌<◌}
+use native.Mathlib.Nat.{zero-mul, suc-mul, pow-suc, add-mul, mul_assoc, mul_comm, mul-mod_left, mul-div_cancel, mul-div-mul_right, mul-add-div_right, mul-lt-mul_of_pos_right, mul-le-mul_right, div-add-mod', div-eq_of_lt, mod-lt, mod-eq_of_lt, sub-add_cancel}
 use native.Mathlib.Omega.{arith}
 use borrow.Author.Tests.{lt-ltb, le-ltb}
 use lib.Dec.{ltb}
-use lib.Pow.{pow-add, pow_pos, pow_mono}
+use lib.Pow.{pow-add, pow_pos}
 use Rattle.numbers.specs.Walk.{pick}
 use Rattle.numbers.proofs.SignLaws.{below_or}
 use Rattle.formats.specs.Nearest.{nearest_multiple}

@@ -1,13 +1,13 @@
 -- The words of a value that is placed. Assumes nothing.
-use mathlib.Core.Path.{◌≡◌, refl, sym, ap, ◌∙◌, subst}
+use mathlib.Core.Path.{◌≡◌, refl, ap}
 use mathlib.Core.Bool.{Bool, true, false, ◌&&◌}
-use Prim.Native.Nat.{ℕ, zero, suc, ◌+◌, ◌-◌, ◌*◌, ◌/◌, ◌%◌, ◌^◌, ◌≤◌, ◌<◌}
-use native.Mathlib.Nat.{zero-mul, mul-pos, mul-le-mul_right, pow-suc}
+use Prim.Native.Nat.{ℕ, ◌+◌, ◌-◌, ◌*◌, ◌/◌, ◌^◌, ◌≤◌, ◌<◌}
+use native.Mathlib.Nat.{mul-le-mul_right}
 use native.Mathlib.Omega.{arith}
-use lib.Pow.{pow_pos, pow_mono}
-use lib.IntN.{ℤ, pos, negsuc, nat_abs}
+use lib.Pow.{pow_mono}
+use lib.IntN.{ℤ, nat_abs}
 use Rattle.numbers.specs.Walk.{pick}
-use Rattle.numbers.specs.SignMagnitude.{sign_magnitude, is_negative}
+use Rattle.numbers.specs.SignMagnitude.{is_negative}
 use Rattle.formats.specs.Format.{unit, limit, in_format, least_serving, placed}
 use Rattle.formats.specs.Steps.{Sound, Float}
 use Rattle.numbers.specs.First.{first}
@@ -15,7 +15,6 @@ use lib.Dec.{eqb, ltb}
 use Rattle.formats.specs.Codes.{ibm_format, whole_format, ieee_format}
 use Rattle.formats.specs.Words.{float_bits, float_of, float_word, whole_of, whole_word, gain_fits, gain_at, word_of}
 use Rattle.formats.specs.declared.Format.{Format}
-use Rattle.numbers.proofs.Magnitudes.{neg_signed, signed_zero}
 use Rattle.formats.specs.declared.Placed.{Placed}
 use Rattle.formats.specs.declared.Placed.TheVariants.{At, Nowhere}
 use Rattle.formats.specs.declared.Written.{Written}

@@ -14,7 +14,7 @@ use lib.Pow.{pow_pos, pow_mono, pow-add, shl_lt}
 use lib.Count.{count_trailing_zeros}
 use lib.IntN.{ℤ, pos, negsuc, neg_ℤ, nat_abs, sub_ℕ, ◌+ℤ◌, ◌*ℤ◌, +ℤ-neg_ℤ_cancel}
 use lib.Signed.{mag}
-use lib.ListN.{length, get_or, drop, length-drop, take-append-drop}
+use lib.ListN.{length, drop, length-drop, take-append-drop}
 use lib.Seq.{take_all}
 use Rattle.numbers.specs.Terms.{Bytes}
 use Rattle.numbers.specs.Iff.{Iff}
@@ -26,7 +26,7 @@ use Rattle.numbers.proofs.BoolLaws.{and_true}
 use Rattle.numbers.proofs.ByteLaws.{number_bytes_lem, number_at_lem, bytes_again}
 use Rattle.numbers.proofs.SignLaws.{below_or, sub_below, sub_above, abs_zero, signed_bits, bits_signed, bits_lt, mag_signed}
 use Rattle.formats.specs.Codes.{denominator_power, is_code}
-use Rattle.formats.specs.Value.{sign_bit, characteristic, fraction, ibm_value, whole_value, gain_value, gain_of, gain_number, ieee_sign, ieee_exponent, ieee_fraction, significand, ieee_power, is_bad, word_number, exact_value}
+use Rattle.formats.specs.Value.{sign_bit, characteristic, fraction, whole_value, gain_of, gain_number, ieee_sign, ieee_exponent, ieee_fraction, significand, ieee_power, is_bad, word_number, exact_value}
 use Rattle.numbers.specs.SignMagnitude.{sign_magnitude, is_negative}
 use Rattle.value.specs.Pair.{highest_exponent, mantissa_bits, pair_of, value_of, is_exponent, is_canonical, pair_bytes, pair_in}
 use Rattle.value.specs.declared.Pair.{Pair}

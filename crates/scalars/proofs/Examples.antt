@@ -2,7 +2,7 @@
 use mathlib.Core.Path.{◌≡◌, refl}
 use mathlib.Core.Bool.{true, false}
 use mathlib.Core.List.{List, [], ◌∷◌}
-use Prim.Native.Nat.{zero, ◌-◌, ◌^◌}
+use Prim.Native.Nat.{◌-◌, ◌^◌}
 use lib.IntN.{ℤ, pos, neg_ℤ}
 use lib.ListN.{replicate}
 use Rattle.numbers.specs.TwosComplement.{bits_of}

@@ -1,6 +1,6 @@
 -- Elevations and coordinates with their scalars, as document 02 sets them (CR 2): "positive multiplies, negative divides, 0 is taken as 1".
 -- A group is document 02's term for the fields of a trace header that one scalar acts on: of one trace, each trace by itself.
-use Rattle.std.specs.Prelude.{ℕ, ◌+◌, ◌-◌, ◌^◌, Bool, true, false, ◌&&◌, ◌||◌, List, [], ◌∷◌, map, ltb, eqb, ℤ, pos, negsuc, neg_ℤ, nat_abs, ◌*ℤ◌}
+use Rattle.std.specs.Prelude.{ℕ, ◌+◌, ◌-◌, ◌^◌, Bool, true, false, ◌&&◌, List, [], ◌∷◌, map, ltb, eqb, ℤ, pos, negsuc, neg_ℤ, nat_abs, ◌*ℤ◌}
 use Rattle.numbers.specs.Walk.{pick, is_among}
 use Rattle.numbers.specs.First.{first}
 use Rattle.numbers.specs.SignMagnitude.{number_of, holds}

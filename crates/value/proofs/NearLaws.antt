@@ -5,9 +5,9 @@ use mathlib.Core.Bool.{Bool, true, false, not, ◌&&◌}
 use Prim.Native.Nat.{ℕ, zero, suc, ◌+◌, ◌-◌, ◌*◌, ◌/◌, ◌%◌, ◌^◌, ◌≤◌, ◌<◌, min}
 use native.Mathlib.Nat.{zero-mul, mul-pos, mul-div_cancel, mul-le-mul_right}
 use native.Mathlib.Omega.{arith}
-use borrow.Author.Tests.{lt-ltb, eq-eqb, ne_eqb}
+use borrow.Author.Tests.{lt-ltb, ne_eqb}
 use lib.Dec.{eqb}
-use lib.IntN.{ℤ, pos, nat_abs}
+use lib.IntN.{ℤ, nat_abs}
 use lib.Pow.{pow_pos}
 use Rattle.numbers.specs.Walk.{pick}
 use Rattle.numbers.specs.TwosComplement.{bits_of}
@@ -15,18 +15,18 @@ use Rattle.numbers.specs.SignMagnitude.{sign_magnitude, is_negative}
 use Rattle.numbers.proofs.SignLaws.{below_or}
 use Rattle.numbers.proofs.Magnitudes.{neg_signed, abs_signed, signed_zero}
 use Rattle.numbers.proofs.FirstLaws.{first_at}
-use Rattle.formats.specs.Codes.{denominator_power, whole_format, gain_format}
+use Rattle.formats.specs.Codes.{denominator_power, whole_format}
 use Rattle.formats.specs.Format.{unit, limit, fits_at, placed_at, placed}
-use Rattle.formats.specs.Steps.{Sound, Float, Length, Lowest}
-use Rattle.formats.specs.Words.{float_bits, float_of, float_word, whole_of, whole_word, gain_word, word_bits}
-use Rattle.formats.specs.Nearest.{nearest_multiple, range_end, nearest_magnitude, nearest_in, changes_in}
+use Rattle.formats.specs.Steps.{Float, Length, Lowest}
+use Rattle.formats.specs.Words.{float_bits, float_of, float_word, whole_of, whole_word, word_bits}
+use Rattle.formats.specs.Nearest.{nearest_multiple, nearest_magnitude, nearest_in, changes_in}
 use Rattle.formats.specs.declared.Format.{Format}
 use Rattle.formats.specs.declared.Placed.{Placed}
 use Rattle.formats.specs.declared.Placed.TheVariants.{At}
 use Rattle.formats.specs.declared.Written.{Written}
 use Rattle.formats.specs.declared.Written.TheVariants.{Word}
 use Rattle.formats.proofs.FitLaws.{place, fraction_at}
-use Rattle.formats.proofs.PlacedLaws.{serves_value, placed_normal, placed_only, placed_is, Place}
+use Rattle.formats.proofs.PlacedLaws.{serves_value, placed_normal, placed_only, placed_is}
 use Rattle.formats.proofs.Powers.{parted}
 use Rattle.formats.proofs.NearestLaws.{ShortDigits, step, step_fits, under_limit}
 use Rattle.formats.proofs.FitLaws as fits

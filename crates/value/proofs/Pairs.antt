@@ -3,9 +3,8 @@ use mathlib.Core.Path.{◌≡◌, refl, sym, ap, ◌∙◌, subst}
 use mathlib.Core.Logic.{⊎_elim}
 use mathlib.Core.Bool.{Bool, true, false}
 use Prim.Native.Nat.{ℕ, zero, suc, ◌-◌, ◌*◌, ◌%◌, ◌^◌, ◌≤◌, ◌<◌}
-use native.Mathlib.Nat.{lt_of_le_of_lt, zero-lt-suc, suc-mul, pow-suc}
+use native.Mathlib.Nat.{lt_of_le_of_lt, zero-lt-suc}
 use native.Mathlib.Omega.{arith}
-use lib.Pow.{pow-add}
 use lib.IntN.{ℤ, pos, negsuc, sub_ℕ, ◌+ℤ◌}
 use mir.Syntax.{Width}
 use mir.Val.{SFits, hbits}

@@ -1,6 +1,6 @@
 -- What writing a pair gives, exactly and to the nearest, by the pair's parts. Assumes nothing.
 use Prim.Native.Nat.{ℕ, ◌*◌, ◌^◌}
-use mathlib.Core.Path.{◌≡◌, refl, sym, ap, ap₂, ◌∙◌}
+use mathlib.Core.Path.{◌≡◌, refl, ap, ap₂, ◌∙◌}
 use mathlib.Core.Bool.{Bool, true, false}
 use lib.IntN.{ℤ, pos}
 use Rattle.numbers.specs.First.{first}
@@ -8,7 +8,6 @@ use Rattle.numbers.specs.SignMagnitude.{sign_magnitude}
 use Rattle.formats.specs.Codes.{is_code, format_of}
 use Rattle.formats.specs.Words.{word_of, word_bits}
 use Rattle.formats.specs.Nearest.{nearest_in, differs}
-use Rattle.value.specs.Pair.{is_canonical, value_of}
 use Rattle.value.specs.Writing.{write_pair, rounded_by, nearest_pair}
 use Rattle.value.specs.Parts.{PartsOf}
 use Rattle.value.specs.declared.Pair.{Pair}

@@ -1,13 +1,13 @@
 -- The steps by which a value is placed and its word made: the length of its magnitude in bits, the least characteristic, the fraction by one
 -- shift, and the bits of two's complement. Assumes nothing.
-use mathlib.Core.Path.{◌≡◌, refl, sym, ap, ◌∙◌, subst}
+use mathlib.Core.Path.{◌≡◌, refl, sym, ◌∙◌, subst}
 use mathlib.Core.Logic.{⊎_elim}
 use mathlib.Core.Bool.{Bool, true, false, ◌&&◌}
 use Prim.Native.Nat.{ℕ, zero, suc, ◌+◌, ◌-◌, ◌*◌, ◌/◌, ◌%◌, ◌^◌, ◌≤◌, ◌<◌, min}
 use native.Mathlib.Nat.{div-eq_of_lt, lt-mul-div-succ, mul-div-le, mul-le-mul_left, mul-le-mul_right, mul-suc, mul-add, mul-one, one-mul, zero-mul, pow-suc}
 use native.Mathlib.Omega.{arith}
 use lib.Count.{count_leading_zeros, leading_top}
-use lib.Pow.{pow_pos, pow_mono}
+use lib.Pow.{pow_mono}
 use Rattle.numbers.specs.Walk.{pick}
 use Rattle.numbers.specs.TwosComplement.{bits_of}
 use Rattle.numbers.specs.SignMagnitude.{sign_magnitude, is_negative}

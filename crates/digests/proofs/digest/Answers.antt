@@ -2,7 +2,7 @@
 use Rattle.digests.specs.Digest.{digest_from}
 use Rattle.numbers.proofs.WalkLaws.{drop_next}
 use lib.ListN.{length, drop_of_length-le}
-use Prim.Native.Nat.{◌-◌, ◌≤◌, ◌<◌}
+use Prim.Native.Nat.{◌≤◌, ◌<◌}
 use native.Mathlib.Nat.{mod-lt}
 use mathlib.Core.Path.{refl, sym, ap, ◌∙◌}
 use native.Mathlib.Omega.{arith}

@@ -3,8 +3,8 @@ use Rattle.reel_box.proofs.BoxLaws.{sum_drop, sum_end}
 use Rattle.numbers.specs.Walk.{sum}
 use borrow.Author.Tests.{eq-eqb, ne_eqb, eqb-true}
 use Rattle.numbers.proofs.BoolLaws.{same_test}
-use lib.ListN.{length, get_or, drop}
-use Prim.Native.Nat.{◌+◌, ◌-◌}
+use lib.ListN.{get_or, drop}
+use Prim.Native.Nat.{◌+◌}
 use mathlib.Core.Path.{◌≡◌, sym}
 use native.Mathlib.Omega.{arith}
 use Rattle.reel_box.proofs.add_up.Goals.{In-loop-i}

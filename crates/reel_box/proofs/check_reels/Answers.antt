@@ -6,7 +6,7 @@ use Rattle.numbers.specs.Outcome.{taken}
 use Rattle.numbers.specs.declared.Check.TheVariants.{Fine}
 use Rattle.numbers.proofs.WalkLaws.{drop_next}
 use lib.ListN.{length, get_or, drop, drop_of_length-le}
-use Prim.Native.Nat.{ℕ, ◌+◌, ◌-◌, ◌≤◌}
+use Prim.Native.Nat.{ℕ, ◌+◌, ◌≤◌}
 use mathlib.Core.List.{List, [], ◌∷◌}
 use mathlib.Core.Path.{◌≡◌, refl, sym, ap, ◌∙◌}
 use native.Mathlib.Omega.{arith}

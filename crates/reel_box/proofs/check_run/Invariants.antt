@@ -1,6 +1,6 @@
 use Rattle.reel_box.specs.Box.{run_rules}
 use lib.ListN.{length}
-use Prim.Native.Nat.{◌+◌, ◌-◌, ◌*◌, ◌≤◌}
+use Prim.Native.Nat.{◌+◌, ◌*◌, ◌≤◌}
 use mathlib.Core.Path.{◌≡◌}
 use Rattle.reel_box.proofs.check_run.Given as goal
 

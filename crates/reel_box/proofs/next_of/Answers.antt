@@ -1,7 +1,7 @@
 -- `reel_box::next_of` meets its contract. Assumes nothing.
 use Rattle.reel_box.proofs.BoxLaws.{plus_one}
 use Rattle.reel_box.specs.Box.{next_of}
-use lib.IntN.{ℤ, pos, ◌+ℤ◌}
+use lib.IntN.{pos, ◌+ℤ◌}
 use mathlib.Core.Path.{ap}
 use mir.Facts.{to_z-of_z}
 use mir.Syntax.{w64}

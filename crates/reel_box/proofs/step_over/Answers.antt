@@ -12,7 +12,7 @@ use Rattle.numbers.specs.Terms.{at_place}
 use Rattle.numbers.specs.declared.Check.TheVariants.{Refused}
 use Rattle.numbers.specs.declared.Place.{Place}
 use lib.ListN.{length}
-use Prim.Native.Nat.{ℕ, ◌+◌, ◌-◌, ◌*◌, ◌^◌, ◌≤◌, ◌<◌}
+use Prim.Native.Nat.{ℕ, ◌+◌, ◌*◌, ◌^◌, ◌≤◌, ◌<◌}
 use mathlib.Core.Path.{◌≡◌, sym, ap, ap₂, ◌∙◌, subst}
 use native.Mathlib.Omega.{arith}
 use borrow.Author.Rules.{rules}

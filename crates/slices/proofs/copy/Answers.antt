@@ -4,7 +4,6 @@ use Rattle.numbers.proofs.WalkLaws.{drop_next, copied}
 use Rattle.numbers.specs.Walk.{copy_of}
 use borrow.Author.Tests.{ne_eqb}
 use lib.ListN.{length, length-set, drop_of_length-le}
-use Prim.Native.Nat.{◌-◌}
 use mathlib.Core.Path.{refl, sym, ◌∙◌}
 use native.Mathlib.Omega.{arith}
 use Rattle.slices.proofs.copy.Goals as goal

@@ -1,6 +1,5 @@
 -- `value::nearest_at` meets its contract. Assumes nothing.
 use Rattle.formats.proofs.CodeLaws.{ibm_float, single_float, last_code}
-use Rattle.formats.specs.Codes.{format_of}
 use Rattle.formats.specs.Steps.{Float}
 use Rattle.formats.specs.Words.{float_word}
 use Rattle.formats.specs.declared.Format.{Format}

@@ -3,7 +3,7 @@ use Rattle.formats.proofs.FitLaws.{placed_at_lem, placed_high, placed_odd}
 use Rattle.value.proofs.PlaceLaws.{shift_placed}
 use Rattle.formats.specs.Steps.{Length, Lowest}
 use Rattle.numbers.specs.Walk.{pick}
-use Prim.Native.Nat.{ℕ, ◌+◌, ◌-◌}
+use Prim.Native.Nat.{ℕ, ◌+◌}
 use mathlib.Core.Bool.{Bool, ◌&&◌}
 use mathlib.Core.Path.{sym, subst}
 use native.Mathlib.Omega.{arith}

@@ -1,5 +1,5 @@
 -- `value::sign_of` meets its contract. Assumes nothing.
-use mathlib.Core.Bool.{Bool, true, not, ◌&&◌}
+use mathlib.Core.Bool.{Bool, not, ◌&&◌}
 use mathlib.Core.Path.{sym, ap}
 use lib.Dec.{eqb}
 use Rattle.value.proofs.sign_of.Goals as goal
