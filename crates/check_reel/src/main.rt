@@ -4,22 +4,22 @@
 
 ghost use Rattle.std.specs.Prelude.{◌≡◌, length, ◌≤◌};
 
-use libc::{STDIN_FILENO, STDOUT_FILENO};
 use line::Line;
+use std::io;
 
 // Prints a line.
-fn print(l: Line)
+fn print(rt: &impl Print, l: Line) -> io::Result<()>
     requires { (l.length ≤ 96) × (length l.bytes ≡ 96) }
 {
     let bytes = l.bytes;
     let n = l.length;
-    io::write_all(STDOUT_FILENO, &bytes[..n]);
+    rt.write_all(&bytes[..n])
 }
 
 // Asks for one byte more than the 65,536 that it takes, by which longer input is known.
-fn main() {
+fn main(rt: HostRuntime) -> io::Result<()> {
     let mut input = [0u8; 65537];
-    let n = io::read_full(STDIN_FILENO, &mut input);
+    let n = inputs::read_full(&mut rt.reader(), &mut input)?;
     let mut record = [0u8; 65536];
-    print(line::program_line(&input[..n], &mut record));
+    print(&rt, line::program_line(&input[..n], &mut record))
 }

@@ -15,23 +15,23 @@
 // or of another call, is answered by `bad case`, and is the last.
 #![tactic(auto)]
 
-use libc::{STDIN_FILENO, STDOUT_FILENO};
 use record::Counted;
+use std::io;
+use std::io::Read;
 
 // One space and a number.
-fn print_item(n: u64) {
-    io::write_all(STDOUT_FILENO, b" ");
-    io::print_decimal(STDOUT_FILENO, n);
+fn print_item(rt: &impl Print, n: u64) -> io::Result<()> {
+    print!(rt; " {n}")
 }
 
 // The digest of the output, and the end of a line.
-fn print_digest(out: &[u8]) {
-    print_item(digests::digest(out));
-    io::write_all(STDOUT_FILENO, b"\n");
+fn print_digest(rt: &impl Print, out: &[u8]) -> io::Result<()> {
+    print_item(rt, digests::digest(out))?;
+    println!(rt)
 }
 
 // The line of a reel that was read or refused.
-fn print_answer(answer: Counted, out: &[u8]) {
+fn print_answer(rt: &impl Print, answer: Counted, out: &[u8]) -> io::Result<()> {
     match answer {
         Counted::Taken {
             traces,
@@ -39,77 +39,93 @@ fn print_answer(answer: Counted, out: &[u8]) {
             length,
             count,
         } => {
-            io::write_all(STDOUT_FILENO, b"taken");
-            print_item(traces as u64);
-            print_item(samples as u64);
-            print_item(length as u64);
-            print_item(count as u64);
-            print_digest(out);
+            print!(rt; "taken")?;
+            print_item(rt, traces as u64)?;
+            print_item(rt, samples as u64)?;
+            print_item(rt, length as u64)?;
+            print_item(rt, count as u64)?;
+            print_digest(rt, out)
         }
         Counted::Refused { number, place } => {
-            io::write_all(STDOUT_FILENO, b"refused");
-            print_item(number as u64);
-            print_item(place.0 as u64);
-            print_digest(out);
+            print!(rt; "refused")?;
+            print_item(rt, number as u64)?;
+            print_item(rt, place.0 as u64)?;
+            print_digest(rt, out)
         }
     }
 }
 
 // The line of a case of call 1.
-fn run_plain(reel: &[u8], out: &mut [u8]) {
+fn run_plain(rt: &impl Print, reel: &[u8], out: &mut [u8]) -> io::Result<()> {
     let answer = read_reel::read_reel(reel, out);
-    print_answer(answer, out);
+    print_answer(rt, answer, out)
 }
 
 // The line of a case of call 2.
-fn run_eagle(reel: &[u8], out: &mut [u8]) {
+fn run_eagle(rt: &impl Print, reel: &[u8], out: &mut [u8]) -> io::Result<()> {
     let answer = read_reel::read_eagle(reel, out);
-    print_answer(answer, out);
+    print_answer(rt, answer, out)
 }
 
 // The line of a case of another form, which is the last.
-fn refuse_case() -> bool {
-    io::write_all(STDOUT_FILENO, b"bad case\n");
-    false
+fn refuse_case(rt: &impl Print) -> io::Result<bool> {
+    println!(rt; "bad case")?;
+    Ok(false)
 }
 
 // Reads the reel of a case and runs it, and says whether to go on.
-fn run_sized(call: u8, reel: &mut [u8], out: &mut [u8]) -> bool {
-    let n = io::read_full(STDIN_FILENO, reel);
+fn run_sized(
+    rt: &impl Print,
+    input: &mut impl Read,
+    call: u8,
+    reel: &mut [u8],
+    out: &mut [u8],
+) -> io::Result<bool> {
+    let n = inputs::read_full(input, reel)?;
     if n < reel.len() {
-        return refuse_case();
+        return refuse_case(rt);
     }
     digests::fill(0xa5, out);
     if call == 1 {
-        run_plain(reel, out);
-        return true;
+        run_plain(rt, reel, out)?;
+        return Ok(true);
     }
     if call == 2 {
-        run_eagle(reel, out);
-        return true;
+        run_eagle(rt, reel, out)?;
+        return Ok(true);
     }
-    refuse_case()
+    refuse_case(rt)
 }
 
 // The same with buffers of which it uses the front, as much as the case asks for.
-fn run_reel(call: u8, room: usize, size: usize, reel: &mut [u8], out: &mut [u8]) -> bool {
+fn run_reel(
+    rt: &impl Print,
+    input: &mut impl Read,
+    call: u8,
+    room: usize,
+    size: usize,
+    reel: &mut [u8],
+    out: &mut [u8],
+) -> io::Result<bool> {
     if reel.len() < size {
-        return refuse_case();
+        return refuse_case(rt);
     }
     if out.len() < room {
-        return refuse_case();
+        return refuse_case(rt);
     }
-    run_sized(call, &mut reel[..size], &mut out[..room])
+    run_sized(rt, input, call, &mut reel[..size], &mut out[..room])
 }
 
 // Reads a case and runs it, and says whether to go on: not past the end of the input.
-fn run_case() -> bool {
+fn run_case(rt: &impl Print, input: &mut impl Read) -> io::Result<bool> {
     let mut head = [0u8; 9];
-    let n = io::read_full(STDIN_FILENO, &mut head);
+    let n = inputs::read_full(input, &mut head)?;
     if n == 9 {
         let mut reel = [0u8; 210000];
         let mut out = [0u8; 210000];
         return run_reel(
+            rt,
+            input,
             head[0],
             numbers::be32(head[1], head[2], head[3], head[4]) as usize,
             numbers::be32(head[5], head[6], head[7], head[8]) as usize,
@@ -118,16 +134,19 @@ fn run_case() -> bool {
         );
     }
     if 0 < n {
-        return refuse_case();
+        return refuse_case(rt);
     }
-    false
+    Ok(false)
 }
 
-// A proved loop has to end, and nothing says that the input does. So the loop counts its turns down,
-// from a number that no run uses up.
-fn main() {
-    let mut turns = u64::MAX;
-    while turns > 0 && run_case() {
-        turns -= 1;
+// A proved loop has to end, and nothing says that the input does. So the loop counts its turns, up to
+// a number that no run reaches.
+fn main(rt: HostRuntime) -> io::Result<()> {
+    let mut input = rt.reader();
+    for _ in 0..u64::MAX {
+        if !run_case(&rt, &mut input)? {
+            break;
+        }
     }
+    Ok(())
 }

@@ -19,119 +19,140 @@
 // call 3 with another length than 8, is answered by `bad case`, and is the last.
 #![tactic(auto)]
 
-use libc::{STDIN_FILENO, STDOUT_FILENO};
 use listing::Listed;
 use record::Answer;
+use std::io;
+use std::io::Read;
 
 // One space and a number.
-fn print_item(n: u64) {
-    io::write_all(STDOUT_FILENO, b" ");
-    io::print_decimal(STDOUT_FILENO, n);
+fn print_item(rt: &impl Print, n: u64) -> io::Result<()> {
+    print!(rt; " {n}")
 }
 
 // The end of a line.
-fn print_end() {
-    io::write_all(STDOUT_FILENO, b"\n");
+fn print_end(rt: &impl Print) -> io::Result<()> {
+    println!(rt)
 }
 
 // The line of a record that was listed.
-fn print_listed(length: usize, out: &[u8]) {
-    io::write_all(STDOUT_FILENO, b"taken");
-    print_item(length as u64);
-    print_item(digests::digest(out));
-    print_end();
+fn print_listed(rt: &impl Print, length: usize, out: &[u8]) -> io::Result<()> {
+    print!(rt; "taken")?;
+    print_item(rt, length as u64)?;
+    print_item(rt, digests::digest(out))?;
+    print_end(rt)
 }
 
 // The line of a listing that was taken back.
-fn print_taken(traces: usize, samples: usize, length: usize, out: &[u8]) {
-    io::write_all(STDOUT_FILENO, b"taken");
-    print_item(traces as u64);
-    print_item(samples as u64);
-    print_item(length as u64);
-    print_item(digests::digest(out));
-    print_end();
+fn print_taken(
+    rt: &impl Print,
+    traces: usize,
+    samples: usize,
+    length: usize,
+    out: &[u8],
+) -> io::Result<()> {
+    print!(rt; "taken")?;
+    print_item(rt, traces as u64)?;
+    print_item(rt, samples as u64)?;
+    print_item(rt, length as u64)?;
+    print_item(rt, digests::digest(out))?;
+    print_end(rt)
 }
 
 // The line of a call that was refused.
-fn print_refused(number: u8, place: usize, out: &[u8]) {
-    io::write_all(STDOUT_FILENO, b"refused");
-    print_item(number as u64);
-    print_item(place as u64);
-    print_item(digests::digest(out));
-    print_end();
+fn print_refused(rt: &impl Print, number: u8, place: usize, out: &[u8]) -> io::Result<()> {
+    print!(rt; "refused")?;
+    print_item(rt, number as u64)?;
+    print_item(rt, place as u64)?;
+    print_item(rt, digests::digest(out))?;
+    print_end(rt)
 }
 
 // The line of a case of call 1.
-fn list(record: &[u8], out: &mut [u8]) {
+fn list(rt: &impl Print, record: &[u8], out: &mut [u8]) -> io::Result<()> {
     match listing::list_cards(record, out) {
-        Listed::Taken { length } => print_listed(length, out),
-        Listed::Refused { number, place } => print_refused(number, place.0, out),
+        Listed::Taken { length } => print_listed(rt, length, out),
+        Listed::Refused { number, place } => print_refused(rt, number, place.0, out),
     }
 }
 
 // The line of a case of call 2.
-fn take_back(record: &[u8], listing: &[u8], out: &mut [u8]) {
+fn take_back(rt: &impl Print, record: &[u8], listing: &[u8], out: &mut [u8]) -> io::Result<()> {
     match listing::take_cards(record, listing, out) {
         Answer::Taken {
             traces,
             samples,
             length,
-        } => print_taken(traces, samples, length, out),
-        Answer::Refused { number, place } => print_refused(number, place.0, out),
+        } => print_taken(rt, traces, samples, length, out),
+        Answer::Refused { number, place } => print_refused(rt, number, place.0, out),
     }
 }
 
 // The line of a case of another form, which is the last.
-fn refuse_case() -> bool {
-    io::write_all(STDOUT_FILENO, b"bad case\n");
-    false
+fn refuse_case(rt: &impl Print) -> io::Result<bool> {
+    println!(rt; "bad case")?;
+    Ok(false)
 }
 
 // The line of a case of call 3, and whether to go on: not where it isn't of eight card bytes.
-fn blank(cards: &[u8]) -> bool {
+fn blank(rt: &impl Print, cards: &[u8]) -> io::Result<bool> {
     if cards.len() != 8 {
-        return refuse_case();
+        return refuse_case(rt);
     }
     let a = numbers::be32(cards[0], cards[1], cards[2], cards[3]) as u64;
     let b = numbers::be32(cards[4], cards[5], cards[6], cards[7]) as u64;
-    io::write_all(STDOUT_FILENO, b"blanked");
-    print_item(cards::blank_eight(a * 0x1_0000_0000 + b));
-    print_end();
-    true
+    print!(rt; "blanked")?;
+    print_item(rt, cards::blank_eight(a * 0x1_0000_0000 + b))?;
+    print_end(rt)?;
+    Ok(true)
 }
 
 // The line of a case, and whether to go on.
-fn run(call: u8, record: &[u8], listing: &[u8], out: &mut [u8]) -> bool {
+fn run(
+    rt: &impl Print,
+    call: u8,
+    record: &[u8],
+    listing: &[u8],
+    out: &mut [u8],
+) -> io::Result<bool> {
     digests::fill(0xa5, out);
     if call == 1 {
-        list(record, out);
-        return true;
+        list(rt, record, out)?;
+        return Ok(true);
     }
     if call == 2 {
-        take_back(record, listing, out);
-        return true;
+        take_back(rt, record, listing, out)?;
+        return Ok(true);
     }
     if call == 3 {
-        return blank(record);
+        return blank(rt, record);
     }
-    refuse_case()
+    refuse_case(rt)
 }
 
 // Reads the record and the listing of a case and runs it, and says whether to go on.
-fn run_sized(call: u8, record: &mut [u8], listing: &mut [u8], out: &mut [u8]) -> bool {
-    let n = io::read_full(STDIN_FILENO, record);
+fn run_sized(
+    rt: &impl Print,
+    input: &mut impl Read,
+    call: u8,
+    record: &mut [u8],
+    listing: &mut [u8],
+    out: &mut [u8],
+) -> io::Result<bool> {
+    let n = inputs::read_full(input, record)?;
     if n < record.len() {
-        return refuse_case();
+        return refuse_case(rt);
     }
-    let m = io::read_full(STDIN_FILENO, listing);
+    let m = inputs::read_full(input, listing)?;
     if m < listing.len() {
-        return refuse_case();
+        return refuse_case(rt);
     }
-    run(call, record, listing, out)
+    run(rt, call, record, listing, out)
 }
 
 // The same with buffers of which it uses the front, as much as the case asks for.
 fn run_parts(
+    rt: &impl Print,
+    input: &mut impl Read,
     call: u8,
     room: usize,
     record_size: usize,
@@ -139,17 +160,19 @@ fn run_parts(
     record: &mut [u8],
     listing: &mut [u8],
     out: &mut [u8],
-) -> bool {
+) -> io::Result<bool> {
     if record.len() < record_size {
-        return refuse_case();
+        return refuse_case(rt);
     }
     if listing.len() < listing_size {
-        return refuse_case();
+        return refuse_case(rt);
     }
     if out.len() < room {
-        return refuse_case();
+        return refuse_case(rt);
     }
     run_sized(
+        rt,
+        input,
         call,
         &mut record[..record_size],
         &mut listing[..listing_size],
@@ -158,14 +181,16 @@ fn run_parts(
 }
 
 // Reads a case and runs it, and says whether to go on: not past the end of the input.
-fn run_case() -> bool {
+fn run_case(rt: &impl Print, input: &mut impl Read) -> io::Result<bool> {
     let mut head = [0u8; 13];
-    let n = io::read_full(STDIN_FILENO, &mut head);
+    let n = inputs::read_full(input, &mut head)?;
     if n == 13 {
         let mut record = [0u8; 210000];
         let mut listing = [0u8; 210000];
         let mut out = [0u8; 210000];
         return run_parts(
+            rt,
+            input,
             head[0],
             numbers::be32(head[1], head[2], head[3], head[4]) as usize,
             numbers::be32(head[5], head[6], head[7], head[8]) as usize,
@@ -176,16 +201,19 @@ fn run_case() -> bool {
         );
     }
     if 0 < n {
-        return refuse_case();
+        return refuse_case(rt);
     }
-    false
+    Ok(false)
 }
 
-// A proved loop has to end, and nothing says that the input does. So the loop counts its turns down,
-// from a number that no run uses up.
-fn main() {
-    let mut turns = u64::MAX;
-    while turns > 0 && run_case() {
-        turns -= 1;
+// A proved loop has to end, and nothing says that the input does. So the loop counts its turns, up to
+// a number that no run reaches.
+fn main(rt: HostRuntime) -> io::Result<()> {
+    let mut input = rt.reader();
+    for _ in 0..u64::MAX {
+        if !run_case(&rt, &mut input)? {
+            break;
+        }
     }
+    Ok(())
 }

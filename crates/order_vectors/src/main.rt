@@ -17,89 +17,102 @@
 
 use compare::Answer;
 use exact::Order;
-use libc::{STDIN_FILENO, STDOUT_FILENO};
+use std::io;
+use std::io::Read;
 
 // One space and a number.
-fn print_item(n: u64) {
-    io::write_all(STDOUT_FILENO, b" ");
-    io::print_decimal(STDOUT_FILENO, n);
+fn print_item(rt: &impl Print, n: u64) -> io::Result<()> {
+    print!(rt; " {n}")
 }
 
 // The line of two records that are taken.
-fn print_order(order: Order) {
+fn print_order(rt: &impl Print, order: Order) -> io::Result<()> {
     match order {
-        Order::Less => {
-            io::write_all(STDOUT_FILENO, b"lesser\n");
-        }
-        Order::Same => {
-            io::write_all(STDOUT_FILENO, b"equal\n");
-        }
-        Order::More => {
-            io::write_all(STDOUT_FILENO, b"greater\n");
-        }
+        Order::Less => println!(rt; "lesser"),
+        Order::Same => println!(rt; "equal"),
+        Order::More => println!(rt; "greater"),
     }
 }
 
 // The line of a record that is refused.
-fn print_refused(which: u8, number: u8, place: usize) {
-    io::write_all(STDOUT_FILENO, b"refused");
-    print_item(which as u64);
-    print_item(number as u64);
-    print_item(place as u64);
-    io::write_all(STDOUT_FILENO, b"\n");
+fn print_refused(rt: &impl Print, which: u8, number: u8, place: usize) -> io::Result<()> {
+    print!(rt; "refused")?;
+    print_item(rt, which as u64)?;
+    print_item(rt, number as u64)?;
+    print_item(rt, place as u64)?;
+    println!(rt)
 }
 
 // The line of a case.
-fn run(first: &[u8], second: &[u8]) {
+fn run(rt: &impl Print, first: &[u8], second: &[u8]) -> io::Result<()> {
     match compare::compare_records(first, second) {
-        Answer::Ordered(order) => print_order(order),
+        Answer::Ordered(order) => print_order(rt, order),
         Answer::Refused {
             which,
             number,
             place,
-        } => print_refused(which, number, place.0),
+        } => print_refused(rt, which, number, place.0),
     }
 }
 
 // The line of a case of another form, which is the last.
-fn refuse_case() -> bool {
-    io::write_all(STDOUT_FILENO, b"bad case\n");
-    false
+fn refuse_case(rt: &impl Print) -> io::Result<bool> {
+    println!(rt; "bad case")?;
+    Ok(false)
 }
 
 // Reads the records of a case and runs it, and says whether to go on.
-fn run_sized(first: &mut [u8], second: &mut [u8]) -> bool {
-    let n = io::read_full(STDIN_FILENO, first);
+fn run_sized(
+    rt: &impl Print,
+    input: &mut impl Read,
+    first: &mut [u8],
+    second: &mut [u8],
+) -> io::Result<bool> {
+    let n = inputs::read_full(input, first)?;
     if n < first.len() {
-        return refuse_case();
+        return refuse_case(rt);
     }
-    let m = io::read_full(STDIN_FILENO, second);
+    let m = inputs::read_full(input, second)?;
     if m < second.len() {
-        return refuse_case();
+        return refuse_case(rt);
     }
-    run(first, second);
-    true
+    run(rt, first, second)?;
+    Ok(true)
 }
 
 // The same with buffers of which it uses the front, as much as the case asks for.
-fn run_records(first_size: usize, second_size: usize, first: &mut [u8], second: &mut [u8]) -> bool {
+fn run_records(
+    rt: &impl Print,
+    input: &mut impl Read,
+    first_size: usize,
+    second_size: usize,
+    first: &mut [u8],
+    second: &mut [u8],
+) -> io::Result<bool> {
     if first.len() < first_size {
-        return refuse_case();
+        return refuse_case(rt);
     }
     if second.len() < second_size {
-        return refuse_case();
+        return refuse_case(rt);
     }
-    run_sized(&mut first[..first_size], &mut second[..second_size])
+    run_sized(
+        rt,
+        input,
+        &mut first[..first_size],
+        &mut second[..second_size],
+    )
 }
 
 // Reads a case and runs it, and says whether to go on: not past the end of the input.
-fn run_case() -> bool {
+fn run_case(rt: &impl Print, input: &mut impl Read) -> io::Result<bool> {
     let mut head = [0u8; 8];
-    let n = io::read_full(STDIN_FILENO, &mut head);
+    let n = inputs::read_full(input, &mut head)?;
     if n == 8 {
         let mut first = [0u8; 100000];
         let mut second = [0u8; 100000];
         return run_records(
+            rt,
+            input,
             numbers::be32(head[0], head[1], head[2], head[3]) as usize,
             numbers::be32(head[4], head[5], head[6], head[7]) as usize,
             &mut first,
@@ -107,16 +120,19 @@ fn run_case() -> bool {
         );
     }
     if 0 < n {
-        return refuse_case();
+        return refuse_case(rt);
     }
-    false
+    Ok(false)
 }
 
-// A proved loop has to end, and nothing says that the input does. So the loop counts its turns down,
-// from a number that no run uses up.
-fn main() {
-    let mut turns = u64::MAX;
-    while turns > 0 && run_case() {
-        turns -= 1;
+// A proved loop has to end, and nothing says that the input does. So the loop counts its turns, up to
+// a number that no run reaches.
+fn main(rt: HostRuntime) -> io::Result<()> {
+    let mut input = rt.reader();
+    for _ in 0..u64::MAX {
+        if !run_case(&rt, &mut input)? {
+            break;
+        }
     }
+    Ok(())
 }

@@ -15,8 +15,9 @@
 
 ghost use Rattle.std.specs.Prelude.{◌≤◌};
 
-use libc::{STDIN_FILENO, STDOUT_FILENO};
 use sample::{Answer, WordAnswer};
+use std::io;
+use std::io::Read;
 
 // What two hexadecimal digits spell: a byte, or 0 where they are not both digits.
 #[derive(Clone, Copy)]
@@ -191,22 +192,22 @@ fn reply_to(answer: Answer) -> [u8; 36] {
     }
 }
 
-// Writes a reply, and says whether that went well, as each function that answers a line does.
-fn send(reply: &[u8; 36]) -> bool {
-    io::write_all(STDOUT_FILENO, reply)
+// Writes a reply.
+fn send(rt: &impl Print, reply: &[u8; 36]) -> io::Result<()> {
+    rt.write_all(reply)
 }
 
 // Answers a line that is of neither form.
-fn refuse_line() -> bool {
-    io::write_all(STDOUT_FILENO, b"bad line\n")
+fn refuse_line(rt: &impl Print) -> io::Result<()> {
+    println!(rt; "bad line")
 }
 
 // Answers a line that asks for a word to be read.
-fn read_word(line: [u8; 24]) -> bool {
+fn read_word(rt: &impl Print, line: [u8; 24]) -> io::Result<()> {
     let code = code_of(line);
     let word = word_of(line);
     if !(code.good && word.good) {
-        return refuse_line();
+        return refuse_line(rt);
     }
     let read = sample::read_word(code.value, word.bytes);
     let pair = read.pair;
@@ -217,15 +218,15 @@ fn read_word(line: [u8; 24]) -> bool {
         25,
         numbers::be32(pair[2], pair[3], pair[4], pair[5]),
     );
-    send(&reply)
+    send(rt, &reply)
 }
 
 // Answers a line that asks for a pair to be written.
-fn write_pair(line: [u8; 24]) -> bool {
+fn write_pair(rt: &impl Print, line: [u8; 24]) -> io::Result<()> {
     let code = code_of(line);
     let pair = pair_of(line);
     if !(code.good && pair.good) {
-        return refuse_line();
+        return refuse_line(rt);
     }
     let written = sample::write_pair(code.value, pair.bytes);
     let word = written.word;
@@ -235,39 +236,43 @@ fn write_pair(line: [u8; 24]) -> bool {
         21,
         numbers::be32(word[0], word[1], word[2], word[3]),
     );
-    send(&reply)
+    send(rt, &reply)
 }
 
 // Answers a line, by its letter.
-fn answer_line(line: [u8; 24]) -> bool {
+fn answer_line(rt: &impl Print, line: [u8; 24]) -> io::Result<()> {
     if !(line[1] == b' ' && line[10] == b' ' && line[23] == b'\n') {
-        return refuse_line();
+        return refuse_line(rt);
     }
     match line[0] {
-        b'r' => read_word(line),
-        b'w' => write_pair(line),
-        _ => refuse_line(),
+        b'r' => read_word(rt, line),
+        b'w' => write_pair(rt, line),
+        _ => refuse_line(rt),
     }
 }
 
 // Reads a line and answers it, and says whether to go on: not past the end of the input.
-fn run_line() -> bool {
+fn run_line(rt: &impl Print, input: &mut impl Read) -> io::Result<bool> {
     let mut line = [0u8; 24];
-    let n = io::read_full(STDIN_FILENO, &mut line);
+    let n = inputs::read_full(input, &mut line)?;
     if n == 24 {
-        return answer_line(line);
+        answer_line(rt, line)?;
+        return Ok(true);
     }
     if 0 < n {
-        refuse_line();
+        refuse_line(rt)?;
     }
-    false
+    Ok(false)
 }
 
-// A proved loop has to end, and nothing says that the input does. So the loop counts its turns down,
-// from a number that no run uses up.
-fn main() {
-    let mut turns = u64::MAX;
-    while turns > 0 && run_line() {
-        turns -= 1;
+// A proved loop has to end, and nothing says that the input does. So the loop counts its turns, up to
+// a number that no run reaches.
+fn main(rt: HostRuntime) -> io::Result<()> {
+    let mut input = rt.reader();
+    for _ in 0..u64::MAX {
+        if !run_line(&rt, &mut input)? {
+            break;
+        }
     }
+    Ok(())
 }

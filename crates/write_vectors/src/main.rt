@@ -18,30 +18,30 @@
 // nearest is answered by `bad case`, and is the last; a written reel that isn't read again, by `not read`.
 #![tactic(auto)]
 
-use libc::{STDIN_FILENO, STDOUT_FILENO};
 use record::{Answer, Counted};
+use std::io;
+use std::io::Read;
 
 // One space and a number.
-fn print_item(n: u64) {
-    io::write_all(STDOUT_FILENO, b" ");
-    io::print_decimal(STDOUT_FILENO, n);
+fn print_item(rt: &impl Print, n: u64) -> io::Result<()> {
+    print!(rt; " {n}")
 }
 
 // The end of a line.
-fn print_end() {
-    io::write_all(STDOUT_FILENO, b"\n");
+fn print_end(rt: &impl Print) -> io::Result<()> {
+    println!(rt)
 }
 
 // The digest of the first bytes of a slice, as many as a length.
-fn print_first(length: usize, bytes: &[u8]) {
+fn print_first(rt: &impl Print, length: usize, bytes: &[u8]) -> io::Result<()> {
     if bytes.len() < length {
-        return;
+        return Ok(());
     }
-    print_item(digests::digest(&bytes[..length]));
+    print_item(rt, digests::digest(&bytes[..length]))
 }
 
 // The digest of the record that reading a written reel gives, and the count.
-fn print_again(reel: &[u8], again: &mut [u8]) {
+fn print_again(rt: &impl Print, reel: &[u8], again: &mut [u8]) -> io::Result<()> {
     match read_reel::read_reel(reel, again) {
         Counted::Taken {
             traces: _,
@@ -49,62 +49,72 @@ fn print_again(reel: &[u8], again: &mut [u8]) {
             length,
             count,
         } => {
-            print_first(length, again);
-            print_item(count as u64);
+            print_first(rt, length, again)?;
+            print_item(rt, count as u64)
         }
         Counted::Refused {
             number: _,
             place: _,
-        } => {
-            io::write_all(STDOUT_FILENO, b" not read");
-        }
+        } => print!(rt; " not read"),
     }
 }
 
 // The front of the line of a record that was written.
-fn print_numbers(traces: usize, samples: usize, length: usize) {
-    io::write_all(STDOUT_FILENO, b"taken");
-    print_item(traces as u64);
-    print_item(samples as u64);
-    print_item(length as u64);
+fn print_numbers(rt: &impl Print, traces: usize, samples: usize, length: usize) -> io::Result<()> {
+    print!(rt; "taken")?;
+    print_item(rt, traces as u64)?;
+    print_item(rt, samples as u64)?;
+    print_item(rt, length as u64)
 }
 
 // The rest of it.
-fn print_written(length: usize, out: &[u8], again: &mut [u8]) {
-    print_item(digests::digest(out));
+fn print_written(rt: &impl Print, length: usize, out: &[u8], again: &mut [u8]) -> io::Result<()> {
+    print_item(rt, digests::digest(out))?;
     if out.len() < length {
-        return;
+        return Ok(());
     }
-    print_again(&out[..length], again);
-    print_end();
+    print_again(rt, &out[..length], again)?;
+    print_end(rt)
 }
 
 // The line of a record that was refused.
-fn print_refused(number: u8, place: usize, out: &[u8]) {
-    io::write_all(STDOUT_FILENO, b"refused");
-    print_item(number as u64);
-    print_item(place as u64);
-    print_item(digests::digest(out));
-    print_end();
+fn print_refused(rt: &impl Print, number: u8, place: usize, out: &[u8]) -> io::Result<()> {
+    print!(rt; "refused")?;
+    print_item(rt, number as u64)?;
+    print_item(rt, place as u64)?;
+    print_item(rt, digests::digest(out))?;
+    print_end(rt)
 }
 
 // The line of a case that is written exactly.
-fn run_exact(code: u32, record: &[u8], out: &mut [u8], again: &mut [u8]) {
+fn run_exact(
+    rt: &impl Print,
+    code: u32,
+    record: &[u8],
+    out: &mut [u8],
+    again: &mut [u8],
+) -> io::Result<()> {
     match write_reel::write_reel(record, code, out) {
         Answer::Taken {
             traces,
             samples,
             length,
         } => {
-            print_numbers(traces, samples, length);
-            print_written(length, out, again);
+            print_numbers(rt, traces, samples, length)?;
+            print_written(rt, length, out, again)
         }
-        Answer::Refused { number, place } => print_refused(number, place.0, out),
+        Answer::Refused { number, place } => print_refused(rt, number, place.0, out),
     }
 }
 
 // The line of a case that is written to the nearest.
-fn run_nearest(code: u32, record: &[u8], out: &mut [u8], again: &mut [u8]) {
+fn run_nearest(
+    rt: &impl Print,
+    code: u32,
+    record: &[u8],
+    out: &mut [u8],
+    again: &mut [u8],
+) -> io::Result<()> {
     match write_reel::write_nearest(record, code, out) {
         Counted::Taken {
             traces,
@@ -112,40 +122,50 @@ fn run_nearest(code: u32, record: &[u8], out: &mut [u8], again: &mut [u8]) {
             length,
             count,
         } => {
-            print_numbers(traces, samples, length);
-            print_item(count as u64);
-            print_written(length, out, again);
+            print_numbers(rt, traces, samples, length)?;
+            print_item(rt, count as u64)?;
+            print_written(rt, length, out, again)
         }
-        Counted::Refused { number, place } => print_refused(number, place.0, out),
+        Counted::Refused { number, place } => print_refused(rt, number, place.0, out),
     }
 }
 
 // The line of a case of another form, which is the last.
-fn refuse_case() -> bool {
-    io::write_all(STDOUT_FILENO, b"bad case\n");
-    false
+fn refuse_case(rt: &impl Print) -> io::Result<bool> {
+    println!(rt; "bad case")?;
+    Ok(false)
 }
 
 // Reads the record of a case and runs it, and says whether to go on.
-fn run_sized(near: u8, code: u8, record: &mut [u8], out: &mut [u8], again: &mut [u8]) -> bool {
-    let n = io::read_full(STDIN_FILENO, record);
+fn run_sized(
+    rt: &impl Print,
+    input: &mut impl Read,
+    near: u8,
+    code: u8,
+    record: &mut [u8],
+    out: &mut [u8],
+    again: &mut [u8],
+) -> io::Result<bool> {
+    let n = inputs::read_full(input, record)?;
     if n < record.len() {
-        return refuse_case();
+        return refuse_case(rt);
     }
     digests::fill(0xa5, out);
     if near == 0 {
-        run_exact(code as u32, record, out, again);
-        return true;
+        run_exact(rt, code as u32, record, out, again)?;
+        return Ok(true);
     }
     if near == 1 {
-        run_nearest(code as u32, record, out, again);
-        return true;
+        run_nearest(rt, code as u32, record, out, again)?;
+        return Ok(true);
     }
-    refuse_case()
+    refuse_case(rt)
 }
 
 // The same with buffers of which it uses the front, as much as the case asks for.
 fn run_record(
+    rt: &impl Print,
+    input: &mut impl Read,
     near: u8,
     code: u8,
     room: usize,
@@ -153,25 +173,35 @@ fn run_record(
     record: &mut [u8],
     out: &mut [u8],
     again: &mut [u8],
-) -> bool {
+) -> io::Result<bool> {
     if record.len() < size {
-        return refuse_case();
+        return refuse_case(rt);
     }
     if out.len() < room {
-        return refuse_case();
+        return refuse_case(rt);
     }
-    run_sized(near, code, &mut record[..size], &mut out[..room], again)
+    run_sized(
+        rt,
+        input,
+        near,
+        code,
+        &mut record[..size],
+        &mut out[..room],
+        again,
+    )
 }
 
 // Reads a case and runs it, and says whether to go on: not past the end of the input.
-fn run_case() -> bool {
+fn run_case(rt: &impl Print, input: &mut impl Read) -> io::Result<bool> {
     let mut head = [0u8; 10];
-    let n = io::read_full(STDIN_FILENO, &mut head);
+    let n = inputs::read_full(input, &mut head)?;
     if n == 10 {
         let mut record = [0u8; 210000];
         let mut out = [0u8; 210000];
         let mut again = [0u8; 210000];
         return run_record(
+            rt,
+            input,
             head[0],
             head[1],
             numbers::be32(head[2], head[3], head[4], head[5]) as usize,
@@ -182,16 +212,19 @@ fn run_case() -> bool {
         );
     }
     if 0 < n {
-        return refuse_case();
+        return refuse_case(rt);
     }
-    false
+    Ok(false)
 }
 
-// A proved loop has to end, and nothing says that the input does. So the loop counts its turns down,
-// from a number that no run uses up.
-fn main() {
-    let mut turns = u64::MAX;
-    while turns > 0 && run_case() {
-        turns -= 1;
+// A proved loop has to end, and nothing says that the input does. So the loop counts its turns, up to
+// a number that no run reaches.
+fn main(rt: HostRuntime) -> io::Result<()> {
+    let mut input = rt.reader();
+    for _ in 0..u64::MAX {
+        if !run_case(&rt, &mut input)? {
+            break;
+        }
     }
+    Ok(())
 }

@@ -13,28 +13,26 @@ returns-in-Taken c =
     let third = c.put_item-third.ensures in
     let second = c.put_item-second.ensures in
     let first = c.put_item-first.ensures in
-    let at-word = c in
-    let word = at-word.put_word-word.ensures in
-    let match = c in
-    let answer = match.args.answer in
+    let word = c.put_word-word.ensures in
+    let answer = c.args.answer in
     let w₀ = begin taken_word word.0 word.1 in
     let w₁ = item _ w₀ first.0 first.2 in
     let w₂ = item _ w₁ second.0 second.2 in
     let w₃ = item _ w₂ third.0 third.2 in
     let w₄ = item _ w₃ fourth.0 fourth.2 in
     let w₅ = next (10 ∷ []) w₄ refl refl in
-    finish (line_of (counted_by answer)) w₅ (rw match.in-Taken.is (simp append_assoc)) (omega arith)
+    let f = finish (line_of (counted_by answer)) w₅ (rw c.in-Taken.is (simp append_assoc)) (omega arith) in
+    record { line = f.0; fits = f.1 }
 
 pub returns-in-Refused : goal.returns-in-Refused
 returns-in-Refused c =
     let second = c.put_item-second-in-Refused.ensures in
     let first = c.put_item-first-in-Refused.ensures in
-    let at-word = c in
-    let word = at-word.put_word-word-in-Refused.ensures in
-    let match = c in
-    let answer = match.args.answer in
+    let word = c.put_word-word-in-Refused.ensures in
+    let answer = c.args.answer in
     let w₀ = begin refused_word word.0 word.1 in
     let w₁ = item _ w₀ first.0 first.2 in
     let w₂ = item _ w₁ second.0 second.2 in
     let w₃ = next (10 ∷ []) w₂ refl refl in
-    finish (line_of (counted_by answer)) w₃ (rw match.in-Refused.is (simp append_assoc)) (omega arith)
+    let f = finish (line_of (counted_by answer)) w₃ (rw c.in-Refused.is (simp append_assoc)) (omega arith) in
+    record { line = f.0; fits = f.1 }

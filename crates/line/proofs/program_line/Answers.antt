@@ -9,13 +9,14 @@ use Rattle.line.proofs.program_line.Goals as goal
 pub returns-then-input-gt65536 : goal.returns-then-input-gt65536
 returns-then-input-gt65536 c =
     let l = lt-ltb most_input (length c.args.input.now) c.if-input-gt65536.true in
-    (c.too_long.ensures.0 ∙ rw l, (rw l, c.too_long.ensures.1))
+    record { line = c.too_long.ensures.line ∙ rw l; left = rw l; fits = c.too_long.ensures.fits }
 
 pub returns : goal.returns
 returns c =
-    let s = c in
-    let l = le-ltb most_input (length s.args.input.now) c.if-input-gt65536.false in
-    let e = c.read_reel.ensures in (
-      c.Line-of.ensures.0 ∙ rw l (ap (λ (o : Outcome). padded (line_of o.said)) e),
-      (rw l (ap (λ (o : Outcome). o.bytes) e), c.Line-of.ensures.1),
-    )
+    let l = le-ltb most_input (length c.args.input.now) c.if-input-gt65536.false in
+    let e = c.read_reel.ensures in
+    record {
+      line = c.line_of.ensures.line ∙ rw l (ap (λ (o : Outcome). padded (line_of o.said)) e);
+      left = rw l (ap (λ (o : Outcome). o.bytes) e);
+      fits = c.line_of.ensures.fits;
+    }

@@ -8,4 +8,5 @@ use Rattle.line.proofs.too_long.Goals as goal
 pub returns : goal.returns
 returns c =
     let e = c.put_word-length.ensures in
-    finish too_long (begin too_long e.0 e.1) refl (omega arith)
+    let f = finish too_long (begin too_long e.0 e.1) refl (omega arith) in
+    record { line = f.0; fits = f.1 }
