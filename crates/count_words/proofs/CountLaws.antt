@@ -1,19 +1,18 @@
 -- The tests of a word whose first byte stands lowest, and the words that aren't normal. Assumes nothing.
-use mathlib.Core.Path.{◌≡◌, refl, sym, ap, ap₂, ◌∙◌}
+use mathlib.Core.Path.{◌≡◌, refl, sym, ap, ◌∙◌}
 use mathlib.Core.Logic.{⊎_elim}
-use mathlib.Core.Bool.{Bool, true, false, not, ◌&&◌, ◌||◌}
+use mathlib.Core.Bool.{Bool, true, false, not, ◌&&◌}
 use mathlib.Core.List.{List, [], ◌∷◌}
 use Prim.Native.Nat.{ℕ, ◌+◌, ◌*◌, ◌/◌, ◌%◌, ◌^◌, ◌≤◌, ◌<◌}
 use native.Mathlib.Omega.{arith}
 use borrow.Author.Tests.{eqb-true, eqb-false, eq-eqb, ne_eqb, le-leb, lt-leb}
 use lib.Dec.{leb, eqb}
 use lib.ListN.{length, get_or}
-use Rattle.numbers.specs.Walk.{pick, walk, sum, bytes_at}
+use Rattle.numbers.specs.Walk.{pick, sum, bytes_at}
 use Rattle.numbers.specs.BigEndian.{number}
 use Rattle.numbers.specs.Iff.{Iff}
 use Rattle.numbers.proofs.WalkLaws.{walk_same, sum_under, sum_zero, four_bytes}
 use Rattle.numbers.proofs.SignLaws.{below_or}
-use Rattle.numbers.proofs.BoolLaws.{and_true}
 use Rattle.formats.specs.Value.{characteristic, fraction}
 use Rattle.formats.specs.Words.{first_digit, is_normal}
 use Rattle.formats.proofs.NormalLaws.{normal_tests}
@@ -22,7 +21,7 @@ use Rattle.formats.specs.Codes.{sample_bytes}
 use Rattle.reel.specs.Causes.{most_samples}
 use Rattle.reel.specs.NotNormal.{not_normal_in}
 use Rattle.count_words.specs.Counted.{words_fit, words_counted}
-use Rattle.count_words.specs.Parts.{low_first, zero_digit, may_count, counts, tested, passing}
+use Rattle.count_words.specs.Parts.{low_first, may_count, counts, passing}
 
 -- ## One word
 

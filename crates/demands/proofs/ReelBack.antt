@@ -5,21 +5,19 @@
 use mathlib.Core.Path.{◌≡◌, refl, sym, ap, ap₂, ◌∙◌, subst}
 use mathlib.Core.List.{List, [], ◌∷◌, ◌++◌, map, map-id, append-nil, append_assoc}
 use mathlib.Core.Bool.{Bool, true, false, not, ◌&&◌}
-use Prim.Native.Nat.{ℕ, ◌+◌, ◌-◌, ◌*◌, ◌/◌, ◌%◌, ◌≤◌, ◌<◌}
+use Prim.Native.Nat.{ℕ, ◌+◌, ◌-◌, ◌*◌, ◌/◌, ◌%◌, ◌<◌}
 use native.Mathlib.Nat.{mul-div_cancel, mul-mod_left}
 use native.Mathlib.Omega.{arith}
-use borrow.Author.Tests.{le-ltb, le-leb, eq-eqb, ne_eqb, eqb-true, leb-true}
-use lib.Dec.{T, eqb, leb, ltb}
-use lib.ListN.{length, get_or, take, replicate, length-append}
+use borrow.Author.Tests.{le-ltb, le-leb, eq-eqb, ne_eqb}
+use lib.Dec.{T, eqb, ltb}
+use lib.ListN.{length, get_or, replicate, length-append}
 use lib.IntN.{ℤ, pos, nat_abs}
 use Rattle.numbers.specs.Walk.{pick, walk, flat, sum, bytes_at}
 use Rattle.numbers.specs.BigEndian.{number, bytes_of}
-use Rattle.numbers.specs.TwosComplement.{signed_of}
 use Rattle.numbers.specs.Cause.{refuse_if, first_of}
 use Rattle.numbers.specs.declared.Check.TheVariants.{Fine}
 use Rattle.numbers.specs.Terms.{All, Bytes}
 use Rattle.numbers.proofs.WalkLaws.{cons_eq, flat_size, all_both}
-use Rattle.numbers.proofs.BoolLaws.{and_true}
 use Rattle.numbers.proofs.ByteLaws.{length_bytes, bytes_of_lem, number_bytes_lem}
 use Rattle.numbers.proofs.AllLaws.{all_append, bytes_zeros, all_flat}
 use Rattle.formats.specs.Value.{is_bad, value_in, word_number, exact_value}

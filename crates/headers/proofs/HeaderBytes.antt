@@ -13,7 +13,7 @@ use Rattle.numbers.specs.Walk.{bytes_at}
 use Rattle.numbers.specs.declared.Check.TheVariants.{Fine}
 use Rattle.numbers.proofs.CauseLaws.{passed, then_fine}
 use Rattle.numbers.specs.Terms.{Bytes}
-use Rattle.scalars.specs.Scalar.{powers, power_of, smallest, group_numbers, group_scalar, is_allowed, is_smallest}
+use Rattle.scalars.specs.Scalar.{power_of, group_numbers, group_scalar, is_allowed, is_smallest}
 use Rattle.scalars.specs.Parts.{Fit32}
 use Rattle.scalars.proofs.Powers.{power_lt, smallest_lt}
 use Rattle.scalars.proofs.Laws.{fit_held, scalar_fits16, length_held}

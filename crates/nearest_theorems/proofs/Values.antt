@@ -1,20 +1,18 @@
 -- Values and their nearest under a code: the nearest value has a word and a canonical pair, and a value is its own nearest exactly where it
 -- has a word. Assumes nothing but that the code is one.
 use mathlib.Core.Path.{◌≡◌, refl, sym, ap, ◌∙◌, subst}
-use mathlib.Core.Bool.{Bool, true, false, not}
-use Prim.Native.Nat.{ℕ, suc, ◌^◌, ◌≤◌, ◌<◌}
-use native.Mathlib.Omega.{arith}
-use borrow.Author.Tests.{ltb-true, eqb-true, eq-eqb}
-use lib.Dec.{T, eqb, ltb}
-use lib.IntN.{ℤ, pos, negsuc, nat_abs, ◌+ℤ◌, ◌-ℤ◌, +ℤ_idl, +ℤ_invr, -ℤ-+ℤ_cancel}
-use Rattle.numbers.specs.Walk.{pick}
+use mathlib.Core.Bool.{true, false, not}
+use Prim.Native.Nat.{ℕ, ◌^◌, ◌<◌}
+use borrow.Author.Tests.{ltb-true}
+use lib.Dec.{T, ltb}
+use lib.IntN.{ℤ}
 use Rattle.numbers.specs.Iff.{Iff}
 use Rattle.numbers.proofs.BoolLaws.{and_true}
 use Rattle.formats.specs.Format.{in_format}
 use Rattle.formats.specs.Codes.{is_code, sample_bytes, format_of}
 use Rattle.formats.specs.Value.{value_in, is_bad, exact_value}
 use Rattle.formats.specs.Words.{word_of}
-use Rattle.formats.specs.Nearest.{nearest_value, distance, changes}
+use Rattle.formats.specs.Nearest.{nearest_value, changes}
 use Rattle.formats.specs.declared.Written.{Written}
 use Rattle.formats.specs.declared.Written.TheVariants.{Word, Refused}
 use Rattle.formats.proofs.DifferLaws.{same_differs}

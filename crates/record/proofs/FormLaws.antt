@@ -22,7 +22,6 @@ use Rattle.cards.specs.Cards.{no_zero}
 use Rattle.fields.specs.Fields.{each, run_from, fields_in, field_count, field_place, pair_place, fields_length, in_fields}
 use Rattle.fields.proofs.FieldsLaws.{by_fields, length_none, length_more, fields_one, fields_more as needs-more, in_none, in_next, pairs_in_fields, rises}
 use Rattle.fields.proofs.EachLaws.{each_is, flat_fine, run_most}
-use Rattle.formats.specs.declared.Written.TheVariants as written
 use Rattle.reel.specs.Layout.{number16}
 use Rattle.reel.specs.Causes.{most_samples, most_traces, most_interval, within}
 use Rattle.reel.proofs.CheckLaws.{both_true, in_limits}

@@ -25,7 +25,7 @@ use Rattle.record.specs.Form.{held_samples, held_interval, held_count, traces_pl
 use Rattle.record.specs.Held.{held_by}
 use Rattle.fit.specs.Target.{target_causes}
 use Rattle.record.specs.Answer.{outcome, counted_outcome}
-use Rattle.record.specs.declared.Answer.TheVariants.{Taken, Refused}
+use Rattle.record.specs.declared.Answer.TheVariants.{Refused}
 use Rattle.record.specs.declared.Counted.TheVariants as counted
 use Rattle.record.specs.declared.Judged.TheVariants as judged
 use Rattle.record.proofs.FormLaws.{count_most, headed, held_length}

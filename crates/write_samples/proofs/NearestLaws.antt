@@ -1,13 +1,13 @@
 -- The words of a trace's samples to the nearest as the code writes them: how long they are, what is written of a pair, and the count.
 -- Assumes nothing.
-use mathlib.Core.Path.{◌≡◌, refl, sym, ap, ◌∙◌}
+use mathlib.Core.Path.{◌≡◌, sym, ap, ◌∙◌}
 use mathlib.Core.Bool.{Bool, true, false, ◌&&◌}
 use mathlib.Core.List.{List, []}
-use Prim.Native.Nat.{ℕ, zero, suc, ◌+◌, ◌-◌, ◌*◌, ◌≤◌, ◌<◌}
+use Prim.Native.Nat.{ℕ, zero, suc, ◌+◌, ◌-◌, ◌*◌, ◌≤◌}
 use native.Mathlib.Omega.{arith}
 use lib.ListN.{length}
-use Rattle.numbers.specs.Walk.{pick, sum, bytes_at}
-use Rattle.numbers.specs.BigEndian.{number, bytes_of}
+use Rattle.numbers.specs.Walk.{pick, bytes_at}
+use Rattle.numbers.specs.BigEndian.{number}
 use Rattle.numbers.proofs.WalkLaws.{flat_length, flat_none, sum_none, sum_more}
 use Rattle.numbers.proofs.ByteLaws.{length_bytes}
 use Rattle.formats.specs.Codes.{is_code, sample_bytes, format_of}

@@ -2,7 +2,7 @@
 use Rattle.compare.proofs.SharedLaws.{shared_none, shared_next}
 use Rattle.compare.specs.Parts.{Shared}
 use Rattle.record.specs.Form.{behind_trace_in}
-use Prim.Native.Nat.{ℕ, ◌+◌, ◌-◌}
+use Prim.Native.Nat.{ℕ, ◌+◌}
 use mathlib.Core.Path.{sym, subst, ◌∙◌}
 use native.Mathlib.Omega.{arith}
 use Rattle.compare.proofs.common_traces.Goals.{After-stride_at-at}

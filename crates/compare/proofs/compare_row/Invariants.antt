@@ -2,7 +2,7 @@ use Rattle.compare.specs.Parts.{number_at}
 use Rattle.exact.specs.Order.{lex_z}
 use Rattle.numbers.specs.Walk.{walk}
 use lib.ListN.{length}
-use Prim.Native.Nat.{◌+◌, ◌-◌, ◌*◌, ◌≤◌}
+use Prim.Native.Nat.{◌+◌, ◌*◌, ◌≤◌}
 use mathlib.Core.Path.{◌≡◌}
 use Rattle.compare.proofs.compare_row.Given as goal
 

@@ -5,7 +5,7 @@ use Rattle.exact.specs.Order.{order_z}
 use Rattle.record.specs.Held.{held_value}
 use Rattle.numbers.proofs.WalkLaws.{times_more}
 use lib.ListN.{length}
-use Prim.Native.Nat.{◌+◌, ◌-◌, ◌≤◌}
+use Prim.Native.Nat.{◌+◌, ◌≤◌}
 use mathlib.Core.Path.{◌≡◌, refl, sym, ap, ap₂, ◌∙◌}
 use native.Mathlib.Omega.{arith}
 use Rattle.compare.proofs.compare_samples.Goals.{After-decides, In-loop-left}

@@ -2,7 +2,7 @@ use Rattle.exact.specs.Order.{lex_z}
 use Rattle.record.specs.Held.{held_value}
 use Rattle.numbers.specs.Walk.{walk}
 use lib.ListN.{length}
-use Prim.Native.Nat.{◌+◌, ◌-◌, ◌*◌, ◌≤◌}
+use Prim.Native.Nat.{◌+◌, ◌*◌, ◌≤◌}
 use mathlib.Core.Path.{◌≡◌}
 use Rattle.compare.proofs.compare_samples.Given as goal
 

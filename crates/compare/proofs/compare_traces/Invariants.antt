@@ -1,7 +1,7 @@
 use Rattle.compare.specs.Parts.{behind_traces, key_from}
 use Rattle.exact.specs.Order.{lex_z}
 use lib.ListN.{length}
-use Prim.Native.Nat.{◌-◌, ◌≤◌}
+use Prim.Native.Nat.{◌≤◌}
 use mathlib.Core.Path.{◌≡◌}
 use Rattle.compare.proofs.compare_traces.Given as goal
 

@@ -1,7 +1,7 @@
 -- `compare::same_bytes` meets its contract. Assumes nothing.
 use mathlib.Core.Path.{◌≡◌, refl, sym, ap, ◌∙◌}
 use mathlib.Core.Bool.{Bool, ◌&&◌}
-use Prim.Native.Nat.{◌+◌, ◌-◌, ◌<◌}
+use Prim.Native.Nat.{◌+◌, ◌<◌}
 use native.Mathlib.Omega.{arith}
 use borrow.Author.Tests.{eq-eqb, ne_eqb}
 use lib.Dec.{eqb}
@@ -29,7 +29,7 @@ loop-i-preserved c =
     let step : (h.same && (eqb (get_or a i 0) (get_or b i 0) && rest)) ≡ same_bytes a b = ap (λ (x : Bool). h.same && x) (sym (same_next a b i l k)) ∙ h.invariant.1 in (
       omega arith,
       elim c.if-a-i.branch [
-        then-a-i w ↦ ap (λ (x : Bool). x && rest) w.same-is ∙ sym (and_false h.same) ∙ ap (λ (x : Bool). h.same && (x && rest)) (sym (ne_eqb (get_or a i 0) (get_or b i 0) w.if-a-i.true)) ∙ step
+        | then-a-i w ↦ ap (λ (x : Bool). x && rest) w.same-is ∙ sym (and_false h.same) ∙ ap (λ (x : Bool). h.same && (x && rest)) (sym (ne_eqb (get_or a i 0) (get_or b i 0) w.if-a-i.true)) ∙ step
         | else-a-i w ↦ ap (λ (x : Bool). x && rest) w.same-is ∙ ap (λ (x : Bool). h.same && (x && rest)) (sym (eq-eqb (get_or a i 0) (get_or b i 0) w.if-a-i.false)) ∙ step
       ],
     )

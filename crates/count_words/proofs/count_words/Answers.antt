@@ -5,7 +5,6 @@ use Rattle.reel.specs.Causes.{most_samples}
 use Rattle.reel.specs.NotNormal.{not_normal_in}
 use lib.ListN.{length}
 use Prim.Native.Nat.{ℕ, ◌+◌, ◌*◌, ◌≤◌}
-use mathlib.Core.Bool.{true, false}
 use mathlib.Core.Path.{◌≡◌, sym, ap, ◌∙◌}
 use borrow.Author.Tests.{leb-true}
 use Rattle.count_words.proofs.count_words.Goals.{Else-not-are_within}

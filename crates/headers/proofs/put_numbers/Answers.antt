@@ -1,7 +1,6 @@
 -- `headers::put_numbers` meets its contract. The loop's invariant: the first o bytes are those of the numbers before p. Assumes nothing.
 use Rattle.headers.specs.Parts.{number4, numbers_in, times_factor}
 use Rattle.headers.proofs.GroupLaws.{size_in, size_group, times_walk, fit_more}
-use Rattle.numbers.specs.Walk.{walk, flat}
 use Rattle.numbers.specs.BigEndian.{bytes_of}
 use Rattle.numbers.specs.TwosComplement.{bits_of}
 use Rattle.numbers.proofs.Filling.{start as begin, finish, part_put}
@@ -12,7 +11,6 @@ use mir.Syntax.{w32}
 use mir.Val.{to_z, of_z}
 use mir.Facts.{to_z-of_z}
 use Prim.Native.Nat.{ℕ, ◌+◌, ◌*◌}
-use mathlib.Core.List.{List, map}
 use mathlib.Core.Path.{◌≡◌, refl, sym, ap, ◌∙◌}
 use native.Mathlib.Omega.{arith}
 use borrow.Author.Rules.{sfits_of}

@@ -3,7 +3,7 @@ use Rattle.listing.specs.Parts.{entry_of}
 use Rattle.numbers.proofs.Filling.{start, finish, again, put}
 use Rattle.numbers.proofs.WalkLaws.{drop_next}
 use lib.ListN.{drop, length-set, length-map, drop_of_length-le}
-use Prim.Native.Nat.{ℕ, ◌+◌, ◌-◌}
+use Prim.Native.Nat.{ℕ, ◌+◌}
 use mathlib.Core.List.{◌∷◌, map}
 use mathlib.Core.Path.{sym, ap, ◌∙◌}
 use native.Mathlib.Omega.{arith}

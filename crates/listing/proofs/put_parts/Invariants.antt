@@ -3,7 +3,7 @@ use Rattle.numbers.specs.Walk.{walk, flat}
 use Rattle.listing.specs.Listing.{card_count}
 use Rattle.listing.specs.Parts.{part_by, parts_by}
 use lib.ListN.{length}
-use Prim.Native.Nat.{◌+◌, ◌-◌, ◌*◌}
+use Prim.Native.Nat.{◌+◌, ◌*◌}
 use mathlib.Core.List.{map}
 use mathlib.Core.Path.{◌≡◌}
 use Rattle.listing.proofs.put_parts.Given as goal

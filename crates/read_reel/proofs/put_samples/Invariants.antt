@@ -4,7 +4,7 @@ use Rattle.formats.specs.Codes.{sample_bytes}
 use Rattle.read_reel.specs.Copied.{samples_copied}
 use Rattle.numbers.proofs.Filling.{Filling}
 use lib.ListN.{length}
-use Prim.Native.Nat.{◌+◌, ◌-◌, ◌*◌, ◌≤◌}
+use Prim.Native.Nat.{◌+◌, ◌*◌, ◌≤◌}
 use mathlib.Core.Path.{◌≡◌}
 use Rattle.read_reel.proofs.put_samples.Given as goal
 

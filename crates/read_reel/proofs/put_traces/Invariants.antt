@@ -5,7 +5,7 @@ use Rattle.reel.specs.NotNormal.{not_normal_among}
 use Rattle.numbers.proofs.Filling.{Filling}
 use Rattle.numbers.specs.Walk.{flat}
 use lib.ListN.{length}
-use Prim.Native.Nat.{◌+◌, ◌-◌, ◌*◌, ◌≤◌}
+use Prim.Native.Nat.{◌+◌, ◌*◌, ◌≤◌}
 use mathlib.Core.List.{map}
 use mathlib.Core.Path.{◌≡◌}
 use Rattle.read_reel.proofs.put_traces.Given as goal

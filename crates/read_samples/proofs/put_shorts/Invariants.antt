@@ -3,7 +3,7 @@ use Rattle.read_samples.specs.Parts.{short_number}
 use Rattle.numbers.proofs.Filling.{Filling}
 use Rattle.numbers.specs.TwosComplement.{signed_of}
 use lib.ListN.{length}
-use Prim.Native.Nat.{◌+◌, ◌-◌, ◌*◌, ◌≤◌}
+use Prim.Native.Nat.{◌+◌, ◌*◌, ◌≤◌}
 use mathlib.Core.Path.{◌≡◌}
 use Rattle.read_samples.proofs.put_shorts.Given as goal
 

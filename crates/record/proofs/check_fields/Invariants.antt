@@ -1,5 +1,5 @@
 use Rattle.record.specs.Parts.{fields_by}
-use Prim.Native.Nat.{◌-◌, ◌≤◌}
+use Prim.Native.Nat.{◌≤◌}
 use mathlib.Core.Path.{◌≡◌}
 use Rattle.record.proofs.check_fields.Given as goal
 

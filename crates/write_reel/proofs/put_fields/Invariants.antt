@@ -2,7 +2,7 @@ use Rattle.fields.specs.Fields.{fields_length}
 use Rattle.write_reel.specs.Copied.{fields_words, fields_changed_at}
 use Rattle.numbers.proofs.Filling.{Filling}
 use lib.ListN.{length}
-use Prim.Native.Nat.{◌+◌, ◌-◌, ◌*◌, ◌≤◌}
+use Prim.Native.Nat.{◌+◌, ◌*◌, ◌≤◌}
 use mathlib.Core.Path.{◌≡◌}
 use Rattle.write_reel.proofs.put_fields.Given as goal
 

@@ -3,7 +3,7 @@ use Rattle.numbers.proofs.Filling.{start, finish, again, put}
 use Rattle.numbers.proofs.WalkLaws.{drop_next}
 use Rattle.write_reel.specs.Copied.{zeros_for}
 use lib.ListN.{length, drop, replicate, length-set, length-replicate, get_or-replicate, drop_of_length-le}
-use Prim.Native.Nat.{ℕ, ◌+◌, ◌-◌, ◌≤◌, ◌<◌}
+use Prim.Native.Nat.{ℕ, ◌+◌, ◌≤◌, ◌<◌}
 use mathlib.Core.List.{List, ◌∷◌}
 use mathlib.Core.Path.{refl, sym, ap, ◌∙◌}
 use native.Mathlib.Omega.{arith}

@@ -3,7 +3,7 @@ use Rattle.numbers.specs.Walk.{walk, bytes_at}
 use Rattle.numbers.specs.BigEndian.{number}
 use Rattle.write_samples.specs.Samples.{pair_check}
 use lib.ListN.{length}
-use Prim.Native.Nat.{◌+◌, ◌-◌, ◌*◌, ◌≤◌}
+use Prim.Native.Nat.{◌+◌, ◌*◌, ◌≤◌}
 use mathlib.Core.Path.{◌≡◌}
 use Rattle.write_samples.proofs.check_pairs.Given as goal
 

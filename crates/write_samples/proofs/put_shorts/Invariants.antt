@@ -4,7 +4,7 @@ use Rattle.numbers.specs.Walk.{bytes_at}
 use Rattle.numbers.specs.BigEndian.{number}
 use Rattle.formats.specs.Codes.{sample_bytes}
 use lib.ListN.{length}
-use Prim.Native.Nat.{◌+◌, ◌-◌, ◌*◌, ◌≤◌}
+use Prim.Native.Nat.{◌+◌, ◌*◌, ◌≤◌}
 use mathlib.Core.Path.{◌≡◌}
 use Rattle.write_samples.proofs.put_shorts.Given as goal
 

@@ -3,7 +3,7 @@ use Rattle.numbers.proofs.Filling.{Filling}
 use Rattle.numbers.specs.Walk.{bytes_at}
 use Rattle.numbers.specs.BigEndian.{number}
 use lib.ListN.{length}
-use Prim.Native.Nat.{◌+◌, ◌-◌, ◌*◌, ◌≤◌}
+use Prim.Native.Nat.{◌+◌, ◌*◌, ◌≤◌}
 use mathlib.Core.Path.{◌≡◌}
 use Rattle.write_samples.proofs.put_words.Given as goal
 
