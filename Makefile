@@ -13,7 +13,7 @@ INCLUDEDIR = $(PREFIX)/include
 MANDIR = $(PREFIX)/share/man
 
 VERSION := $(shell sed -n 's/^version = "\(.*\)"$$/\1/p' cli/Cargo.toml)
-PROVED := crates.txt $(shell find crates -name out -prune -o \( -name '*.rt' -o -name '*.antt' \) -print)
+PROVED := crates.txt $(shell find crates.txt $(wildcard crates/*/src crates/*/specs crates/*/proofs) -name '*.rt' -o -name '*.antt')
 COMMAND := cli/Cargo.toml cli/Cargo.lock cli/build.rs $(wildcard cli/src/*.rs)
 STEP = sh tools/step build/make.log
 
