@@ -3,8 +3,8 @@
 # make install PREFIX=/usr/local   installs the command, the library, the header, a pkg-config file and the man page
 # make clean                    removes what was made
 #
-# What is made stands in build/: the gate removes target/, which is the kit's own. A step is a line with its seconds; build/make.log has
-# all that was said.
+# What is made stands in build/. The folder out/ of each crate is the kit's own, and the gate takes what was built out of it. A step is a
+# line with its seconds; build/make.log has all that was said.
 
 PREFIX = /usr/local
 BINDIR = $(PREFIX)/bin
@@ -13,7 +13,7 @@ INCLUDEDIR = $(PREFIX)/include
 MANDIR = $(PREFIX)/share/man
 
 VERSION := $(shell sed -n 's/^version = "\(.*\)"$$/\1/p' cli/Cargo.toml)
-PROVED := crates.txt $(shell find crates -name '*.rt' -o -name '*.antt')
+PROVED := crates.txt $(shell find crates.txt $(wildcard crates/*/src crates/*/specs crates/*/proofs) -name '*.rt' -o -name '*.antt')
 COMMAND := cli/Cargo.toml cli/Cargo.lock cli/build.rs $(wildcard cli/src/*.rs)
 STEP = sh tools/step build/make.log
 
@@ -34,12 +34,13 @@ sample.record: build/aukpocket examples/sample.sgy
 
 # A file appears under its name when it is whole.
 build/libaukpocket.a: $(PROVED) | ready
-	@$(STEP) 'proving and compiling the library' rt staticlib aukpocket
-	@cp target/staticlib/libaukpocket.a $@.new && mv $@.new $@
+	@$(STEP) 'proving and compiling the library' sh -c 'cd crates/aukpocket && exec rt lib'
+	@cp crates/aukpocket/out/libaukpocket.a $@.new && mv $@.new $@
 
-build/check_reel: $(PROVED) $(wildcard crates/check_reel/std*) | ready
-	@$(STEP) 'proving and compiling the program check_reel' rt check check_reel
-	@cp target/bin/check_reel $@.new && mv $@.new $@
+# The kit builds a program where it runs it: here on no input.
+build/check_reel: $(PROVED) | ready
+	@$(STEP) 'proving and compiling the program check_reel' sh -c 'cd crates/check_reel && exec rt run'
+	@cp crates/check_reel/out/check_reel $@.new && mv $@.new $@
 
 build/aukpocket: build/libaukpocket.a $(COMMAND) | ready
 	@$(STEP) 'compiling the command' cargo build --release --offline --manifest-path cli/Cargo.toml --target-dir build/cargo/cli
@@ -64,4 +65,4 @@ install: build/aukpocket build/libaukpocket.a
 	@echo 'installed under $(DESTDIR)$(PREFIX): aukpocket, libaukpocket.a, aukpocket.h, aukpocket.pc, aukpocket.1'
 
 clean:
-	@rm -rf build target sample.record
+	@rm -rf build sample.record crates/*/out

@@ -6,7 +6,12 @@ top=$(cd "$(dirname "$0")/.." && pwd)
 room=$(mktemp -d)
 trap 'rm -rf "$room"' EXIT
 mkdir -p "$room/crates/caller/src"
-cp -R "$top/crates/numbers" "$top/crates/places" "$room/crates/"
+for crate in numbers places; do
+    mkdir "$room/crates/$crate"
+    for part in src specs proofs; do
+        [ ! -d "$top/crates/$crate/$part" ] || cp -R "$top/crates/$crate/$part" "$room/crates/$crate/"
+    done
+done
 printf 'numbers:\nplaces: numbers\ncaller: places numbers\n' >"$room/crates.txt"
 
 compile() { # LINE
@@ -19,7 +24,7 @@ pub fn count_field(header: Place, count: ByteNo) -> Located {
     $1
 }
 CALLER
-    (cd "$room" && rt check caller) >"$room/log" 2>&1
+    (cd "$room/crates/caller" && rt check) >"$room/log" 2>&1
 }
 
 compile 'places::place_of(header, count)' || {

@@ -2000,7 +2000,7 @@ class Eagle(Case):
         causes = [list(map(int, re.findall(pattern, text, re.M))) for pattern, text in (
             (r"^\| (\d+) \| [^|]+ \| [^|]+ \|$", readme.split("| number | cause | beside it |")[1].split("\n\n")[0]),
             (r"^ \* {3,4}(\d+) {6}\S", header.split("number  cause")[1].split("For a single word")[0]))]
-        self.assertEqual(causes, [list(range(1, 21))] * 2)
+        self.assertEqual(causes, [list(range(1, 23))] * 2)
 
 
 def long_reel(code, n, t):
@@ -4271,6 +4271,33 @@ static int long_trace(void)
     answer = aukpocket_read_reel(long_reel, 9841, long_record, 39469);
     return answer.number == 3 && answer.beside == 3220 ? 0 : 58;
 }
+/* The reel twice, as a line on two reels of a trace each. */
+static int a_box(void)
+{
+    static unsigned char reels[7696];
+    uint64_t lengths[2] = {3848, 3848};
+    struct aukpocket_box_answer answer;
+    memcpy(reels, reel, 3848);
+    reels[3603] = 9, reels[3607] = 1; /* trace 9 of the line, the first of its reel */
+    memcpy(reels + 3848, reels, 3848);
+    reels[3848 + 3211] = 1, reels[3848 + 3603] = 10; /* the reels are 0 and 1 */
+    answer = aukpocket_check_box(reels, 7696, lengths, 2);
+    if (answer.number != 0 || answer.reels != 2 || answer.traces != 2 || answer.beside != 0)
+        return 66;
+    reels[3848 + 3603] = 11;
+    answer = aukpocket_check_box(reels, 7696, lengths, 2);
+    if (answer.number != 22 || answer.reels != 0 || answer.traces != 0 || answer.beside != 7448)
+        return 67;
+    answer = aukpocket_check_box(reels, 7695, lengths, 2);
+    if (answer.number != 21 || answer.reels != 0 || answer.traces != 0 || answer.beside != 0)
+        return 68;
+    answer = aukpocket_check_box(reels, 0, lengths, 0);
+    if (answer.number != 0 || answer.reels != 0 || answer.traces != 0 || answer.beside != 0)
+        return 69;
+    lengths[1] = 3599;
+    answer = aukpocket_check_box(reels, 7447, lengths, 2);
+    return answer.number == 1 && answer.reels == 0 && answer.traces == 0 && answer.beside == 3599 ? 0 : 70;
+}
 int main(void)
 {
     const unsigned char word[4] = {0xC2, 0x76, 0xA0, 0x00}, pair[6] = {0xFF, 0xFD, 0xFF, 0xFF, 0xFC, 0x4B};
@@ -4296,6 +4323,8 @@ int main(void)
         return 2;
     if (read.changed != 0 || written.changed != 0)
         return 34;
+    if (a_box() != 0)
+        return a_box();
     order = aukpocket_compare(record, 3471, record, 3471);
     if (order.number != 0 || order.order != 0 || order.which != 0 || order.beside != 0)
         return 61;
@@ -4568,7 +4597,8 @@ class Examples(Built):
     def test_the_header(self):
         """The sizes that cli/src/library.rs and the examples count on, in C and in C++. With other sizes the version is another."""
         sizes = (("reel", 56, {"length": 24, "not_normal": 40, "changed": 48}), ("field", 16, {"value": 4}),
-                 ("order", 24, {"order": 4, "which": 8, "beside": 16}), ("sample", 24, {"not_normal": 16}))
+                 ("order", 24, {"order": 4, "which": 8, "beside": 16}), ("box", 32, {"reels": 8, "traces": 16, "beside": 24}),
+                 ("sample", 24, {"not_normal": 16}))
         source = '#include "aukpocket.h"\n#if AUKPOCKET_VERSION != 4\n#error another version\n#endif\n'
         for kind, size, places in sizes:
             answer = f"struct aukpocket_{kind}_answer"

@@ -20,28 +20,37 @@ TOP = Path(__file__).resolve().parents[1]
 SECONDS = 600  # a run that takes as long hangs
 KIT = next(line.split("'")[1] for line in (TOP / "tools" / "ready").read_text().splitlines() if line.startswith("kit="))
 
-# What the gate prints: two crates, one of which has wrong programs, and a program.
-GATE = """fn numbers::be16: proved
-rt: numbers proved (7 s)
-rt: check_reel proved (12 s)
-rt: must-fail numbers/one_off: refused, as it must be (first at proofs/be16/Proof.antt:18:82; 22 s)
-rt: must-fail numbers/sign_lost: refused, as it must be (9 s)
-rt: check_reel ran as nobody, and wrote what its file 'stdout' has (0 s)
-rt: ok, 2 crates proved, 2 must-fail edits refused
-4 passed, 0 failed
+# What the gate prints: three crates, one of which was proved before and one has wrong programs, and a program.
+GATE = """rt: places is kept: an earlier run on this machine proved the same files over the same libraries
+== numbers
+fn numbers::be16: proved
+rt: numbers proved
+rt: numbers: trying its must-fail edits (3)
+== check_reel
+fn check_reel::main: proved
+rt: check_reel proved
+rt: must-fail numbers/one_off.edit: refused, as it must be: ./proofs/be16/Answers.antt:8:13: error: `returns`: expected type `0`
+rt: must-fail numbers/sign_lost.edit: refused, as it must be
+rt: must-fail numbers/no_end.edit: refused, as it must be (only by a limit of the prover, which gave no verdict): antt ran out of stack
+rt: check_reel ran, and wrote what its file stdout has
+rt: check_reel ran (built by Rattle's own compiler), and wrote what its file stdout has
+rt: ok; handles allowed: none; must-fail edits: 3 refused, 1 of them only by a limit; every proof and must-fail edit was done in this run
+6 passed, 0 failed
 """
+LIMIT = "3 refused, 1 of them only by a limit"
 
+# It works on the crate in the folder that it is called in, or on all of the repository at its top.
 RT = f"""#!/bin/sh
-case "$1 ${{2:-}}" in
-'version ') echo "${{OTHER_KIT:-{KIT}}}" ;;
-'fmt --check') ;;
-'staticlib aukpocket')
+case "$* in ${{PWD##*/}}" in
+'version in '*) echo "${{OTHER_KIT:-{KIT}}}" ;;
+'lib in aukpocket')
     echo "lines of proofs"
-    [ -z "${{UNPROVED:-}}" ] || {{ echo "rt: aukpocket NOT PROVED"; exit 1; }}
-    mkdir -p target/staticlib && cp '{TOP}/build/libaukpocket.a' target/staticlib/ ;;
-'check check_reel') mkdir -p target/bin && cp '{TOP}/build/check_reel' target/bin/ ;;
-'ci ')
-    rm -rf target
+    [ -z "${{UNPROVED:-}}" ] || {{ echo "logic=not-proved"; exit 1; }}
+    mkdir -p out && cp '{TOP}/build/libaukpocket.a' out/ ;;
+'run in check_reel') mkdir -p out && cp '{TOP}/build/check_reel' out/ && exec out/check_reel ;;
+'ci in top')
+    rm -rf crates/*/out
+    mkdir -p crates/check_reel/out && cp '{TOP}/build/check_reel' crates/check_reel/out/
     cat "$GATE"
     exit "${{GATE_STATUS:-0}}" ;;
 *) echo "the stand-in has no $*"; exit 2 ;;
@@ -60,7 +69,8 @@ class Case(unittest.TestCase):
             shutil.copytree(TOP / name, self.top / name, ignore=shutil.ignore_patterns("target", "__pycache__"))
         for name in ("Makefile", "README.md", "crates.txt"):
             shutil.copy(TOP / name, self.top)
-        (self.top / "crates" / "numbers").mkdir(parents=True)
+        for name in ("numbers", "aukpocket", "check_reel"):
+            (self.top / "crates" / name).mkdir(parents=True)
         bin.mkdir()
         self.tool("rt", RT)
         self.env = {key: value for key, value in os.environ.items() if not key.startswith(("MAKE", "MFLAGS"))}
@@ -92,8 +102,9 @@ class Make(Case):
         seconds = re.compile(r" +\d+ s$", re.M)
         self.assertEqual(seconds.sub("", said), seconds.sub("", re.sub(r"^    ", "", shown, flags=re.M)))
         self.assertIn("lines of proofs", (self.top / "build/make.log").read_text())
-        # What was made stands apart from target/, which the gate removes, and isn't made again.
-        shutil.rmtree(self.top / "target")
+        # What was made stands apart from what the kit has in out/, and isn't made again.
+        for name in ("aukpocket", "check_reel"):
+            shutil.rmtree(self.top / "crates" / name / "out")
         status, again = self.run_make()
         self.assertEqual((status, again), (0, said[said.index("sample.record is the record") :]))
         for line in again.splitlines()[1:4]:
@@ -128,12 +139,12 @@ class Make(Case):
         self.assertNotEqual(self.run_make("install", "PREFIX=here")[0], 0)
 
         self.assertEqual(self.run_make("clean"), (0, ""))
-        self.assertFalse(any((self.top / name).exists() for name in ("build", "target", "sample.record")))
+        self.assertFalse(any((self.top / name).exists() for name in ("build", "crates/aukpocket/out", "sample.record")))
 
     def test_a_step_that_fails(self):
         status, said = self.run_make(UNPROVED="1")
         self.assertNotEqual(status, 0)
-        self.assertRegex(said, r"^proving and compiling the library +[0-9]+ s\nlines of proofs\nrt: aukpocket NOT PROVED\n"
+        self.assertRegex(said, r"^proving and compiling the library +[0-9]+ s\nlines of proofs\nlogic=not-proved\n"
                                r"FAILED: proving and compiling the library \(exit status 1\); all that it said is at the end of build/make.log\n")
         self.assertFalse((self.top / "build/libaukpocket.a").exists())
 
@@ -178,19 +189,21 @@ class Test(Case):
     def test_all_well(self):
         status, said, trouble = self.run_test()
         self.assertEqual((status, trouble), (0, ""), said)
-        self.assertTrue(said.endswith("\n4 passed, 0 failed\n"), said)
-        self.assertRegex(said, r"(?m)^numbers +7 s +2 +31 s$")
-        self.assertRegex(said, r"(?m)^check_reel +12 s +- +-$")
-        self.assertRegex(said, r"(?m)^all +19 s +2 +31 s$")
-        self.assertIn("  numbers proved (7 s)\n", said)
+        self.assertTrue(said.endswith("\n6 passed, 0 failed\n"), said)
+        self.assertRegex(said, r"(?m)^places +kept +-\nnumbers +[0-9]+ s +3\ncheck_reel +[0-9]+ s +-\nall +[0-9]+ s +3$")
+        self.assertIn("  numbers proved\n", said)
         self.assertIn("  numbers: 2 wrong programs refused\n", said)
+        self.assertIn("  must-fail numbers/no_end.edit: refused, as it must be (only by a limit", said)
         self.assertRegex(said, r"(?m)^the gate +[0-9]+ s$")
         self.assertEqual((self.top / "build/gate.log").read_text(), GATE)
 
     def test_a_gate_that_fails(self):
         for text, gate_status in (
-            (GATE, "1"), (GATE.replace("4 passed, 0 failed", "3 passed, 1 failed"), "0"),
-            (GATE.replace("4 passed, 0 failed", "3 passed, 1 failed"), "1"), (GATE.replace("4 passed, 0 failed\n", ""), "0"), ("", "2"),
+            (GATE, "1"), (GATE.replace("6 passed, 0 failed", "5 passed, 1 failed"), "0"),
+            (GATE.replace("6 passed, 0 failed", "5 passed, 1 failed"), "1"), (GATE.replace("6 passed, 0 failed\n", ""), "0"), ("", "2"),
+            # Wrong programs that can't be tried any more, and a run that is not the gate.
+            (GATE.replace(LIMIT, "3 refused, 1 bad"), "0"), (GATE.replace(LIMIT, f"{LIMIT}, 12 bad"), "0"),
+            (GATE.replace("rt: ok; ", "rt: numbers and the crates below passed; "), "0"),
         ):
             self.gate.write_text(text)
             status, said, _ = self.run_test(GATE_STATUS=gate_status)

@@ -127,56 +127,6 @@ impl Deref for View {
     }
 }
 
-/// A file that is measured before it is read, and may be read more than once. What can't be measured, a pipe, is loaded at once.
-pub struct Measured<'a> {
-    pub path: &'a Path,
-    pub length: u64,
-    state: Option<State>,
-    loaded: Vec<u8>,
-}
-
-impl Measured<'_> {
-    pub fn of(path: &Path) -> Result<Measured<'_>, Trouble> {
-        let name = path.display();
-        let (mut file, length) = open(path)?;
-        let about = file
-            .metadata()
-            .map_err(|e| Trouble::file(format!("{name}: can't be looked at: {e}")))?;
-        let mut measured = Measured {
-            path,
-            length,
-            state: Some(State::of(&about)),
-            loaded: Vec::new(),
-        };
-        if !about.is_file() || length == 0 {
-            measured.loaded = load_from(&mut file, length, name)?;
-            measured.length = measured.loaded.len() as u64;
-            measured.state = None;
-        }
-        Ok(measured)
-    }
-
-    /// Adds its content to bytes that have room for it. The file has to be as it was measured.
-    pub fn add_to(&self, bytes: &mut Vec<u8>) -> Result<(), Trouble> {
-        let Some(state) = self.state else {
-            bytes.extend_from_slice(&self.loaded);
-            return Ok(());
-        };
-        let name = self.path.display();
-        step(format_args!("loading {name}"), self.length);
-        let (mut file, _) = open(self.path)?;
-        let end = bytes.len() as u64 + self.length;
-        file.by_ref()
-            .take(self.length)
-            .read_to_end(bytes)
-            .map_err(|e| Trouble::file(format!("{name}: can't be read: {e}")))?;
-        match file.metadata() {
-            Ok(about) if State::of(&about) == state && bytes.len() as u64 == end => Ok(()),
-            _ => Err(changed(self.path)),
-        }
-    }
-}
-
 /// A file that another program changed while it was read.
 pub fn changed(path: &Path) -> Trouble {
     Trouble::file(format!("{}: was changed while it was read", path.display()))

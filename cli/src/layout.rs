@@ -102,14 +102,6 @@ pub fn number(bytes: &[u8], place: usize) -> u16 {
     }
 }
 
-/// The four-byte number at a place, 0 beyond the end.
-pub fn number_of_four(bytes: &[u8], place: usize) -> u32 {
-    match place.checked_add(4).and_then(|end| bytes.get(place..end)) {
-        Some(four) => u32::from_be_bytes([four[0], four[1], four[2], four[3]]),
-        None => 0,
-    }
-}
-
 /// The numbers of a reel's header as they stand, and the count of whole traces that its length gives.
 pub struct Shape {
     pub interval: u16,

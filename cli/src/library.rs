@@ -1056,7 +1056,7 @@ mod tests {
         let mut wrong = both.clone();
         wrong[line[0].len() + 3225] = 7;
         assert_eq!(refused(&wrong, &[length, length]), (2, length + 3224));
-        assert_eq!(refused(&both, &[2 * length]), (5, 3848));
+        assert_eq!(refused(&both, &[2 * length]), (5, 7568));
     }
 
     /// Eight card bytes: one byte in each place that has a 1 in `places`, another in the rest.

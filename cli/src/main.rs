@@ -1,6 +1,5 @@
-//! The command `aukpocket`: reels into records, records into reels, what they hold, the order of records, and boxes of reels.
+//! The command `aukpocket`: reels into records, records into reels, what they hold, and the order of records.
 
-mod boxes;
 mod cards;
 mod codes;
 mod compare;
@@ -125,7 +124,7 @@ struct Command {
     run: fn(&Words) -> Result<(), Trouble>,
 }
 
-static COMMANDS: [Command; 10] = [
+static COMMANDS: [Command; 9] = [
     Command {
         name: "read",
         words: &["REEL", "RECORD"],
@@ -197,15 +196,6 @@ static COMMANDS: [Command; 10] = [
         options: &[],
         help: help::sort,
         run: sort,
-    },
-    Command {
-        name: "box",
-        words: &["REEL"],
-        optional: &[],
-        many: true,
-        options: &[],
-        help: help::of_box,
-        run: check_box,
     },
     Command {
         name: "check",
@@ -1094,12 +1084,6 @@ fn in_list(path: &Path) -> Vec<u8> {
         _ if name != bytes => [b"\\", &name[..]].concat(),
         _ => name,
     }
-}
-
-/// Checks that reels, in the order in which they are named, are one line.
-fn check_box(words: &Words) -> Result<(), Trouble> {
-    let paths: Vec<&Path> = words.words.iter().map(Path::new).collect();
-    tell_bytes(&boxes::of_files(&paths, escaped)?)
 }
 
 fn check(words: &Words) -> Result<(), Trouble> {

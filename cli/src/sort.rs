@@ -1,5 +1,5 @@
 //! Many records in their order. Each is judged whole once. Two are then compared by their fronts: where these differ, the records have the
-//! order of their fronts (`front-decides` in the proofs). Only where they are equal the records are compared whole. A record is mapped while
+//! order of their fronts (`front_decides` in the proofs). Only where they are equal the records are compared whole. A record is mapped while
 //! the library looks at it and at no other time, so that neither mapped bytes nor open files grow with the number of records.
 
 use crate::files::{self, step, State, View};
