@@ -42,12 +42,14 @@
  *   19      an IEEE word is an infinity or a not-a-number             its place
  *   20      the last two bytes of an Eagle reel's trailer are not     place of the first of the two
  *           FFFF
+ *
+ * For a single word or pair the place beside 2, 9, 11, 13, 14 and 19 is 0. A box of reels has two numbers more, every place of it is counted
+ * in its whole slice, and the length beside 1 is that of the reel alone:
+ *
+ *   number  cause                                                     beside it
  *   21      the lengths of a box don't add up to its slice            place 0
  *   22      a field of a box breaks a rule on line, N, interval or    its place
  *           sequence
- *
- * For a single word or pair the place beside 2, 9, 11, 13, 14 and 19 is 0. In a box of reels every place is counted in its whole slice; the
- * length beside 1 is that of the reel alone.
  *
  * The format codes, the bytes of a sample on a reel, and its value. All numbers are big-endian, whole ones in two's complement.
  *
@@ -151,10 +153,11 @@ extern "C" {
  *      compiled again
  *
  * aukpocket_blank_eight is there since 0.6.0, aukpocket_read_eagle and number 20, which that call alone answers, since 0.7.0,
- * aukpocket_compare and its answer since 0.9.0, aukpocket_check_box, its answer, and numbers 21 and 22, which that call alone answers, since
- * 0.10.0, and the number stayed 4: all else is as it was, and what was compiled under 4 can be linked as it is. So it can with 0.8.0, in
- * which no declaration changed. But N runs to 32,767 since then, before to 8,000, and where it is above 6,000 a trace has several fields of
- * samples in the record: a caller who works out a record's length, or takes its bytes apart, has to follow. */
+ * aukpocket_compare and its answer since 0.9.0, and aukpocket_check_box, its answer, and numbers 21 and 22, which that call alone answers,
+ * come with the version after it and are here already, and the number stayed 4: all else is as it was, and what was compiled under 4 can be
+ * linked as it is. So it can with 0.8.0, in which no declaration changed. But N runs to 32,767 since then, before to 8,000, and where it is
+ * above 6,000 a trace has several fields of samples in the record: a caller who works out a record's length, or takes its bytes apart, has
+ * to follow. */
 #define AUKPOCKET_VERSION 4
 
 /* What a call on a whole reel or record answers: the traces, the samples of each, and the length of what was written. Beside a listing

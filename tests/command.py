@@ -2000,7 +2000,7 @@ class Eagle(Case):
         causes = [list(map(int, re.findall(pattern, text, re.M))) for pattern, text in (
             (r"^\| (\d+) \| [^|]+ \| [^|]+ \|$", readme.split("| number | cause | beside it |")[1].split("\n\n")[0]),
             (r"^ \* {3,4}(\d+) {6}\S", header.split("number  cause")[1].split("For a single word")[0]))]
-        self.assertEqual(causes, [list(range(1, 23))] * 2)
+        self.assertEqual(causes, [list(range(1, 21))] * 2)
 
 
 def long_reel(code, n, t):
