@@ -291,10 +291,13 @@ pub extern "C" fn aukpocket_check_box(reels: &[u8], lengths: &[u64]) -> BoxAnswe
 {
     let answer = reel_box::check_box(reels, lengths);
     match answer {
-        reel_box::Answer::Taken { reels: n, traces } => BoxAnswer {
+        reel_box::Answer::Taken {
+            reels: n,
+            traces: t,
+        } => BoxAnswer {
             number: 0,
             reels: n as u64,
-            traces: traces as u64,
+            traces: t as u64,
             beside: 0,
         },
         reel_box::Answer::Refused { number, place } => BoxAnswer {

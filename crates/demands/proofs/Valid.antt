@@ -93,7 +93,7 @@ module _ (s : List ℕ) where
   pub cards_fine : CardsRight s → cards_causes s ≡ Fine
   unfolding cards_causes
   cards_fine h =
-      fine_then cards_test h.cards (walk_fine (λ j. ¬ (get_or s (3 + j) 0 ≡ 0)) 13 (card_cause s) 1 3200 3 (λ j. 3 + j) card_tests h.card_bytes_lem)
+      fine_then cards_test h.cards (walk_fine (λ j. ¬ (get_or s (3 + j) 0 ≡ 0)) 13 (card_cause s) 1 3200 3 (λ j. 3 + j) card_tests h.card_bytes)
 
   -- And where they find nothing in it, it is right.
   pub cards_right : cards_causes s ≡ Fine → CardsRight s
@@ -102,7 +102,7 @@ module _ (s : List ℕ) where
       let a = holds_then cards_test _ e in
       record {
         cards = a.0;
-        card_bytes_lem = walk_holds (λ j. ¬ (get_or s (3 + j) 0 ≡ 0)) 13 (card_cause s) 1 3200 3 (λ j. 3 + j) card_tests a.1;
+        card_bytes = walk_holds (λ j. ¬ (get_or s (3 + j) 0 ≡ 0)) 13 (card_cause s) 1 3200 3 (λ j. 3 + j) card_tests a.1;
       }
 
   -- Where tag 02 is right, 12 and 13 find nothing in it.

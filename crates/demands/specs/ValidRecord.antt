@@ -58,7 +58,7 @@ pair_place s k j = fields.pair_place 6 (share_of s k) (trace_place s k + 183) j
 -- Tag 01 stands at the front with its 3,200 card bytes, none of them 00.
 pub record CardsRight (s : List ℕ) : Type 0 where
   pub cards : Stands s 1 3200 0
-  pub card_bytes_lem : (j : ℕ) → j < 3200 → ¬ (get_or s (3 + j) 0 ≡ 0)
+  pub card_bytes : (j : ℕ) → j < 3200 → ¬ (get_or s (3 + j) 0 ≡ 0)
 
 -- Then tag 02 stands with its 60 bytes: interval and N are within their limits, and the format code is 0. Its place is 3203, behind the
 -- 3 + 3200 bytes of tag 01.

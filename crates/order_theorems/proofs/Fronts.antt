@@ -86,7 +86,7 @@ module _ (s : List ℕ) (room : traces_place ≤ length s) where
         front =
             record {
               cards = front_stands 1 3200 0 (omega arith) h.front.cards;
-              card_bytes_lem = λ j l e. h.front.card_bytes_lem j l (sym (front_byte (3 + j) (omega arith)) ∙ e);
+              card_bytes = λ j l e. h.front.card_bytes j l (sym (front_byte (3 + j) (omega arith)) ∙ e);
             };
         binary = front_stands 2 60 3203 (omega arith) h.binary;
         interval = subst (Between 1 32767) (sym (front_number 3222 (omega arith))) h.interval;
