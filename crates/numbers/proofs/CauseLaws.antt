@@ -5,8 +5,7 @@ use Rattle.numbers.specs.Terms.{All}
 use Rattle.numbers.specs.Walk.{walk}
 use Rattle.numbers.specs.Cause.{refuse_if, then, first_of}
 use Rattle.numbers.specs.declared.Place.{Place}
-use Rattle.numbers.specs.declared.Check.{Check}
-use Rattle.numbers.specs.declared.Check.TheVariants.{Fine, Refused}
+use Rattle.numbers.specs.Cause.{Check, Fine, Refused}
 use Rattle.numbers.proofs.WalkLaws.{walk_more, all_walk}
 
 -- ## A step at a time
