@@ -11,8 +11,8 @@ use Rattle.numbers.specs.Walk.{pick, walk, flat, bytes_at}
 use Rattle.numbers.specs.BigEndian.{number}
 use Rattle.numbers.specs.Cause.{refuse_if, then, first_of}
 use Rattle.numbers.specs.declared.Place.{Place}
-use Rattle.numbers.specs.declared.Check.{Check}
-use Rattle.numbers.specs.declared.Check.TheVariants.{Fine, Refused}
+use Rattle.numbers.specs.Cause.{Check}
+use Rattle.numbers.specs.Cause.{Fine, Refused}
 use Rattle.numbers.proofs.CauseLaws.{not_fine, passed, then_fine}
 use Rattle.formats.specs.Codes.{is_code}
 use Rattle.value.specs.Pair.{value_of, is_canonical, pair_length, pair_in}

@@ -2,7 +2,7 @@
 use Rattle.std.specs.Prelude.{ℕ, ◌+◌, List, Bool, true, false, not}
 use Rattle.fields.specs.Fields.{each, pair_place}
 use Rattle.numbers.specs.Cause.{refuse_if, then, first_of}
-use Rattle.numbers.specs.declared.Check.{Check}
+use Rattle.numbers.specs.Cause.{Check}
 use Rattle.formats.specs.Codes.{is_code}
 use Rattle.value.specs.Pair.{pair_length}
 use Rattle.formats.specs.Words.{word_of}

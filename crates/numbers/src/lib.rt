@@ -1,7 +1,7 @@
 // What every layer uses: the types of places, byte numbers and checks, numbers of bytes in either order, two's complement.
 #![tactic(auto)]
 
-ghost use Rattle.std.specs.Prelude.{◌≡◌, ◌^◌, ◌≤◌, [], ◌∷◌, reverse, unsigned_abs, ℕ, ℤ, length, ◌*◌, ◌-◌};
+ghost use Rattle.std.specs.Prelude.{◌≡◌, ◌^◌, ◌≤◌, [], ◌∷◌, unsigned_abs, ℕ, ℤ, length, ◌*◌, ◌-◌};
 ghost use Rattle.numbers.specs.BigEndian.{number, bytes_of};
 ghost use Rattle.std.proofs.Common.{rules};
 ghost use Rattle.numbers.specs.Cause.{number_of};
@@ -224,13 +224,6 @@ pub fn le32(a: u8, b: u8, c: u8, d: u8) -> u32
     a as u32 + b as u32 * 0x100 + c as u32 * 0x1_0000 + d as u32 * 0x100_0000
 }
 
-// The number of eight bytes, the first lowest. As two halves the compiler makes one fetch of it, of bytes that stand together.
-pub fn le64(a: u8, b: u8, c: u8, d: u8, e: u8, f: u8, g: u8, h: u8) -> u64
-    ensures { result ≡ number (h ∷ g ∷ f ∷ e ∷ d ∷ c ∷ b ∷ a ∷ []) }
-{
-    le32(a, b, c, d) as u64 + le32(e, f, g, h) as u64 * 0x1_0000_0000
-}
-
 // The two bytes of a number.
 pub fn bytes16(n: u16) -> [u8; 2]
     ensures { result ≡ bytes_of 2 n }
@@ -247,22 +240,6 @@ pub fn bytes32(n: u32) -> [u8; 4]
         (n / 0x1_0000 % 256) as u8,
         (n / 256 % 256) as u8,
         (n % 256) as u8,
-    ]
-}
-
-// The eight bytes of a number, the lowest first.
-pub fn le_bytes64(x: u64) -> [u8; 8]
-    ensures { result ≡ reverse (bytes_of 8 x) }
-{
-    [
-        (x % 256) as u8,
-        (x / 256 % 256) as u8,
-        (x / 0x1_0000 % 256) as u8,
-        (x / 0x100_0000 % 256) as u8,
-        (x / 0x1_0000_0000 % 256) as u8,
-        (x / 0x100_0000_0000 % 256) as u8,
-        (x / 0x1_0000_0000_0000 % 256) as u8,
-        (x / 0x100_0000_0000_0000 % 256) as u8,
     ]
 }
 

@@ -14,8 +14,8 @@ use Rattle.numbers.specs.Places.{byte_place}
 use Rattle.numbers.specs.BigEndian.{number}
 use Rattle.numbers.specs.Cause.{refuse_if, then, first_of}
 use Rattle.numbers.specs.declared.Place.{Place}
-use Rattle.numbers.specs.declared.Check.{Check}
-use Rattle.numbers.specs.declared.Check.TheVariants.{Fine, Refused}
+use Rattle.numbers.specs.Cause.{Check}
+use Rattle.numbers.specs.Cause.{Fine, Refused}
 use Rattle.numbers.proofs.CauseLaws.{then_assoc, passed, then_fine}
 use Rattle.numbers.proofs.BoolLaws.{and_true}
 use Rattle.cards.specs.Cards.{no_zero}

@@ -5,8 +5,8 @@ use mathlib.Core.List.{List}
 use Prim.Native.Nat.{ℕ}
 use native.Mathlib.Omega.{arith}
 use Rattle.numbers.specs.declared.Place.{Place}
-use Rattle.numbers.specs.declared.Check.{Check}
-use Rattle.numbers.specs.declared.Check.TheVariants as check
+use Rattle.numbers.specs.Cause.{Check}
+use Rattle.numbers.specs.Cause as check
 use Rattle.record.specs.Form.{held_samples, held_count, record_found}
 use Rattle.record.specs.declared.Judged.TheVariants as judged
 

@@ -2,7 +2,7 @@
 use Rattle.std.specs.Prelude.{ℕ, zero, suc, ◌+◌, ◌*◌, List, eqb, get_or}
 use Rattle.numbers.specs.Walk.{pick, walk}
 use Rattle.numbers.specs.Cause.{then, first_of}
-use Rattle.numbers.specs.declared.Check.{Check}
+use Rattle.numbers.specs.Cause.{Check}
 use Rattle.fields.specs.Fields.{in_fields}
 use Rattle.value.specs.Pair.{pair_length}
 use Rattle.write_samples.specs.Samples.{samples_checked}

@@ -13,8 +13,8 @@ use Rattle.numbers.specs.Walk.{pick}
 use Rattle.numbers.specs.Cause.{refuse_if, then}
 use Rattle.numbers.specs.Outcome.{Said, taken, refused, Outcome}
 use Rattle.numbers.specs.declared.Place.{Place}
-use Rattle.numbers.specs.declared.Check.{Check}
-use Rattle.numbers.specs.declared.Check.TheVariants as check
+use Rattle.numbers.specs.Cause.{Check}
+use Rattle.numbers.specs.Cause as check
 use Rattle.numbers.proofs.CauseLaws.{passed, then_assoc, then_fine}
 use Rattle.formats.specs.Codes.{is_code, sample_bytes}
 use Rattle.reel.specs.Layout.{stride}

@@ -9,7 +9,7 @@ use Rattle.record.specs.Parts.{trace_by, form_from}
 use Rattle.reel.specs.Causes.{most_traces}
 use Rattle.numbers.proofs.CauseLaws.{then_last}
 use Rattle.numbers.specs.Cause.{then}
-use Rattle.numbers.specs.declared.Check.TheVariants.{Fine}
+use Rattle.numbers.specs.Cause.{Fine}
 use lib.ListN.{length}
 use mathlib.Core.Bool.{true}
 use Prim.Native.Nat.{ℕ, ◌+◌, ◌-◌, ◌≤◌, ◌<◌}

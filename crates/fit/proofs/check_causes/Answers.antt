@@ -13,7 +13,7 @@ use Rattle.numbers.specs.declared.Place.{Place}
 use Rattle.numbers.specs.declared.ByteNo.{ByteNo}
 use Rattle.reel.specs.Layout.{number16}
 use mathlib.Core.List.{List}
-use Rattle.numbers.specs.declared.Check.TheVariants.{Fine}
+use Rattle.numbers.specs.Cause.{Fine}
 use borrow.Author.Tests.{not-false}
 use mathlib.Core.Bool.{true, not}
 use Prim.Native.Nat.{ℕ}

@@ -2,7 +2,7 @@
 use Rattle.record.specs.Form.{field_cause, number_causes, binary_causes}
 use Rattle.reel.specs.Layout.{number16}
 use Rattle.numbers.proofs.CauseLaws.{then_stop, then_next}
-use Rattle.numbers.specs.declared.Check.TheVariants.{Fine}
+use Rattle.numbers.specs.Cause.{Fine}
 use Prim.Native.Nat.{ℕ}
 use mathlib.Core.Path.{◌≡◌, sym, ap, ◌∙◌}
 use Rattle.record.proofs.check_binary.Goals.{In-Fine}

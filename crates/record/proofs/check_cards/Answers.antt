@@ -2,7 +2,7 @@
 use Rattle.record.proofs.FormLaws.{field_room}
 use Rattle.record.specs.Form.{field_cause, cards_causes}
 use Rattle.numbers.proofs.CauseLaws.{then_stop, then_next}
-use Rattle.numbers.specs.declared.Check.TheVariants.{Fine}
+use Rattle.numbers.specs.Cause.{Fine}
 use mathlib.Core.Path.{◌≡◌, sym, ◌∙◌}
 use Rattle.record.proofs.check_cards.Goals.{In-Fine}
 use Rattle.record.proofs.check_cards.Goals as goal

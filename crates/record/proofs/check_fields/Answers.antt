@@ -1,7 +1,7 @@
 -- `record::check_fields` meets its contract. Assumes nothing.
 use Rattle.numbers.proofs.CauseLaws.{then_stop}
 use Rattle.numbers.specs.Cause.{then}
-use Rattle.numbers.specs.declared.Check.TheVariants.{Fine}
+use Rattle.numbers.specs.Cause.{Fine}
 use Rattle.record.specs.Parts.{field_by, fields_by}
 use Rattle.record.proofs.FormLaws.{fields_none, fields_more, one_room}
 use lib.ListN.{length}

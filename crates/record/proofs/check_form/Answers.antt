@@ -4,7 +4,7 @@ use Rattle.record.specs.Form.{cards_causes, binary_causes, held_samples, traces_
 use Rattle.record.specs.Parts.{form_from}
 use Rattle.reel.specs.Causes.{most_traces}
 use Rattle.numbers.specs.Cause.{then}
-use Rattle.numbers.specs.declared.Check.TheVariants.{Fine}
+use Rattle.numbers.specs.Cause.{Fine}
 use Prim.Native.Nat.{ℕ}
 use mathlib.Core.Path.{◌≡◌, sym, ap, ◌∙◌}
 use Rattle.record.proofs.check_form.Goals.{In-Fine}

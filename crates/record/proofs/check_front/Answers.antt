@@ -1,7 +1,7 @@
 -- `record::check_front` meets its contract. Assumes nothing.
 use Rattle.record.specs.Form.{cards_causes}
 use Rattle.numbers.proofs.CauseLaws.{then_stop, then_next}
-use Rattle.numbers.specs.declared.Check.TheVariants.{Fine}
+use Rattle.numbers.specs.Cause.{Fine}
 use mathlib.Core.Path.{◌≡◌, sym, ◌∙◌}
 use Rattle.record.proofs.check_front.Goals.{In-Fine}
 use Rattle.record.proofs.check_front.Goals as goal

@@ -6,7 +6,7 @@ use Rattle.reel.specs.Layout.{number16}
 use Rattle.numbers.proofs.CauseLaws.{then_stop, then_next}
 use Rattle.numbers.specs.Cause.{refuse_if}
 use Rattle.numbers.specs.Places.{place_no, byte_place}
-use Rattle.numbers.specs.declared.Check.TheVariants.{Fine}
+use Rattle.numbers.specs.Cause.{Fine}
 use lib.Dec.{eqb}
 use lib.ListN.{length}
 use mathlib.Core.Bool.{not}

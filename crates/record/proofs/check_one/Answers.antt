@@ -1,6 +1,6 @@
 -- `record::check_one` meets its contract. Assumes nothing.
 use Rattle.numbers.proofs.CauseLaws.{then_stop, then_next}
-use Rattle.numbers.specs.declared.Check.TheVariants.{Fine}
+use Rattle.numbers.specs.Cause.{Fine}
 use Rattle.record.specs.Form.{field_cause}
 use Rattle.record.specs.Parts.{field_by}
 use Rattle.record.proofs.FormLaws.{field_room}

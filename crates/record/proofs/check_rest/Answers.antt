@@ -6,7 +6,7 @@ use Rattle.record.specs.Parts.{form_from}
 use Rattle.reel.specs.Causes.{most_traces}
 use Rattle.numbers.proofs.CauseLaws.{then_stop}
 use Rattle.numbers.specs.Cause.{then}
-use Rattle.numbers.specs.declared.Check.TheVariants.{Fine}
+use Rattle.numbers.specs.Cause.{Fine}
 use lib.ListN.{length}
 use mathlib.Core.Bool.{true}
 use Prim.Native.Nat.{ℕ, ◌+◌, ◌-◌, ◌≤◌, ◌<◌}

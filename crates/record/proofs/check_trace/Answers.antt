@@ -4,7 +4,7 @@ use Rattle.record.specs.Kind.{tag04}
 use Rattle.record.specs.Form.{header_causes}
 use Rattle.record.specs.Parts.{fields_by, trace_by}
 use Rattle.numbers.proofs.CauseLaws.{then_stop, then_next}
-use Rattle.numbers.specs.declared.Check.TheVariants.{Fine}
+use Rattle.numbers.specs.Cause.{Fine}
 use lib.ListN.{length}
 use Prim.Native.Nat.{ℕ, ◌+◌, ◌<◌, ◌≤◌}
 use mathlib.Core.Path.{◌≡◌, sym, ap, subst, ◌∙◌}

@@ -6,7 +6,7 @@ use Rattle.cards.specs.Cards.{no_zero}
 use Rattle.cards.proofs.EightLaws.{text_none}
 use Rattle.numbers.proofs.CauseLaws.{then_stop, then_next}
 use Rattle.numbers.proofs.WalkLaws.{bytes_between}
-use Rattle.numbers.specs.declared.Check.TheVariants.{Fine}
+use Rattle.numbers.specs.Cause.{Fine}
 use mathlib.Core.Path.{◌≡◌, refl, sym, ap, ◌∙◌}
 use native.Mathlib.Omega.{arith}
 use Rattle.record.proofs.judge_front.Goals.{In-Fine}

@@ -1,6 +1,6 @@
 -- `write_reel::judge_target_and_form` meets its contract. Assumes nothing.
 use Rattle.numbers.specs.Cause.{then}
-use Rattle.numbers.specs.declared.Check.{Check}
+use Rattle.numbers.specs.Cause.{Check}
 use Rattle.record.specs.Form.{form_causes, record_found}
 use Rattle.record.specs.declared.Judged.{Judged}
 use mathlib.Core.List.{List}
