@@ -69,10 +69,16 @@ fn check_smallest(s: &[u8], start: usize) -> Result<(), Refusal>
     ensures { checked result ≡ smallest_causes s.now start }
 {
     if !scalars::is_smallest(seven_at(s, start + 40), scalar_at(s, start + 68)) {
-        return Err(Refusal { cause: Cause::RecordNumber, place: Place(start + 68) });
+        return Err(Refusal {
+            cause: Cause::RecordNumber,
+            place: Place(start + 68),
+        });
     }
     if !scalars::is_smallest(four_at(s, start + 72), scalar_at(s, start + 70)) {
-        return Err(Refusal { cause: Cause::RecordNumber, place: Place(start + 70) });
+        return Err(Refusal {
+            cause: Cause::RecordNumber,
+            place: Place(start + 70),
+        });
     }
     Ok(())
 }
