@@ -1,7 +1,7 @@
 // A reel's causes, 1 to 9, 18, 19 and 20, and its own numbers: of a plain reel, and of an Eagle reel, whose traces end with a trailer.
 #![tactic(auto)]
 
-ghost use Rattle.std.specs.Prelude.{◌≡◌, ◌+◌, ◌-◌, ◌*◌, ◌/◌, ◌%◌, ◌^◌, ◌<◌, ◌≤◌, eqb, length, not};
+ghost use Rattle.std.specs.Prelude.{◌≡◌, ◌+◌, ◌-◌, ◌*◌, ◌/◌, ◌%◌, ◌^◌, ◌<◌, ◌≤◌, eqb, length, not, IfOk};
 ghost use Rattle.numbers.specs.Walk.{walk};
 ghost use Rattle.numbers.specs.Cause.{checked, number_of, refuse_if, then, first_of};
 ghost use Rattle.numbers.specs.Places.{place_no, byte_no, byte_place};
@@ -261,7 +261,8 @@ fn stride_in(layout: Layout, n: usize, v: usize) -> usize
 
 // Whether a cause applies to a reel of a layout, and its own numbers where none does.
 fn judge(layout: Layout, reel: &[u8]) -> Result<Numbers, Refusal>
-    ensures { judged result ≡ judged_by layout reel.now }
+    ensures is { judged result ≡ judged_by layout reel.now }
+    ensures layout { IfOk result (λ own. own.layout ≡ layout) }
 {
     let size = reel.len();
     if size < 3600 {
@@ -293,14 +294,16 @@ fn judge(layout: Layout, reel: &[u8]) -> Result<Numbers, Refusal>
 
 // Whether a cause of 1 to 9, 18 and 19 applies to a plain reel, and its own numbers where none does.
 pub fn judge_reel(reel: &[u8]) -> Result<Numbers, Refusal>
-    ensures { judged result ≡ reel_judged reel.now }
+    ensures is { judged result ≡ reel_judged reel.now }
+    ensures layout { IfOk result (λ own. own.layout ≡ Layout.Plain) }
 {
     judge(Layout::Plain, reel)
 }
 
 // Whether a cause of 1 to 8, 18 and 20 applies to an Eagle reel, and its own numbers where none does.
 pub fn judge_eagle(reel: &[u8]) -> Result<Numbers, Refusal>
-    ensures { judged result ≡ judged_by Eagle reel.now }
+    ensures is { judged result ≡ judged_by Eagle reel.now }
+    ensures layout { IfOk result (λ own. own.layout ≡ Layout.Eagle) }
 {
     judge(Layout::Eagle, reel)
 }

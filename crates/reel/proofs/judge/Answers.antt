@@ -1,5 +1,5 @@
 -- `reel::judge` meets its contract. Assumes nothing.
-use Rattle.std.proofs.Common.{◌≡◌, rules, sym, ap, ◌∙◌}
+use Rattle.std.proofs.Common.{◌≡◌, rules, sym, ap, ◌∙◌, refl}
 use Rattle.reel.specs.Causes.{causes_by, behind_causes_by, found_by}
 use Rattle.reel.specs.Judged.{judged, Refused}
 use Rattle.reel.proofs.JudgedLaws.{causes_long}
@@ -18,7 +18,7 @@ returns-in_err-check_header c =
     let e = c.in_err-check_header.field-0.0 in
     let q : judged c.from_residual.result ≡ Refused (number_of e.cause) e.place = search rules in
     let b = rw (c.binary_number-code.ensures.is, c.binary_number-samples.ensures.is, c.binary_number-interval.ensures.is) at c.in_err-check_header.ensures in
-    q ∙ ap (found_by k s) (b ∙ then_stop _ _ (sym b) ∙ sym (causes_long k s c.if-size-lt3600.false))
+    record { is = q ∙ ap (found_by k s) (b ∙ then_stop _ _ (sym b) ∙ sym (causes_long k s c.if-size-lt3600.false)); layout = search rules }
 
 pub returns-in_err-check_size : goal.returns-in_err-check_size
 returns-in_err-check_size c =
@@ -28,7 +28,7 @@ returns-in_err-check_size c =
     let q : judged c.from_residual-in_err-check_size.result ≡ Refused (number_of e.cause) e.place = search rules in
     let h = rw (c.binary_number-code.ensures.is, c.binary_number-samples.ensures.is, c.binary_number-interval.ensures.is) at c.in_ok-check_header.ensures in
     let b = rw (c.stride_in-stride.ensures, c.width_of-width.ensures.0, c.binary_number-code.ensures.is, c.binary_number-samples.ensures.is) at c.in_err-check_size.ensures in
-    q ∙ ap (found_by k s) (b ∙ then_stop _ _ (sym b) ∙ then_next _ _ (sym h) ∙ sym (causes_long k s c.if-size-lt3600.false))
+    record { is = q ∙ ap (found_by k s) (b ∙ then_stop _ _ (sym b) ∙ then_next _ _ (sym h) ∙ sym (causes_long k s c.if-size-lt3600.false)); layout = search rules }
 
 pub returns-in_err-check_traces : goal.returns-in_err-check_traces
 returns-in_err-check_traces c =
@@ -39,7 +39,7 @@ returns-in_err-check_traces c =
     let h = rw (c.binary_number-code.ensures.is, c.binary_number-samples.ensures.is, c.binary_number-interval.ensures.is) at c.in_ok-check_header.ensures in
     let z = rw (c.stride_in-stride.ensures, c.width_of-width.ensures.0, c.binary_number-code.ensures.is, c.binary_number-samples.ensures.is) at c.in_ok-check_size.ensures in
     let b = rw (c.stride_in-stride.ensures, c.width_of-width.ensures.0, c.binary_number-code.ensures.is, c.binary_number-samples.ensures.is, c.binary_number-interval.ensures.is) at c.in_err-check_traces.ensures in
-    q ∙ ap (found_by k s) (b ∙ then_next _ _ (sym z) ∙ then_next _ _ (sym h) ∙ sym (causes_long k s c.if-size-lt3600.false))
+    record { is = q ∙ ap (found_by k s) (b ∙ then_next _ _ (sym z) ∙ then_next _ _ (sym h) ∙ sym (causes_long k s c.if-size-lt3600.false)); layout = search rules }
 
 pub returns : goal.returns
 returns c =
@@ -48,5 +48,9 @@ returns c =
     let h = rw (c.binary_number-code.ensures.is, c.binary_number-samples.ensures.is, c.binary_number-interval.ensures.is) at c.in_ok-check_header.ensures in
     let z = rw (c.stride_in-stride.ensures, c.width_of-width.ensures.0, c.binary_number-code.ensures.is, c.binary_number-samples.ensures.is) at c.in_ok-check_size.ensures in
     let b = rw (c.stride_in-stride.ensures, c.width_of-width.ensures.0, c.binary_number-code.ensures.is, c.binary_number-samples.ensures.is, c.binary_number-interval.ensures.is) at c.in_ok-check_traces.ensures in
-    rw (c.stride_in-stride.ensures, c.width_of-width.ensures.0, c.binary_number-code.ensures.is, c.binary_number-samples.ensures.is, c.binary_number-interval.ensures.is)
-    (ap (found_by k s) (b ∙ then_next _ _ (sym z) ∙ then_next _ _ (sym h) ∙ sym (causes_long k s c.if-size-lt3600.false)))
+    record {
+      is =
+          rw (c.stride_in-stride.ensures, c.width_of-width.ensures.0, c.binary_number-code.ensures.is, c.binary_number-samples.ensures.is, c.binary_number-interval.ensures.is)
+          (ap (found_by k s) (b ∙ then_next _ _ (sym z) ∙ then_next _ _ (sym h) ∙ sym (causes_long k s c.if-size-lt3600.false)));
+      layout = refl;
+    }
