@@ -299,7 +299,7 @@ fn refused_sample(refusal: Refusal) -> SampleAnswer
     SampleAnswer {
         number: refusal.cause.number() as u64,
         beside: refusal.place.0 as u64,
-        not_normal: NONE_COUNTED,
+        not_normal: 0,
     }
 }
 
@@ -311,7 +311,7 @@ fn sample_answer(answer: Result<(), Refusal>) -> SampleAnswer
         Ok(()) => SampleAnswer {
             number: 0,
             beside: 0,
-            not_normal: NONE_COUNTED,
+            not_normal: 0,
         },
         Err(refusal) => refused_sample(refusal),
     }
