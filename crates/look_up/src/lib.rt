@@ -57,7 +57,7 @@ fn width_in(rows: &[Row], b: u32) -> Option<Width>
     None
 }
 
-// The same in the header that a trace number means: 0 the binary header, 1 that of the first trace.
+// The same in the header that a trace number means: 0 the binary header, 1 that of the first trace. Callers in C give the number so.
 fn width_at(trace: usize, b: u32) -> Option<Width>
     ensures { bytes_or_none result ≡ width_of (field_in b (header_fields trace)) }
 {
