@@ -17,14 +17,14 @@ use Rattle.look_up.proofs.look_up.Goals as goal
 
 -- the reel's own numbers
 owns : (c : In_ok-own) → let o = c.in_ok-own.own in Own c.args.reel.now o.samples o.interval o.stride × (o.traces ≡ traces_of c.args.reel.now)
-owns c = own_numbers c.args.reel.now (sym c.in_ok-own.ensures)
+owns c = own_numbers c.args.reel.now (sym c.in_ok-own.ensures.is)
 
 pub returns-in_err-own : goal.returns-in_err-own
 returns-in_err-own c =
     let a = c.args in
     let r = c.in_err-own.field-0.0 in
     let q : looked_up c.from_residual.result ≡ number_said (Refused (number_of r.cause) r.place) (pos 0) = search rules in
-    q ∙ stopped_is a.reel.now a.trace a.b (refused_is Plain a.reel.now (sym c.in_err-own.ensures))
+    q ∙ stopped_is a.reel.now a.trace a.b (refused_is Plain a.reel.now (sym c.in_err-own.ensures.is))
 
 pub returns-then-own-trace : goal.returns-then-own-trace
 returns-then-own-trace c =
