@@ -16,7 +16,7 @@ use Rattle.reel_box.proofs.State.step_over.Goals as goal
 refused : (c : In-Err)
     → let a = c.args in let r = c.in-Err.refusal in
     causes_of (reel_at a.s.now a.at a.l) ≡ Refused (number_of r.cause) r.place
-refused c = let a = c.args in refused_is Plain _ (sym (c.in-Err.ensures ∙ ap reel_judged (part_is a.s.now a.at a.l)))
+refused c = let a = c.args in refused_is Plain _ (sym (c.in-Err.ensures.is ∙ ap reel_judged (part_is a.s.now a.at a.l)))
 
 pub in_slice-requires : goal.in_slice-requires
 in_slice-requires c =
@@ -33,7 +33,7 @@ returns-in-Err c =
 owns : (c : In-Ok)
     → let a = c.args in let o = c.in-Ok.own in
     Own Plain (reel_at a.s.now a.at a.l) o.code o.samples o.interval o.width o.stride o.traces
-owns c = let a = c.args in own Plain _ (sym (c.in-Ok.ensures ∙ ap reel_judged (part_is a.s.now a.at a.l)))
+owns c = let a = c.args in own Plain _ (sym (c.in-Ok.ensures.is ∙ ap reel_judged (part_is a.s.now a.at a.l)))
 
 pub step_on-requires : goal.step_on-requires
 step_on-requires c =
