@@ -19,11 +19,11 @@ ghost use Rattle.code_page.specs.Page.{latin};
 ghost use Rattle.listing.specs.Calls as calls;
 ghost use Rattle.aukpocket.specs.Interface.{handed, taken_answer, refused_answer, reel_answer, reel_in, reel_handed, read_answer, read_handed, nearest_answer, nearest_handed, listing_answer, listing_handed, field_handed, order_number, order_answer, box_answer, sample_answer, word_answer, sample_in, sample_handed, word_handed};
 
-use exact::Order;
 use listing::Listed;
 use numbers::{ByteNo, Place};
 use record::{Answer, Counted};
 use sample::WordAnswer;
+use std::cmp::Ordering;
 
 // What a call on a whole reel or record answers: T, N and the length of what it wrote, of which the listing of a record's cards has the
 // length alone; of reading a reel how many of its words are not normal, and of nearest writing how many samples have another value; or the
@@ -248,13 +248,13 @@ pub extern "C" fn aukpocket_look_up(reel: &[u8], trace: usize, byte: u32) -> Fie
 }
 
 // An order in numbers: -1, 0 or 1.
-fn order_number(order: Order) -> i32
+fn order_number(order: Ordering) -> i32
     ensures { result ≡ order_number order }
 {
     match order {
-        Order::Less => -1,
-        Order::Same => 0,
-        Order::More => 1,
+        Ordering::Less => -1,
+        Ordering::Equal => 0,
+        Ordering::Greater => 1,
     }
 }
 

@@ -4,14 +4,14 @@ use Rattle.numbers.specs.Places.{place_no}
 use Rattle.numbers.specs.declared.Check.{Check}
 use Rattle.numbers.specs.declared.Check.TheVariants as check
 use Rattle.record.specs.Form.{form_causes}
-use Rattle.exact.specs.declared.Order.{Order}
+use Rattle.std.specs.declared.cmp.Ordering.{Ordering}
 use Rattle.compare.specs.Key.{order_of}
 use Rattle.compare.specs.declared.Answer.{Answer}
 use Rattle.compare.specs.declared.Answer.TheVariants.{Ordered, Refused}
 
 -- The order of the first record to the second; or which record is refused, 1 or 2, by which number and at which place in that record.
 pub data Compared : Type 0 where
-  ordered : Order → Compared
+  ordered : Ordering → Compared
   refused : ℕ → ℕ → ℕ → Compared
 
 -- The paper's values for each case of the answer.

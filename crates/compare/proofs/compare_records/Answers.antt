@@ -15,5 +15,5 @@ compare_alike-requires c =
     let y = a.b.now in
     let h : 3266 ≤ length x = omega (arith, e.if-a-lt3266.false) in
     let k : 3266 ≤ length y = omega (arith, f.if-b-lt3266.false) in
-    let same = sym c.same_bytes.ensures ∙ c.if-same_bytes.true in
+    let same = sym c.eq.ensures ∙ c.if-eq.true in
     (h, k, more_alike x y 0 3266 (none_alike x y) (part_bytes x y 0 3266 0 3266 3266 h k refl refl same))

@@ -29,6 +29,6 @@ returns c =
     let k = (goal.at.returns c).After-struct_told-1 in
     let p = k.pair_in-p in
     let a = k.args in
-    let x : c.exact_of.result ≡ exact_of p.result.e p.result.m =
-    c.exact_of.ensures ∙ ap₂ exact_of (to_z-of_z (fit_e k)) (ap (to_z w64) (ap (of_z w64) (to_z-of_z (fit_m k))) ∙ to_z-of_z (wide k)) in
+    let x : c.from_pair.result ≡ exact_of p.result.e p.result.m =
+    c.from_pair.ensures ∙ ap₂ exact_of (to_z-of_z (fit_e k)) (ap (to_z w64) (ap (of_z w64) (to_z-of_z (fit_m k))) ∙ to_z-of_z (wide k)) in
     ap value_by x ∙ exact_value_lem p.result.e p.result.m ∙ ap value_of (p.ensures ∙ ap pair_in (sym (six_bytes a.s.now a.at)))

@@ -63,18 +63,15 @@ returns c =
     let at = a.at in
     let w = held_stride_in tag04 x a.n at in
     let e : at + k.stride_at-w.result - at ≡ w = omega (arith, k.stride_at-w.ensures) in
-    c.same_bytes.ensures
+    c.eq.ensures
     ∙ ap (λ (z : ℕ). same_bytes (take z (drop at x)) (take z (drop at y))) e
     ∙ by_bytes x y a.n a.i a.t at (there (goal.at.returns c).Else-not-is_trace) (ap is_fine (right (goal.at.returns c).In-Fine)) (le-leb (at + w) (length y) (omega (arith, (room k).1, k.stride_at-w.ensures)))
 
 pub overflow_add-e : goal.overflow_add-e
 overflow_add-e c = omega (arith, (room (goal.at.overflow_add-e c).Else-b-at).0)
 
-pub slice_bounds-same_bytes-end : goal.slice_bounds-same_bytes-end
-slice_bounds-same_bytes-end c = omega (arith, (room (goal.at.slice_bounds-same_bytes-end c).Else-b-at).0)
+pub slice_bounds-eq-end : goal.slice_bounds-eq-end
+slice_bounds-eq-end c = omega (arith, (room (goal.at.slice_bounds-eq-end c).Else-b-at).0)
 
-pub slice_bounds-same_bytes-end-2 : goal.slice_bounds-same_bytes-end-2
-slice_bounds-same_bytes-end-2 c = omega (arith, (room (goal.at.slice_bounds-same_bytes-end-2 c).Else-b-at).1)
-
-pub same_bytes-requires : goal.same_bytes-requires
-same_bytes-requires c = c.same_bytes-arg-1.given.1 ∙ sym c.same_bytes-arg-2-1.given.1
+pub slice_bounds-eq-end-2 : goal.slice_bounds-eq-end-2
+slice_bounds-eq-end-2 c = omega (arith, (room (goal.at.slice_bounds-eq-end-2 c).Else-b-at).1)
