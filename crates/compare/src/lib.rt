@@ -4,9 +4,8 @@
 
 ghost use Rattle.std.specs.Prelude.{◌≡◌, ℕ, ℤ, ◌+◌, ◌*◌, ◌^◌, ◌≤◌, ◌<◌, length};
 ghost use Rattle.numbers.specs.Walk.{walk};
-ghost use Rattle.numbers.specs.Cause.{then};
+ghost use Rattle.numbers.specs.Cause.{Fine, then};
 ghost use Rattle.numbers.specs.Places.{byte_no, byte_place};
-ghost use Rattle.numbers.specs.declared.Check.TheVariants as check;
 ghost use Rattle.fields.specs.Fields.{each, pair_place, fields_length};
 ghost use Rattle.reel.specs.Layout.{number16};
 ghost use Rattle.record.specs.Kind.{tag04};
@@ -16,26 +15,62 @@ ghost use Rattle.exact.specs.Value.{value_by};
 ghost use Rattle.exact.specs.Order.{order_z, lex_z};
 ghost use Rattle.std.specs.declared.cmp.Ordering.{Ordering};
 ghost use Rattle.compare.specs.Key.{header_key, trace_key, order_of};
-ghost use Rattle.compare.specs.Answer.{compare_said, second_found, compare_outcome};
+ghost use Rattle.compare.specs.Answer.{which_number, compare_said, compare_outcome};
 ghost use Rattle.compare.specs.Parts.{Alike, same_bytes, byte_at, number_at, row_of, rows_key, rows_end, behind_traces, key_from, is_shared, Shared, run_of};
 
 use exact::Exact;
-use numbers::{ByteNo, Check, Place};
-use record::{Judged, Target};
+use numbers::{ByteNo, Number, Place, Refusal};
 use std::cmp::Ordering;
 
-// What comparing answers: the order of the first record to the second, or which of them is refused, 1 or 2, with number and place.
-#[derive(Clone, Copy)]
-pub enum Answer {
-    Ordered(Ordering),
-    Refused { which: u8, number: u8, place: Place },
+// Which of two records.
+#[derive(Clone, Copy, Debug, PartialEq, Eq)]
+pub enum Which {
+    First,
+    Second,
+}
+
+impl Which {
+    // 1 or 2.
+    pub fn number(self) -> u8
+        ensures { result ≡ which_number self }
+    {
+        match self {
+            Which::First => 1,
+            Which::Second => 2,
+        }
+    }
+}
+
+// Which of two records is refused, and why.
+#[derive(Clone, Copy, Debug, PartialEq, Eq)]
+pub struct RefusedRecord {
+    pub which: Which,
+    pub refusal: Refusal,
+}
+
+impl RefusedRecord {
+    // A refusal of the first record,
+    fn first(refusal: Refusal) -> Self {
+        RefusedRecord {
+            which: Which::First,
+            refusal,
+        }
+    }
+
+    // and of the second.
+    fn second(refusal: Refusal) -> Self {
+        RefusedRecord {
+            which: Which::Second,
+            refusal,
+        }
+    }
 }
 
 // The first traces of two records that are the same in both, and the place behind them.
 #[derive(Clone, Copy)]
-pub struct Common {
-    pub traces: usize,
-    pub place: usize,
+struct Common {
+    traces: usize,
+    place: usize,
 }
 
 // A place in a record.
@@ -148,10 +183,10 @@ fn number_at(s: &[u8], w: usize, at: usize) -> i32
     ensures { result ≡ number_at s.now w at }
 {
     if w == 4 {
-        return numbers::signed32(slices::number32_at(s, Place(at)));
+        return slices::number_at::<u32>(s, Place(at)).signed();
     }
     if w == 2 {
-        return numbers::signed16(slices::number16_at(s, Place(at))) as i32;
+        return slices::number_at::<u16>(s, Place(at)).signed() as i32;
     }
     byte_at(s, at)
 }
@@ -315,97 +350,53 @@ fn compare_traces(a: Spot, s: usize, b: Spot, t: usize, n: u16) -> Ordering
 
 // ## Records that begin with other bytes
 
-// Two valid records of s and t traces; n is the N of the first.
-fn compare_valid(a: &[u8], s: usize, b: &[u8], t: usize, n: u16) -> Ordering
-    requires { (form_causes a.now ≡ check.Fine) × (form_causes b.now ≡ check.Fine) × (n ≡ held_samples a.now) × (s ≡ held_count a.now n) × (t ≡ held_count b.now (held_samples b.now)) }
-    ensures { result ≡ order_of a.now b.now }
-{
-    let first = Spot {
-        record: a,
-        place: 0,
-    };
-    let second = Spot {
-        record: b,
-        place: 0,
-    };
-    let order = compare_rows(first, second, &FRONT_ROWS);
-    if order.is_ne() {
-        return order;
-    }
-    compare_traces(
-        Spot {
-            place: 3266,
-            ..first
-        },
-        s,
-        Spot {
-            place: 3266,
-            ..second
-        },
-        t,
-        n,
-    )
-}
-
 // The number in a field of the binary header of a record.
 fn binary_number(s: &[u8], b: ByteNo) -> u16
     requires { 1 ≤ byte_no b }
     ensures { result ≡ number16 s.now (byte_place binary_start (byte_no b)) }
 {
-    slices::number16_at(s, places::field_at(Place(6), b))
+    slices::number_at::<u16>(s, places::field_at(Place(6), b))
 }
 
-// A record beside one that is valid, of s traces.
-fn compare_second(a: &[u8], s: usize, b: &[u8]) -> Answer
-    requires { (form_causes a.now ≡ check.Fine) × (s ≡ held_count a.now (held_samples a.now)) }
-    ensures { compare_said result ≡ second_found a.now b.now (form_causes b.now) }
+// Two valid records of s and t traces.
+fn compare_valid(a: &[u8], s: usize, b: &[u8], t: usize) -> Ordering
+    requires { (form_causes a.now ≡ Fine) × (form_causes b.now ≡ Fine) × (s ≡ held_count a.now (held_samples a.now)) × (t ≡ held_count b.now (held_samples b.now)) }
+    ensures { result ≡ order_of a.now b.now }
 {
-    let c = record::judge_record(b);
-    match c {
-        Judged::Refused { number, place } => Answer::Refused {
-            which: 2,
-            number,
-            place,
-        },
-        Judged::Fine { samples: _, traces } => Answer::Ordered(compare_valid(
-            a,
-            s,
-            b,
-            traces,
-            binary_number(a, ByteNo(3221)),
-        )),
+    let first = Spot { record: a, place: 0 };
+    let second = Spot { record: b, place: 0 };
+    let order = compare_rows(first, second, &FRONT_ROWS);
+    if order.is_ne() {
+        return order;
     }
+    let n = binary_number(a, ByteNo(3221));
+    compare_traces(Spot { place: 3266, ..first }, s, Spot { place: 3266, ..second }, t, n)
 }
 
 // Two records, each judged by itself.
-fn compare_apart(a: &[u8], b: &[u8]) -> Answer
+fn compare_apart(a: &[u8], b: &[u8]) -> Result<Ordering, RefusedRecord>
     ensures { compare_said result ≡ compare_outcome a.now b.now }
 {
-    let c = record::judge_record(a);
-    match c {
-        Judged::Refused { number, place } => Answer::Refused {
-            which: 1,
-            number,
-            place,
-        },
-        Judged::Fine { samples: _, traces } => compare_second(a, traces, b),
-    }
+    let first = record::judge_record(a).map_err(RefusedRecord::first)?;
+    let second = record::judge_record(b).map_err(RefusedRecord::second)?;
+    Ok(compare_valid(a, first.traces, b, second.traces))
 }
 
 // ## Records that begin with the same bytes
 
-// Whether a trace is to be looked for behind t traces in the first record, is of the right form there, and has the same bytes in the second.
-fn is_shared(a: &[u8], b: &[u8], n: u16, i: u16, t: usize, at: usize) -> bool
-    requires { at ≤ length b.now }
-    ensures { result ≡ is_shared a.now b.now n i t at }
+// Whether a trace is to be looked for behind those that are shared, is of the right form in the first record, and has the same bytes in the
+// second.
+fn is_shared(a: &[u8], b: &[u8], n: u16, i: u16, shared: Common) -> bool
+    requires { shared.place ≤ length b.now }
+    ensures { result ≡ is_shared a.now b.now n i shared.traces shared.place }
 {
-    if !record::is_trace(a, t, Place(at)) {
+    let at = shared.place;
+    if !record::is_trace(a, shared.traces, Place(at)) {
         return false;
     }
-    let c = record::check_trace(a, Target::None, n, i, Place(at));
-    let Check::Fine = c else {
+    if record::check_trace(a, None, n, i, Place(at)).is_err() {
         return false;
-    };
+    }
     let w = record::stride_at(a, n, Place(at));
     if b.len() - at < w {
         return false;
@@ -419,99 +410,55 @@ fn common_traces(a: &[u8], b: &[u8], n: u16, i: u16) -> Common
     requires { (1 ≤ n) × (3266 ≤ length a.now) × (3266 ≤ length b.now) × Alike a.now b.now 3266 }
     ensures { Shared a.now b.now n i result.traces result.place }
 {
-    let mut at = 3266;
-    let mut t = 0;
-    while is_shared(a, b, n, i, t, at) {
-        at += record::stride_at(a, n, Place(at));
-        t += 1;
+    let mut shared = Common {
+        traces: 0,
+        place: 3266,
+    };
+    while is_shared(a, b, n, i, shared) {
+        shared.place += record::stride_at(a, n, Place(shared.place));
+        shared.traces += 1;
     }
-    Common {
-        traces: t,
-        place: at,
-    }
+    shared
 }
 
-// Two valid records from the place on where their first t traces, which they have in common, end.
-fn compare_rest(a: &[u8], b: &[u8], n: u16, i: u16, t: usize, at: usize) -> Ordering
-    requires { (form_causes a.now ≡ check.Fine) × (form_causes b.now ≡ check.Fine) × (n ≡ held_samples a.now) × Alike a.now b.now 3266 × Shared a.now b.now n i t at }
+// Two valid records from the place on where the first traces end which they have in common.
+fn compare_rest(a: &[u8], b: &[u8], n: u16, i: u16, shared: Common) -> Ordering
+    requires { (form_causes a.now ≡ Fine) × (form_causes b.now ≡ Fine) × (n ≡ held_samples a.now) × Alike a.now b.now 3266 × Shared a.now b.now n i shared.traces shared.place }
     ensures { result ≡ order_of a.now b.now }
 {
     let x = record::numbers_in(a).traces;
     let y = record::numbers_in(b).traces;
-    compare_traces(
-        Spot {
-            record: a,
-            place: at,
-        },
-        x - t,
-        Spot {
-            record: b,
-            place: at,
-        },
-        y - t,
-        n,
-    )
+    let Common { traces, place } = shared;
+    compare_traces(Spot { record: a, place }, x - traces, Spot { record: b, place }, y - traces, n)
 }
 
 // Two records with the same first two fields, which are of the right form: n samples a trace and the interval i.
-fn compare_bodies(a: &[u8], b: &[u8], n: u16, i: u16) -> Answer
-    requires { (then (cards_causes a.now) (binary_causes a.now) ≡ check.Fine) × (n ≡ held_samples a.now) × (i ≡ held_interval a.now) × (3266 ≤ length b.now) × Alike a.now b.now 3266 }
+fn compare_bodies(a: &[u8], b: &[u8], n: u16, i: u16) -> Result<Ordering, RefusedRecord>
+    requires { (then (cards_causes a.now) (binary_causes a.now) ≡ Fine) × (n ≡ held_samples a.now) × (i ≡ held_interval a.now) × (3266 ≤ length b.now) × Alike a.now b.now 3266 }
     ensures { compare_said result ≡ compare_outcome a.now b.now }
 {
-    let m = common_traces(a, b, n, i);
-    let t = m.traces;
-    let at = m.place;
-    let c = record::check_rest(a, n, i, t, Place(at));
-    if let Check::Refused { number, place } = c {
-        return Answer::Refused {
-            which: 1,
-            number,
-            place,
-        };
-    }
-    let d = record::check_rest(b, n, i, t, Place(at));
-    if let Check::Refused { number, place } = d {
-        return Answer::Refused {
-            which: 2,
-            number,
-            place,
-        };
-    }
-    Answer::Ordered(compare_rest(a, b, n, i, t, at))
+    let shared = common_traces(a, b, n, i);
+    let t = shared.traces;
+    let at = Place(shared.place);
+    record::check_rest(a, n, i, t, at).map_err(RefusedRecord::first)?;
+    record::check_rest(b, n, i, t, at).map_err(RefusedRecord::second)?;
+    Ok(compare_rest(a, b, n, i, shared))
 }
 
 // Two records with the same bytes up to their traces.
-fn compare_alike(a: &[u8], b: &[u8]) -> Answer
+fn compare_alike(a: &[u8], b: &[u8]) -> Result<Ordering, RefusedRecord>
     requires { (3266 ≤ length a.now) × (3266 ≤ length b.now) × Alike a.now b.now 3266 }
     ensures { compare_said result ≡ compare_outcome a.now b.now }
 {
-    let c = record::judge_front(a);
-    match c {
-        Check::Refused { number, place } => Answer::Refused {
-            which: 1,
-            number,
-            place,
-        },
-        Check::Fine => compare_bodies(
-            a,
-            b,
-            binary_number(a, ByteNo(3221)),
-            binary_number(a, ByteNo(3217)),
-        ),
-    }
+    record::judge_front(a).map_err(RefusedRecord::first)?;
+    compare_bodies(a, b, binary_number(a, ByteNo(3221)), binary_number(a, ByteNo(3217)))
 }
 
-// The order of two records.
-pub fn compare_records(a: &[u8], b: &[u8]) -> Answer
+// The order of the first record to the second.
+pub fn compare_records(a: &[u8], b: &[u8]) -> Result<Ordering, RefusedRecord>
     ensures { compare_said result ≡ compare_outcome a.now b.now }
 {
-    if a.len() < 3266 {
-        return compare_apart(a, b);
-    }
-    if b.len() < 3266 {
-        return compare_apart(a, b);
-    }
-    if a[..3266] == b[..3266] {
+    if 3266 <= a.len() && 3266 <= b.len() && a[..3266] == b[..3266] {
         return compare_alike(a, b);
     }
     compare_apart(a, b)

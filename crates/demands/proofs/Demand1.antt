@@ -38,8 +38,8 @@ use Rattle.numbers.specs.Cause.{refuse_if, then}
 use Rattle.numbers.specs.Outcome.{Said, taken, refused}
 use Rattle.numbers.specs.Places.{place_no, byte_no}
 use Rattle.numbers.specs.declared.ByteNo.{ByteNo}
-use Rattle.numbers.specs.declared.Check.{Check}
-use Rattle.numbers.specs.declared.Check.TheVariants.{Fine, Refused}
+use Rattle.numbers.specs.Cause.{Check}
+use Rattle.numbers.specs.Cause.{Fine, Refused}
 use Rattle.numbers.specs.Terms.{All, Bytes, at_place}
 use Rattle.numbers.specs.Iff.{Iff}
 use Rattle.numbers.proofs.CauseLaws.{passed, then_fine, at_most}

@@ -9,7 +9,7 @@ use Prim.Native.Nat.{ℕ, ◌+◌}
 use lib.Dec.{T}
 use lib.IntN.{ℤ}
 use Rattle.numbers.specs.Cause.{refuse_if}
-use Rattle.numbers.specs.declared.Check.TheVariants.{Fine}
+use Rattle.numbers.specs.Cause.{Fine}
 use Rattle.numbers.specs.Terms.{All}
 use Rattle.numbers.specs.Iff.{Iff}
 use Rattle.numbers.proofs.CauseLaws.{passed, first_all, all_first}

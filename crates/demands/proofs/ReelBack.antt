@@ -15,7 +15,7 @@ use lib.IntN.{ℤ, pos, nat_abs}
 use Rattle.numbers.specs.Walk.{pick, walk, flat, sum, bytes_at}
 use Rattle.numbers.specs.BigEndian.{number, bytes_of}
 use Rattle.numbers.specs.Cause.{refuse_if, first_of}
-use Rattle.numbers.specs.declared.Check.TheVariants.{Fine}
+use Rattle.numbers.specs.Cause.{Fine}
 use Rattle.numbers.specs.Terms.{All, Bytes}
 use Rattle.numbers.proofs.WalkLaws.{cons_eq, flat_size, all_both}
 use Rattle.numbers.proofs.ByteLaws.{length_bytes, bytes_of_lem, number_bytes_lem}

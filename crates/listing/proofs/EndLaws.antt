@@ -11,7 +11,7 @@ use Rattle.numbers.specs.Walk.{bytes_at}
 use Rattle.numbers.specs.Cause.{refuse_if}
 use Rattle.numbers.specs.Outcome.{taken, Outcome}
 use Rattle.numbers.specs.declared.Place.{Place}
-use Rattle.numbers.specs.declared.Check.TheVariants as check
+use Rattle.numbers.specs.Cause as check
 use Rattle.numbers.proofs.CauseLaws.{passed, then_fine}
 use Rattle.reel.specs.Layout.{card_bytes}
 use Rattle.record.specs.Form.{field_head, binary_place, held_samples, held_count, form_causes}

@@ -3,8 +3,8 @@ use Rattle.std.specs.Prelude.{ℕ, List, [], ◌∷◌, ◌++◌, ltb, length, d
 use Rattle.numbers.specs.Cause.{refuse_if, then}
 use Rattle.numbers.specs.Outcome.{Said, taken, refused, Outcome}
 use Rattle.numbers.specs.Places.{place_no}
-use Rattle.numbers.specs.declared.Check.{Check}
-use Rattle.numbers.specs.declared.Check.TheVariants as check
+use Rattle.numbers.specs.Cause.{Check}
+use Rattle.numbers.specs.Cause as check
 use Rattle.record.specs.Form.{held_samples, held_count, form_causes}
 use Rattle.record.specs.Held.{held_by}
 use Rattle.listing.specs.Listing.{listing_length, listing_of, text_of, with_text, listing_causes}

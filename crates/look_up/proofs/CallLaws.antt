@@ -14,8 +14,8 @@ use mir.Val.{SFits, of_z}
 use Rattle.numbers.specs.Walk.{pick}
 use Rattle.numbers.specs.Places.{byte_no}
 use Rattle.numbers.specs.Cause.{refuse_if}
-use Rattle.numbers.specs.declared.Check.{Check}
-use Rattle.numbers.specs.declared.Check.TheVariants.{Fine, Refused}
+use Rattle.numbers.specs.Cause.{Check}
+use Rattle.numbers.specs.Cause.{Fine, Refused}
 use Rattle.numbers.specs.declared.ByteNo.{ByteNo}
 use Rattle.numbers.specs.declared.Place.{Place}
 use Rattle.numbers.proofs.CauseLaws.{then_fine, passed, at_most}

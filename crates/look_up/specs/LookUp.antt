@@ -5,8 +5,8 @@ use Rattle.numbers.specs.Places.{place_no, byte_no}
 use Rattle.numbers.specs.Cause.{refuse_if, then, first_of}
 use Rattle.numbers.specs.Outcome.{Said, taken, refused}
 use Rattle.numbers.specs.declared.ByteNo.{ByteNo}
-use Rattle.numbers.specs.declared.Check.{Check}
-use Rattle.numbers.specs.declared.Check.TheVariants.{Fine, Refused}
+use Rattle.numbers.specs.Cause.{Check}
+use Rattle.numbers.specs.Cause.{Fine, Refused}
 use Rattle.reel.specs.Layout.{Field, first_trace, binary_fields, trace_fields, field_number, samples_of, interval_of, stride_of, traces_of}
 use Rattle.reel.specs.Meaning.{trace_number}
 use Rattle.reel.specs.Causes.{causes_of}

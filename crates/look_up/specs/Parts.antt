@@ -2,7 +2,7 @@
 use Rattle.std.specs.Prelude.{ℕ, ◌+◌, ◌-◌, ◌%◌, ◌≤◌, ◌<◌, ◌≡◌, List, ◌&&◌, leb, eqb, length}
 use Rattle.numbers.specs.Walk.{pick}
 use Rattle.numbers.specs.declared.ByteNo.{ByteNo}
-use Rattle.numbers.specs.declared.Check.TheVariants.{Fine}
+use Rattle.numbers.specs.Cause.{Fine}
 use Rattle.reel.specs.Layout.{Field, samples_of, interval_of, stride_of, traces_of}
 use Rattle.reel.specs.Causes.{causes_of}
 use Rattle.look_up.specs.LookUp.{Found, found, none, field_at}

@@ -14,8 +14,8 @@ use Rattle.numbers.specs.Walk.{walk, sum, bytes_at}
 use Rattle.numbers.specs.Cause.{refuse_if, then}
 use Rattle.numbers.specs.Outcome.{Said, taken, Outcome}
 use Rattle.numbers.specs.Terms.{Bytes}
-use Rattle.numbers.specs.declared.Check.{Check}
-use Rattle.numbers.specs.declared.Check.TheVariants.{Fine}
+use Rattle.numbers.specs.Cause.{Check}
+use Rattle.numbers.specs.Cause.{Fine}
 use Rattle.numbers.proofs.CauseLaws.{passed, then_fine, at_most}
 use Rattle.numbers.proofs.WalkLaws.{cons_eq, walk_each, walk_same, map_walk}
 use Rattle.formats.specs.Codes.{is_code, sample_bytes, word_length}

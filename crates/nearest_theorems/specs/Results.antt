@@ -4,7 +4,7 @@ use Rattle.std.specs.Prelude.{◌≡◌, List, [], ◌∷◌, ◌++◌, ℕ, ◌
 use Rattle.numbers.specs.Walk.{walk, sum, bytes_at}
 use Rattle.numbers.specs.Outcome.{taken}
 use Rattle.numbers.specs.Terms.{Bytes}
-use Rattle.numbers.specs.declared.Check.TheVariants.{Fine}
+use Rattle.numbers.specs.Cause.{Fine}
 use Rattle.formats.specs.Codes.{sample_bytes, word_length}
 use Rattle.formats.specs.Value.{word_number}
 use Rattle.formats.specs.Words.{word_of}

@@ -6,7 +6,7 @@ use native.Mathlib.Omega.{arith}
 use Rattle.numbers.specs.Walk.{walk, bytes_at}
 use Rattle.numbers.specs.BigEndian.{number}
 use Rattle.numbers.specs.Cause.{then, first_of}
-use Rattle.numbers.specs.declared.Check.TheVariants.{Fine, Refused}
+use Rattle.numbers.specs.Cause.{Fine, Refused}
 use Rattle.numbers.specs.declared.Place.{Place}
 use Rattle.numbers.proofs.CauseLaws.{first_none, first_more, first_stop, then_last}
 use Rattle.numbers.proofs.WalkLaws.{walk_more}

@@ -4,7 +4,7 @@ use Rattle.reel_box.specs.declared.State.{State}
 use Rattle.reel.specs.Layout.{field_number}
 use Rattle.numbers.specs.Cause.{then}
 use Rattle.numbers.specs.Places.{byte_place}
-use Rattle.numbers.specs.declared.Check.{Check}
+use Rattle.numbers.specs.Cause.{Check}
 use Rattle.numbers.proofs.CauseLaws.{then_stop, then_next}
 use mathlib.Core.List.{List}
 use Prim.Native.Nat.{ℕ}

@@ -3,7 +3,7 @@ use Rattle.reel_box.proofs.BoxLaws.{sum_drop}
 use Rattle.reel_box.proofs.StepLaws.{GoesOn, goes_on, stops, own_fine, lies, reels_next, reels_stop, reels_none}
 use Rattle.reel_box.specs.Box.{at_first, reels_checks, traces_from, box_found}
 use Rattle.numbers.specs.Outcome.{taken}
-use Rattle.numbers.specs.declared.Check.TheVariants.{Fine}
+use Rattle.numbers.specs.Cause.{Fine}
 use Rattle.numbers.proofs.WalkLaws.{drop_next}
 use lib.ListN.{length, get_or, drop, drop_of_length-le}
 use Prim.Native.Nat.{ℕ, ◌+◌, ◌≤◌}

@@ -9,7 +9,7 @@ use Rattle.reel.specs.declared.Layout.TheVariants.{Plain}
 use Rattle.reel.proofs.JudgedLaws.{Own, own, refused_is}
 use Rattle.numbers.specs.Cause.{then}
 use Rattle.numbers.specs.Terms.{at_place}
-use Rattle.numbers.specs.declared.Check.TheVariants.{Refused}
+use Rattle.numbers.specs.Cause.{Refused}
 use Rattle.numbers.specs.declared.Place.{Place}
 use lib.ListN.{length}
 use Prim.Native.Nat.{ℕ, ◌+◌, ◌*◌, ◌^◌, ◌≤◌, ◌<◌}

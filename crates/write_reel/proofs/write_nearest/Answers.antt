@@ -1,6 +1,6 @@
 -- `write_reel::write_nearest` meets its contract. Assumes nothing.
 use Rattle.numbers.specs.Cause.{refuse_if, then}
-use Rattle.numbers.specs.declared.Check.{Check}
+use Rattle.numbers.specs.Cause.{Check}
 use Rattle.formats.specs.Codes.{is_code}
 use Rattle.record.specs.Form.{form_causes}
 use Rattle.record.proofs.JudgedLaws.{Own, own, refused_is}
