@@ -12,7 +12,7 @@ use Rattle.numbers.proofs.CauseLaws.{first_none, first_more, first_stop, then_la
 use Rattle.numbers.proofs.WalkLaws.{walk_more}
 use Rattle.value.specs.Writing.{write_pair}
 use Rattle.value.specs.Pair.{pair_of_bits}
-use Rattle.formats.specs.declared.Written.{Written}
+use Rattle.formats.specs.Written.{Written}
 use Rattle.value.proofs.PairBytes.{pair_fetched}
 use Rattle.write_samples.specs.Samples.{pair_refused, pair_check}
 

@@ -9,8 +9,8 @@ use Rattle.formats.specs.Codes.{is_code, sample_bytes}
 use Rattle.value.specs.Writing.{write_pair}
 use Rattle.formats.specs.Words.{word_bits}
 use Rattle.value.specs.Pair.{pair_length, pair_in}
-use Rattle.formats.specs.declared.Written.{Written}
-use Rattle.formats.specs.declared.Written.TheVariants as written
+use Rattle.formats.specs.Written.{Written}
+use Rattle.formats.specs.Written as written
 
 -- What writing the pair at a place gives.
 abbrev pub written_at : List ℕ → ℕ → ℕ → Written
