@@ -4,6 +4,8 @@ use mathlib.Core.Bool.{true, false}
 use mathlib.Core.Logic.{⊎_elim}
 use Rattle.std.specs.Prelude.{min}
 use Rattle.std.specs.Ordering.{nat_cmp}
+use Rattle.std.specs.Cmp.Lexicographic.{slice_cmp}
+use Rattle.exact.proofs.OrderLaws.{number_order}
 use Rattle.std.specs.Cmp.{nat_cmp_is}
 use Rattle.numbers.proofs.SignLaws.{below_or}
 use mathlib.Core.List.{List, [], ◌∷◌, ◌++◌, map, append_assoc, append-nil}
@@ -12,13 +14,14 @@ use native.Mathlib.Nat.{not-suc-le-zero, zero-mul, suc-mul, add-zero}
 use native.Mathlib.Omega.{arith}
 use borrow.Author.Tests.{lt-ltb}
 use lib.IntN.{ℤ, pos, nat_abs}
-use lib.ListN.{length, get_or, replicate, drop, length-append, drop_of_length-le}
+use lib.ListN.{length, get_or, replicate, take, drop, length-append, drop_of_length-le}
 use Rattle.std.proofs.Math.Seq.{drop-cons}
 use Rattle.compare.specs.declared.Row.{Row}
+use Rattle.compare.specs.declared.Width.TheVariants.{Two, Four}
 use Rattle.numbers.specs.Walk.{walk, flat, bytes_at}
 use Rattle.numbers.specs.BigEndian.{number}
 use Rattle.numbers.specs.TwosComplement.{signed_of}
-use Rattle.numbers.proofs.WalkLaws.{size_walk, map_walk, walk_each, split}
+use Rattle.numbers.proofs.WalkLaws.{size_walk, map_walk, walk_each, split, bytes_between}
 use Rattle.fields.specs.Fields.{pair_place}
 use Rattle.reel.specs.Layout.{fields_from, binary_widths, binary_fields, trace_widths, trace_fields, field_number}
 use Rattle.record.specs.Kind.{tag04}
@@ -30,7 +33,7 @@ use Rattle.std.specs.declared.cmp.Ordering.{Ordering}
 use Rattle.std.specs.declared.cmp.Ordering.TheVariants.{Less, Equal, Greater}
 use Rattle.compare.specs.Key.{card_key, binary_key, header_key, trace_key, traces_key, key_of}
 use Rattle.std.specs.Ordering.{is_ne}
-use Rattle.compare.specs.Parts.{number_at, row_of, low_rows, high_rows, rows_key, rows_end, behind_traces, key_from}
+use Rattle.compare.specs.Parts.{number_at, row_of, low_rows, high_rows, width_bytes, rows_key, rows_end, behind_traces, key_from}
 use Rattle.compare.proofs.LexLaws.{lex_append, lex_is, lex_self, decided, undecided}
 
 -- ## One part after the other
@@ -145,26 +148,26 @@ module _ (a b : List ℕ) (p q : ℕ) where
 
 -- the row that stands first among those from row i on
 abbrev pub row_in : List Row → ℕ → Row
-row_in rows i = get_or rows i (record { offset = 0; width = 0; count = 0 })
+row_in rows i = get_or rows i (record { offset = 0; width = Two; count = 0 })
 
 -- the rows from row i on
 row_on : (rows : List Row) (i : ℕ) → i < length rows → drop i rows ≡ row_in rows i ∷ drop (i + 1) rows
-row_on rows i h = drop-cons rows i (record { offset = 0; width = 0; count = 0 }) h ∙ ap (λ (x : ℕ). row_in rows i ∷ drop x rows) (let z : suc i ≡ i + 1 = omega arith in z)
+row_on rows i h = drop-cons rows i (record { offset = 0; width = Two; count = 0 }) h ∙ ap (λ (x : ℕ). row_in rows i ∷ drop x rows) (let z : suc i ≡ i + 1 = omega arith in z)
 
 -- the first ends within all of them, and so do the others
 pub rows_room : (rows : List Row) (i : ℕ) → i < length rows
-    → ((row_in rows i).offset + (row_in rows i).count * (row_in rows i).width ≤ rows_end (drop i rows)) × (rows_end (drop (i + 1) rows) ≤ rows_end (drop i rows))
+    → ((row_in rows i).offset + (row_in rows i).count * width_bytes (row_in rows i).width ≤ rows_end (drop i rows)) × (rows_end (drop (i + 1) rows) ≤ rows_end (drop i rows))
 rows_room rows i h = let e = ap rows_end (row_on rows i h) in (omega (arith, e), omega (arith, e))
 
--- the rows of a trace header, and those before the traces
+-- the rows of a trace header, and of the binary header
 pub header_table : (s : List ℕ) (p : ℕ)
     → rows_key s p
-    (record { offset = 0; width = 4; count = 7 }
-    ∷ record { offset = 28; width = 2; count = 4 }
-    ∷ record { offset = 36; width = 4; count = 8 }
-    ∷ record { offset = 68; width = 2; count = 2 }
-    ∷ record { offset = 72; width = 4; count = 4 }
-    ∷ record { offset = 88; width = 2; count = 46 }
+    (record { offset = 0; width = Four; count = 7 }
+    ∷ record { offset = 28; width = Two; count = 4 }
+    ∷ record { offset = 36; width = Four; count = 8 }
+    ∷ record { offset = 68; width = Two; count = 2 }
+    ∷ record { offset = 72; width = Four; count = 4 }
+    ∷ record { offset = 88; width = Two; count = 46 }
     ∷ []) ≡ header_key s p
 unfolding rows_key low_rows high_rows
 header_table s p =
@@ -174,25 +177,22 @@ header_table s p =
     ∙ sym (append_assoc (row_of s 4 7 p) (row_of s 2 4 (p + 28) ++ row_of s 4 8 (p + 36)) high ∙ ap (λ (x : List ℤ). row_of s 4 7 p ++ x) (append_assoc (row_of s 2 4 (p + 28)) (row_of s 4 8 (p + 36)) high))
     ∙ sym (header_rows s p)
 
-pub front_table : (s : List ℕ)
-    → rows_key s 0 (record { offset = 3; width = 1; count = 3200 } ∷ record { offset = 3206; width = 4; count = 3 } ∷ record { offset = 3218; width = 2; count = 24 } ∷ []) ≡ card_key s ++ binary_key s
+pub binary_table : (s : List ℕ) → rows_key s 3206 (record { offset = 0; width = Four; count = 3 } ∷ record { offset = 12; width = Two; count = 24 } ∷ []) ≡ binary_key s
 unfolding rows_key
-front_table s =
-    ap (λ (y : List ℤ). row_of s 1 3200 3 ++ (row_of s 4 3 3206 ++ y)) (append-nil (row_of s 2 24 3218))
-    ∙ ap₂ (λ (x y : List ℤ). x ++ y) (sym (card_row s)) (sym (binary_rows s))
+binary_table s = ap (λ (y : List ℤ). row_of s 4 3 3206 ++ y) (append-nil (row_of s 2 24 3218)) ∙ sym (binary_rows s)
 
 module _ (a b : List ℕ) (p q : ℕ) (rows : List Row) (i : ℕ) where
   abbrev first : Ordering
   first =
       let r = row_in rows i in
-      lex_z (row_of a r.width r.count (p + r.offset)) (row_of b r.width r.count (q + r.offset))
+      lex_z (row_of a (width_bytes r.width) r.count (p + r.offset)) (row_of b (width_bytes r.width) r.count (q + r.offset))
 
   pub rows_next : i < length rows → lex_z (rows_key a p (drop i rows)) (rows_key b q (drop i rows)) ≡ or_else first (lex_z (rows_key a p (drop (i + 1) rows)) (rows_key b q (drop (i + 1) rows)))
   unfolding rows_key
   rows_next h =
       let r = row_in rows i in
       ap (λ (l : List Row). lex_z (rows_key a p l) (rows_key b q l)) (row_on rows i h)
-      ∙ two_parts (row_of a r.width r.count (p + r.offset)) (rows_key a p (drop (i + 1) rows)) (row_of b r.width r.count (q + r.offset)) (rows_key b q (drop (i + 1) rows)) (same_row a b r.width r.count (p + r.offset) (q + r.offset))
+      ∙ two_parts (row_of a (width_bytes r.width) r.count (p + r.offset)) (rows_key a p (drop (i + 1) rows)) (row_of b (width_bytes r.width) r.count (q + r.offset)) (rows_key b q (drop (i + 1) rows)) (same_row a b (width_bytes r.width) r.count (p + r.offset) (q + r.offset))
 
   pub rows_none : length rows ≤ i → Equal ≡ lex_z (rows_key a p (drop i rows)) (rows_key b q (drop i rows))
   unfolding rows_key
@@ -290,6 +290,21 @@ unfolding key_of
 key_is s n t e f =
     ap (λ (x : ℕ). card_key s ++ (binary_key s ++ traces_key s x (held_count s x))) e
     ∙ ap (λ (x : List ℤ). card_key s ++ (binary_key s ++ x)) (ap (traces_key s n) f ∙ sym (key_traces s n t))
+
+-- card bytes by the library's order of slices
+bytes_order : (k l : List ℕ) → slice_cmp nat_cmp k l ≡ lex_z (map pos k) (map pos l)
+bytes_order [] [] = refl
+bytes_order [] (y ∷ l) = refl
+bytes_order (x ∷ k) [] = refl
+bytes_order (x ∷ k) (y ∷ l) = ap₂ or_else (number_order x y) (bytes_order k l)
+
+pub cards_order : (a b : List ℕ) → 3203 ≤ length a → 3203 ≤ length b → slice_cmp nat_cmp (take 3200 (drop 3 a)) (take 3200 (drop 3 b)) ≡ lex_z (card_key a) (card_key b)
+unfolding card_key
+cards_order a b h k = bytes_order (take 3200 (drop 3 a)) (take 3200 (drop 3 b)) ∙ ap₂ (λ (x y : List ℕ). lex_z (map pos x) (map pos y)) (bytes_between a 3 3203 3200 h refl) (bytes_between b 3 3203 3200 k refl)
+
+-- what stands before the traces in two parts
+pub front_two : (a b : List ℕ) → lex_z (card_key a ++ binary_key a) (card_key b ++ binary_key b) ≡ or_else (lex_z (card_key a) (card_key b)) (lex_z (binary_key a) (binary_key b))
+front_two a b = two_parts (card_key a) (binary_key a) (card_key b) (binary_key b) (card_size a ∙ sym (card_size b))
 
 -- the same in two parts: what stands before the traces, and the traces
 pub front_parts : (a b : List ℕ) (x y : List ℤ)

@@ -8,7 +8,10 @@ use native.Mathlib.Omega.{arith}
 use borrow.Author.Tests.{leb-true, ltb-true}
 use lib.Dec.{T, leb, ltb, eqb}
 use lib.ListN.{length, get_or, take, drop}
-use Rattle.numbers.specs.Cause.{then}
+use Rattle.std.specs.Prelude.{Result, Ok, Err}
+use Rattle.std.specs.Result.{is_err}
+use Rattle.numbers.specs.declared.Refusal.{Refusal}
+use Rattle.numbers.specs.Cause.{then, checked}
 use Rattle.numbers.specs.Cause.{Check}
 use Rattle.numbers.specs.Cause.{Fine, Refused}
 use Rattle.numbers.proofs.BoolLaws.{and_true, and_false}
@@ -20,7 +23,7 @@ use Rattle.reel.specs.Causes.{most_traces}
 use Rattle.record.specs.Kind.{tag04}
 use Rattle.record.specs.Form.{cards_causes, binary_causes, held_samples, held_interval, held_count, trace_form_in, held_stride_in, behind_trace_in, is_trace_in, trace_place, trace_place_in, traces_place, form_causes_in, form_causes, numbers_in}
 use Rattle.record.specs.Parts.{form_from}
-use Rattle.record.proofs.FormLaws.{form_room, is_more, form_more, form_is, place_next, held_length, held_count_lem}
+use Rattle.record.proofs.FormLaws.{form_room, form_stop, is_more, form_more, form_is, place_next, held_length, held_count_lem}
 use Rattle.exact.specs.Order.{or_else, lex_z}
 use Rattle.std.specs.declared.cmp.Ordering.{Ordering}
 use Rattle.compare.specs.Key.{card_key, binary_key, trace_key, order_of}
@@ -34,6 +37,20 @@ use Rattle.compare.proofs.PrefixLaws.{number_like, cards_like, binary_like, card
 pub fine_is : (c : Check) → is_fine c ≡ true → c ≡ Fine
 fine_is Fine e = refl
 fine_is (Refused number place) e = absurd (subst T (sym e) tt)
+
+-- a check that is refused, and one that isn't
+pub refused_is : (r : Result (Unit {0}) Refusal) → is_err r ≡ true → is_fine (checked r) ≡ false
+refused_is (Ok v) e = absurd (subst T (sym e) tt)
+refused_is (Err x) e = refl
+
+pub passed_is : (r : Result (Unit {0}) Refusal) → is_err r ≡ false → checked r ≡ Fine
+passed_is (Ok v) e = refl
+passed_is (Err x) e = absurd (subst T e tt)
+
+-- what a check of the first two fields refuses, judging the whole record does
+pub front_stop : (s : List ℕ) (r : Result (Unit {0}) Refusal) → is_err r ≡ true → checked r ≡ then (cards_causes s) (binary_causes s) → form_causes s ≡ checked r
+front_stop s (Ok v) e f = absurd (subst T (sym e) tt)
+front_stop s (Err x) e f = form_stop s (sym f)
 
 -- ## What is found of a trace
 

@@ -14,6 +14,8 @@ use Rattle.record.specs.Parts.{form_from}
 use Rattle.exact.specs.Order.{lex_z}
 use Rattle.compare.specs.Key.{trace_key}
 use Rattle.compare.specs.declared.Row.{Row}
+use Rattle.compare.specs.declared.Width.{Width}
+use Rattle.compare.specs.declared.Width.TheVariants.{Two, Four}
 
 -- Two lists of bytes are the same.
 abbrev pub same_bytes : List ℕ → List ℕ → Bool
@@ -50,15 +52,20 @@ low_rows s p = row_of s 4 7 p ++ (row_of s 2 4 (p + 28) ++ row_of s 4 8 (p + 36)
 unfoldable pub high_rows : List ℕ → ℕ → List ℤ
 high_rows s p = row_of s 2 2 (p + 68) ++ (row_of s 4 4 (p + 72) ++ row_of s 2 46 (p + 88))
 
+-- How many bytes a width stands for.
+abbrev pub width_bytes : Width → ℕ
+width_bytes Two = 2
+width_bytes Four = 4
+
 -- Rows of numbers, each at its offset from a place, one after the other.
 unfoldable pub rows_key : List ℕ → ℕ → List Row → List ℤ
 rows_key s p [] = []
-rows_key s p (r ∷ rows) = row_of s r.width r.count (p + r.offset) ++ rows_key s p rows
+rows_key s p (r ∷ rows) = row_of s (width_bytes r.width) r.count (p + r.offset) ++ rows_key s p rows
 
 -- How far behind that place the last byte of the rows ends.
 abbrev pub rows_end : List Row → ℕ
 rows_end [] = 0
-rows_end (r ∷ rows) = max (r.offset + r.count * r.width) (rows_end rows)
+rows_end (r ∷ rows) = max (r.offset + r.count * width_bytes r.width) (rows_end rows)
 
 -- ## Traces, one after the other
 

@@ -2,7 +2,7 @@
 // traces, the second is neither judged nor taken apart.
 #![tactic(auto)]
 
-ghost use Rattle.std.specs.Prelude.{◌≡◌, ℕ, ℤ, ◌+◌, ◌*◌, ◌^◌, ◌≤◌, ◌<◌, length};
+ghost use Rattle.std.specs.Prelude.{◌≡◌, ℕ, ℤ, ◌+◌, ◌*◌, ◌^◌, ◌≤◌, ◌<◌, ◌++◌, length};
 ghost use Rattle.numbers.specs.Walk.{walk};
 ghost use Rattle.numbers.specs.Cause.{Fine, then};
 ghost use Rattle.numbers.specs.Places.{byte_no, byte_place};
@@ -14,13 +14,14 @@ ghost use Rattle.record.specs.Held.{held_value};
 ghost use Rattle.exact.specs.Value.{value_by};
 ghost use Rattle.exact.specs.Order.{order_z, lex_z};
 ghost use Rattle.std.specs.declared.cmp.Ordering.{Ordering};
-ghost use Rattle.compare.specs.Key.{header_key, trace_key, order_of};
+ghost use Rattle.compare.specs.Key.{card_key, binary_key, header_key, trace_key, order_of};
 ghost use Rattle.compare.specs.Answer.{which_number, compare_said, compare_outcome};
-ghost use Rattle.compare.specs.Parts.{Alike, same_bytes, byte_at, number_at, row_of, rows_key, rows_end, behind_traces, key_from, is_shared, Shared, run_of};
+ghost use Rattle.compare.specs.Parts.{Alike, width_bytes, number_at, row_of, rows_key, rows_end, behind_traces, key_from, is_shared, Shared, run_of};
 
 use exact::Exact;
 use numbers::{ByteNo, Number, Place, Refusal};
 use std::cmp::Ordering;
+use value::Pair;
 
 // Which of two records.
 #[derive(Clone, Copy, Debug, PartialEq, Eq)]
@@ -50,7 +51,9 @@ pub struct RefusedRecord {
 
 impl RefusedRecord {
     // A refusal of the first record,
-    fn first(refusal: Refusal) -> Self {
+    fn first(refusal: Refusal) -> Self
+        ensures { result ≡ record { which = Which.First; refusal = refusal } }
+    {
         RefusedRecord {
             which: Which::First,
             refusal,
@@ -58,7 +61,9 @@ impl RefusedRecord {
     }
 
     // and of the second.
-    fn second(refusal: Refusal) -> Self {
+    fn second(refusal: Refusal) -> Self
+        ensures { result ≡ record { which = Which.Second; refusal = refusal } }
+    {
         RefusedRecord {
             which: Which::Second,
             refusal,
@@ -80,65 +85,47 @@ struct Spot<'a> {
     place: usize,
 }
 
-// Numbers of one width in bytes that stand side by side: where the first begins, counted from some place on, and how many there are.
+// How many bytes each number of a row has.
+#[derive(Clone, Copy)]
+enum Width {
+    Two,
+    Four,
+}
+
+impl Width {
+    // In numbers.
+    fn bytes(self) -> usize
+        ensures { result ≡ width_bytes self }
+    {
+        match self {
+            Width::Two => 2,
+            Width::Four => 4,
+        }
+    }
+}
+
+// Numbers of one width that stand side by side: where the first begins, counted from some place on, and how many there are.
 #[derive(Clone, Copy)]
 struct Row {
     offset: usize,
-    width: usize,
+    width: Width,
     count: usize,
 }
 
-// The rows of a trace header, from its first byte on.
-const HEADER_ROWS: [Row; 6] = [
-    Row {
-        offset: 0,
-        width: 4,
-        count: 7,
-    },
-    Row {
-        offset: 28,
-        width: 2,
-        count: 4,
-    },
-    Row {
-        offset: 36,
-        width: 4,
-        count: 8,
-    },
-    Row {
-        offset: 68,
-        width: 2,
-        count: 2,
-    },
-    Row {
-        offset: 72,
-        width: 4,
-        count: 4,
-    },
-    Row {
-        offset: 88,
-        width: 2,
-        count: 46,
-    },
+// The rows of the binary header, from its first byte on,
+const BINARY_ROWS: [Row; 2] = [
+    Row { offset: 0, width: Width::Four, count: 3 },
+    Row { offset: 12, width: Width::Two, count: 24 },
 ];
 
-// The rows before the traces of a record, from its first byte on: the card bytes, then the binary numbers.
-const FRONT_ROWS: [Row; 3] = [
-    Row {
-        offset: 3,
-        width: 1,
-        count: 3200,
-    },
-    Row {
-        offset: 3206,
-        width: 4,
-        count: 3,
-    },
-    Row {
-        offset: 3218,
-        width: 2,
-        count: 24,
-    },
+// and of a trace header.
+const HEADER_ROWS: [Row; 6] = [
+    Row { offset: 0, width: Width::Four, count: 7 },
+    Row { offset: 28, width: Width::Two, count: 4 },
+    Row { offset: 36, width: Width::Four, count: 8 },
+    Row { offset: 68, width: Width::Two, count: 2 },
+    Row { offset: 72, width: Width::Four, count: 4 },
+    Row { offset: 88, width: Width::Two, count: 46 },
 ];
 
 // ## Numbers
@@ -162,45 +149,32 @@ fn exact_at(s: &[u8], at: usize) -> Exact
     requires { at + 6 ≤ length s.now }
     ensures { value_by result ≡ held_value s.now at }
 {
-    let p = value::pair_in([s[at], s[at + 1], s[at + 2], s[at + 3], s[at + 4], s[at + 5]]);
+    let p = Pair::of_bytes([s[at], s[at + 1], s[at + 2], s[at + 3], s[at + 4], s[at + 5]]);
     Exact::from_pair(p.e, p.m as i64)
 }
 
 // ## Rows
 
-// The byte at a place, 0 where there is none.
-fn byte_at(s: &[u8], at: usize) -> i32
-    ensures { result ≡ byte_at s.now at }
+// The number of a row of that width at a place, with its sign.
+fn number_at(s: &[u8], width: Width, at: usize) -> i32
+    ensures { result ≡ number_at s.now (width_bytes width) at }
 {
-    if s.len() <= at {
-        return 0;
+    match width {
+        Width::Two => slices::number_at::<u16>(s, Place(at)).signed() as i32,
+        Width::Four => slices::number_at::<u32>(s, Place(at)).signed(),
     }
-    s[at] as i32
-}
-
-// The number of a row of that width: of four bytes and of two with its sign, of one without.
-fn number_at(s: &[u8], w: usize, at: usize) -> i32
-    ensures { result ≡ number_at s.now w at }
-{
-    if w == 4 {
-        return slices::number_at::<u32>(s, Place(at)).signed();
-    }
-    if w == 2 {
-        return slices::number_at::<u16>(s, Place(at)).signed() as i32;
-    }
-    byte_at(s, at)
 }
 
 // A row of numbers of each record.
 fn compare_row(a: Spot, b: Spot, row: Row) -> Ordering
-    requires { (a.place + (row.offset + row.count * row.width) ≤ length a.record.now) × (b.place + (row.offset + row.count * row.width) ≤ length b.record.now) }
-    ensures { result ≡ lex_z (row_of a.entry.record.now row.width row.count (a.entry.place + row.offset)) (row_of b.entry.record.now row.width row.count (b.entry.place + row.offset)) }
+    requires { (a.place + (row.offset + row.count * width_bytes row.width) ≤ length a.record.now) × (b.place + (row.offset + row.count * width_bytes row.width) ≤ length b.record.now) }
+    ensures { result ≡ lex_z (row_of a.entry.record.now (width_bytes row.width) row.count (a.entry.place + row.offset)) (row_of b.entry.record.now (width_bytes row.width) row.count (b.entry.place + row.offset)) }
 {
     let p = a.place + row.offset;
     let q = b.place + row.offset;
-    let w = row.width;
+    let w = row.width.bytes();
     first_decided(row.count, |k| {
-        number_at(a.record, w, p + k * w).cmp(&number_at(b.record, w, q + k * w))
+        number_at(a.record, row.width, p + k * w).cmp(&number_at(b.record, row.width, q + k * w))
     })
 }
 
@@ -358,19 +332,39 @@ fn binary_number(s: &[u8], b: ByteNo) -> u16
     slices::number_at::<u16>(s, places::field_at(Place(6), b))
 }
 
+// What stands before the traces of two records: the card bytes, then the binary numbers.
+fn compare_fronts(a: &[u8], b: &[u8]) -> Ordering
+    requires { (3266 ≤ length a.now) × (3266 ≤ length b.now) }
+    ensures { result ≡ lex_z (card_key a.now ++ binary_key a.now) (card_key b.now ++ binary_key b.now) }
+{
+    let cards = a[3..3203].cmp(&b[3..3203]);
+    if cards.is_ne() {
+        return cards;
+    }
+    compare_rows(
+        Spot { record: a, place: 3206 },
+        Spot { record: b, place: 3206 },
+        &BINARY_ROWS,
+    )
+}
+
 // Two valid records of s and t traces.
 fn compare_valid(a: &[u8], s: usize, b: &[u8], t: usize) -> Ordering
     requires { (form_causes a.now ≡ Fine) × (form_causes b.now ≡ Fine) × (s ≡ held_count a.now (held_samples a.now)) × (t ≡ held_count b.now (held_samples b.now)) }
     ensures { result ≡ order_of a.now b.now }
 {
-    let first = Spot { record: a, place: 0 };
-    let second = Spot { record: b, place: 0 };
-    let order = compare_rows(first, second, &FRONT_ROWS);
+    let order = compare_fronts(a, b);
     if order.is_ne() {
         return order;
     }
     let n = binary_number(a, ByteNo(3221));
-    compare_traces(Spot { place: 3266, ..first }, s, Spot { place: 3266, ..second }, t, n)
+    compare_traces(
+        Spot { record: a, place: 3266 },
+        s,
+        Spot { record: b, place: 3266 },
+        t,
+        n,
+    )
 }
 
 // Two records, each judged by itself.

@@ -1,6 +1,6 @@
 -- `compare::compare_valid` meets its contract. Assumes nothing.
 use Rattle.compare.proofs.LexLaws.{undecided}
-use Rattle.compare.proofs.KeyLaws.{first_decides, behind_first, front_table, key_is, front_parts, front_same, same_samples}
+use Rattle.compare.proofs.KeyLaws.{first_decides, behind_first, key_is, front_parts, front_same, same_samples}
 use Rattle.compare.proofs.SharedLaws.{front_fine, all_room}
 use Rattle.compare.specs.Key.{card_key, binary_key, order_of}
 use Rattle.compare.specs.Parts.{behind_traces, key_from}
@@ -12,7 +12,7 @@ use Prim.Native.Nat.{ℕ, ◌≤◌}
 use mathlib.Core.Path.{◌≡◌, refl, sym, ap, ap₂, ◌∙◌, subst}
 use mathlib.Core.List.{◌++◌}
 use native.Mathlib.Omega.{arith}
-use Rattle.compare.proofs.compare_valid.Goals.{Else-is_ne, After-compare_rows-order, Start}
+use Rattle.compare.proofs.compare_valid.Goals.{Else-is_ne, After-compare_fronts-order, After-binary_number-n, Start}
 use Rattle.compare.proofs.compare_valid.Goals as goal
 
 -- the first two fields of each
@@ -26,37 +26,41 @@ second c = headed c.args.b.now (front_fine c.args.b.now c.requires.1)
 parts : (c : Start)
     → let a = c.args in
     order_of a.a.now a.b.now
-    ≡ or_else (lex_z (card_key a.a.now ++ binary_key a.a.now) (card_key a.b.now ++ binary_key a.b.now)) (lex_z (key_from a.a.now a.n a.s traces_place) (key_from a.b.now (held_samples a.b.now) a.t traces_place))
+    ≡ or_else (lex_z (card_key a.a.now ++ binary_key a.a.now) (card_key a.b.now ++ binary_key a.b.now)) (lex_z (key_from a.a.now (held_samples a.a.now) a.s traces_place) (key_from a.b.now (held_samples a.b.now) a.t traces_place))
 parts c =
     let a = c.args in
     let x = a.a.now in
     let y = a.b.now in
-    ap₂ lex_z (key_is x a.n a.s (sym c.requires.2) (sym c.requires.3)) (key_is y (held_samples y) a.t refl (sym c.requires.4))
-    ∙ front_parts x y (key_from x a.n a.s traces_place) (key_from y (held_samples y) a.t traces_place)
+    ap₂ lex_z (key_is x (held_samples x) a.s refl (sym c.requires.2)) (key_is y (held_samples y) a.t refl (sym c.requires.3))
+    ∙ front_parts x y (key_from x (held_samples x) a.s traces_place) (key_from y (held_samples y) a.t traces_place)
 
 -- what stands before the traces
-front : (c : After-compare_rows-order)
+front : (c : After-compare_fronts-order)
     → let a = c.args in
-    c.compare_rows-order.result ≡ lex_z (card_key a.a.now ++ binary_key a.a.now) (card_key a.b.now ++ binary_key a.b.now)
-front c = let a = c.args in c.compare_rows-order.ensures ∙ ap₂ lex_z (front_table a.a.now) (front_table a.b.now)
+    c.compare_fronts-order.result ≡ lex_z (card_key a.a.now ++ binary_key a.a.now) (card_key a.b.now ++ binary_key a.b.now)
+front c = c.compare_fronts-order.ensures
 
-pub compare_rows-order-requires : goal.compare_rows-order-requires
-compare_rows-order-requires c =
-    let s = (goal.at.compare_rows-order-requires c).Start in
-    (omega (arith, (first s).room), omega (arith, (second s).room))
+pub compare_fronts-order-requires : goal.compare_fronts-order-requires
+compare_fronts-order-requires c =
+    let s = (goal.at.compare_fronts-order-requires c).Start in
+    ((first s).room, (second s).room)
 
 pub returns-then-is_ne : goal.returns-then-is_ne
 returns-then-is_ne c =
-    first_decides _ _ _ (front (goal.at.returns-then-is_ne c).After-compare_rows-order) (sym c.is_ne.ensures ∙ c.if-is_ne.true) ∙ sym (parts (goal.at.returns-then-is_ne c).Start)
+    first_decides _ _ _ (front (goal.at.returns-then-is_ne c).After-compare_fronts-order) (sym c.is_ne.ensures ∙ c.if-is_ne.true) ∙ sym (parts (goal.at.returns-then-is_ne c).Start)
 
 -- both have the same N
-same : (c : Else-is_ne) → let a = c.args in held_samples a.b.now ≡ a.n
+same : (c : Else-is_ne) → let a = c.args in held_samples a.b.now ≡ held_samples a.a.now
 same c =
     let s = (goal.at.Else-is_ne c).Start in
     let a = s.args in
-    let f = front (goal.at.Else-is_ne c).After-compare_rows-order in
-    let e = front_same a.a.now a.b.now (sym f ∙ undecided c.compare_rows-order.result (sym c.is_ne.ensures ∙ c.if-is_ne.false)) in
-    sym (s.requires.2 ∙ same_samples a.a.now a.b.now (omega (arith, (first s).n_high)) (omega (arith, (second s).n_high)) e)
+    let f = front (goal.at.Else-is_ne c).After-compare_fronts-order in
+    let e = front_same a.a.now a.b.now (sym f ∙ undecided c.compare_fronts-order.result (sym c.is_ne.ensures ∙ c.if-is_ne.false)) in
+    sym (same_samples a.a.now a.b.now (omega (arith, (first s).n_high)) (omega (arith, (second s).n_high)) e)
+
+-- which is read of the first
+read : (c : After-binary_number-n) → c.binary_number-n.result ≡ held_samples c.args.a.now
+read c = c.binary_number-n.ensures
 
 pub compare_traces-requires : goal.compare_traces-requires
 compare_traces-requires c =
@@ -64,9 +68,10 @@ compare_traces-requires c =
     let a = s.args in
     let x = a.a.now in
     let y = a.b.now in
-    let t : held_count y a.n ≡ a.t = ap (held_count y) (sym (same (goal.at.compare_traces-requires c).Else-is_ne)) ∙ sym s.requires.4 in (
-      subst (λ (z : ℕ). behind_traces x a.n z traces_place ≤ length x) (sym s.requires.3) (all_room x a.n s.requires.0 (sym s.requires.2)),
-      subst (λ (z : ℕ). behind_traces y a.n z traces_place ≤ length y) t (all_room y a.n s.requires.1 (same (goal.at.compare_traces-requires c).Else-is_ne)),
+    let n = sym (read (goal.at.compare_traces-requires c).After-binary_number-n) in
+    let e = same (goal.at.compare_traces-requires c).Else-is_ne in (
+      subst (λ (z : ℕ). behind_traces x z a.s traces_place ≤ length x) n (subst (λ (z : ℕ). behind_traces x (held_samples x) z traces_place ≤ length x) (sym s.requires.2) (all_room x (held_samples x) s.requires.0 refl)),
+      subst (λ (z : ℕ). behind_traces y z a.t traces_place ≤ length y) (e ∙ n) (subst (λ (z : ℕ). behind_traces y (held_samples y) z traces_place ≤ length y) (sym s.requires.3) (all_room y (held_samples y) s.requires.1 refl)),
     )
 
 pub returns : goal.returns
@@ -74,7 +79,8 @@ returns c =
     let f = (goal.at.returns c).Else-is_ne in
     let s = (goal.at.returns c).Start in
     let a = s.args in
+    let n = read (goal.at.returns c).After-binary_number-n in
     c.compare_traces.ensures
-    ∙ ap (λ (n : ℕ). lex_z (key_from a.a.now a.n a.s traces_place) (key_from a.b.now n a.t traces_place)) (sym (same f))
-    ∙ sym (behind_first _ _ _ (front (goal.at.returns c).After-compare_rows-order) (sym c.is_ne.ensures ∙ c.if-is_ne.false))
+    ∙ ap₂ (λ (m n : ℕ). lex_z (key_from a.a.now m a.s traces_place) (key_from a.b.now n a.t traces_place)) n (n ∙ sym (same f))
+    ∙ sym (behind_first _ _ _ (front (goal.at.returns c).After-compare_fronts-order) (sym c.is_ne.ensures ∙ c.if-is_ne.false))
     ∙ sym (parts s)
