@@ -2,8 +2,8 @@
 use Rattle.std.specs.Prelude.{ℕ, List, [], ◌∷◌, ℤ, pos, negsuc}
 use Rattle.numbers.specs.Outcome.{Said, taken, refused, Outcome}
 use Rattle.look_up.specs.LookUp.{NumberOutcome}
-use Rattle.exact.specs.declared.Order.{Order}
-use Rattle.exact.specs.declared.Order.TheVariants.{Less, Same, More}
+use Rattle.std.specs.declared.cmp.Ordering.{Ordering}
+use Rattle.std.specs.declared.cmp.Ordering.TheVariants.{Less, Equal, Greater}
 use Rattle.compare.specs.Answer as compared
 use Rattle.compare.specs.Answer.{Compared, ordered}
 use Rattle.aukpocket.specs.declared.ReelAnswer.{ReelAnswer}
@@ -96,10 +96,10 @@ abbrev pub field_handed : NumberOutcome → Handed FieldAnswer
 field_handed o = field_answer o.said o.value
 
 -- An order in numbers: -1 where the first record is the lesser, 0 where they count as equal, 1 where the second is the lesser.
-abbrev pub order_number : Order → ℤ
+abbrev pub order_number : Ordering → ℤ
 order_number Less = negsuc 0
-order_number Same = pos 0
-order_number More = pos 1
+order_number Equal = pos 0
+order_number Greater = pos 1
 
 -- What comparing two records says, in numbers: number 0 and the order where it is taken; else the number of the cause, which record has it, and
 -- what stands beside it. The other members are 0.

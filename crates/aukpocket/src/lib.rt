@@ -5,7 +5,7 @@
 ghost use Rattle.std.specs.Prelude.{◌≡◌, map};
 ghost use Rattle.numbers.specs.Places.{place_no};
 ghost use Rattle.numbers.specs.BigEndian.{number, bytes_of};
-ghost use Rattle.numbers.specs.Cause.{number_of};
+ghost use Rattle.numbers.specs.Cause.{cause_no};
 ghost use Rattle.numbers.specs.Outcome.{refused};
 ghost use Rattle.cards.specs.Cards.{blank};
 ghost use Rattle.sample.specs.Calls as single;
@@ -21,9 +21,9 @@ ghost use Rattle.code_page.specs.Page.{latin};
 ghost use Rattle.listing.specs.Calls as calls;
 ghost use Rattle.aukpocket.specs.Interface.{handed, taken_answer, refused_answer, reel_answer, reel_in, reel_handed, read_answer, read_handed, nearest_answer, nearest_handed, listing_answer, listing_handed, field_handed, order_number, order_answer, box_answer, sample_answer, word_answer, sample_in, sample_handed, word_handed};
 
-use exact::Order;
 use numbers::{ByteNo, Refusal};
 use record::{Counted, Taken};
+use std::cmp::Ordering;
 
 // What a call on a whole reel or record answers: T, N and the length of what it wrote, of which the listing of a record's cards has the
 // length alone; of reading a reel how many of its words are not normal, and of nearest writing how many samples have another value; or the
@@ -84,7 +84,7 @@ const NONE_COUNTED: u64 = 0;
 
 // What a refused call on a whole reel or record answers, in numbers.
 fn refused_answer(refusal: Refusal) -> ReelAnswer
-    ensures { result ≡ refused_answer (number_of refusal.cause) (place_no refusal.place) }
+    ensures { result ≡ refused_answer (cause_no refusal.cause) (place_no refusal.place) }
 {
     ReelAnswer {
         number: refusal.cause.number() as u64,
@@ -235,13 +235,13 @@ pub extern "C" fn aukpocket_look_up(reel: &[u8], trace: usize, byte: u32) -> Fie
 }
 
 // An order in numbers: -1, 0 or 1.
-fn order_number(order: Order) -> i32
+fn order_number(order: Ordering) -> i32
     ensures { result ≡ order_number order }
 {
     match order {
-        Order::Less => -1,
-        Order::Same => 0,
-        Order::More => 1,
+        Ordering::Less => -1,
+        Ordering::Equal => 0,
+        Ordering::Greater => 1,
     }
 }
 
@@ -250,23 +250,18 @@ fn order_number(order: Order) -> i32
 pub extern "C" fn aukpocket_compare(first: &[u8], second: &[u8]) -> OrderAnswer
     ensures { result ≡ order_answer (compare_outcome first.now second.now) }
 {
-    let answer = compare::compare_records(first, second);
-    match answer {
-        compare::Answer::Ordered(order) => OrderAnswer {
+    match compare::compare_records(first, second) {
+        Ok(order) => OrderAnswer {
             number: 0,
             order: order_number(order),
             which: 0,
             beside: 0,
         },
-        compare::Answer::Refused {
-            which,
-            number,
-            place,
-        } => OrderAnswer {
-            number: number as u32,
+        Err(refused) => OrderAnswer {
+            number: refused.refusal.cause.number() as u32,
             order: 0,
-            which: which as u64,
-            beside: place.0 as u64,
+            which: refused.which.number() as u64,
+            beside: refused.refusal.place.0 as u64,
         },
     }
 }
@@ -294,7 +289,7 @@ pub extern "C" fn aukpocket_check_box(reels: &[u8], lengths: &[u64]) -> BoxAnswe
 
 // A refused single sample, in numbers.
 fn refused_sample(refusal: Refusal) -> SampleAnswer
-    ensures { handed result ≡ sample_answer (refused (number_of refusal.cause) (place_no refusal.place)) }
+    ensures { handed result ≡ sample_answer (refused (cause_no refusal.cause) (place_no refusal.place)) }
 {
     SampleAnswer {
         number: refusal.cause.number() as u64,

@@ -1,18 +1,18 @@
 -- Two lists of bytes that are found to be the same. Assumes nothing.
-use mathlib.Core.Path.{◌≡◌, refl, sym, ap, ap₂, ◌∙◌, subst}
+use mathlib.Core.Path.{◌≡◌, refl, sym, ap, ◌∙◌, subst}
 use mathlib.Core.Logic.{◌⊎◌, inl, inr}
-use mathlib.Core.Bool.{true, ◌&&◌}
+use mathlib.Core.Bool.{true}
 use mathlib.Core.List.{List, [], ◌∷◌}
 use Prim.Native.Nat.{ℕ, ◌+◌, ◌-◌, ◌*◌, ◌≤◌, ◌<◌}
 use native.Mathlib.Nat.{not-suc-le-zero}
 use native.Mathlib.Omega.{arith}
 use borrow.Author.Tests.{eqb-true}
 use lib.Dec.{T, eqb}
-use lib.ListN.{length, get_or, take, drop, drop_of_length-le}
+use lib.ListN.{length, get_or, take, drop}
 use Rattle.numbers.specs.Walk.{bytes_at}
 use Rattle.numbers.proofs.BoolLaws.{and_true}
 use Rattle.numbers.proofs.SignLaws.{below_or}
-use Rattle.numbers.proofs.WalkLaws.{cons_eq, drop_next, walk_each, bytes_between}
+use Rattle.numbers.proofs.WalkLaws.{cons_eq, walk_each, bytes_between}
 use Rattle.compare.specs.Parts.{Alike, same_bytes}
 
 -- they are the same
@@ -21,14 +21,6 @@ same_are [] [] e = refl
 same_are [] (y ∷ l) e = absurd (subst T (sym e) tt)
 same_are (x ∷ k) [] e = absurd (subst T (sym e) tt)
 same_are (x ∷ k) (y ∷ l) e = let h = and_true (eqb x y) (same_bytes k l) e in cons_eq (eqb-true x y h.0) (same_are k l h.1)
-
--- a byte at a time
-pub same_next : (a b : List ℕ) (i : ℕ) → i < length a → i < length b
-    → same_bytes (drop i a) (drop i b) ≡ (eqb (get_or a i 0) (get_or b i 0) && same_bytes (drop (i + 1) a) (drop (i + 1) b))
-same_next a b i h k = ap₂ same_bytes (drop_next a i h) (drop_next b i k)
-
-pub same_end : (a b : List ℕ) (i : ℕ) → length a ≤ i → length b ≤ i → same_bytes (drop i a) (drop i b) ≡ true
-same_end a b i h k = ap₂ same_bytes (drop_of_length-le a h) (drop_of_length-le b k)
 
 -- the bytes of two parts, by their places
 pub part_bytes : (a b : List ℕ) (p e q f n : ℕ) → e ≤ length a → f ≤ length b → e ≡ p + n → f ≡ q + n

@@ -1,17 +1,27 @@
 -- The key of a record by rows of numbers of one width, and trace by trace. Assumes nothing.
 use mathlib.Core.Path.{◌≡◌, refl, sym, ap, ap₂, ◌∙◌}
 use mathlib.Core.Bool.{true, false}
+use mathlib.Core.Logic.{⊎_elim}
+use Rattle.std.specs.Prelude.{min}
+use Rattle.std.specs.Ordering.{nat_cmp}
+use Rattle.std.specs.Cmp.Lexicographic.{slice_cmp}
+use Rattle.exact.proofs.OrderLaws.{number_order}
+use Rattle.std.specs.Cmp.{nat_cmp_is}
+use Rattle.numbers.proofs.SignLaws.{below_or}
 use mathlib.Core.List.{List, [], ◌∷◌, ◌++◌, map, append_assoc, append-nil}
 use Prim.Native.Nat.{ℕ, zero, suc, ◌+◌, ◌-◌, ◌*◌, ◌^◌, ◌≤◌, ◌<◌}
 use native.Mathlib.Nat.{not-suc-le-zero, zero-mul, suc-mul, add-zero}
 use native.Mathlib.Omega.{arith}
 use borrow.Author.Tests.{lt-ltb}
 use lib.IntN.{ℤ, pos, nat_abs}
-use lib.ListN.{length, get_or, replicate, length-append}
+use lib.ListN.{length, get_or, replicate, take, drop, length-append, drop_of_length-le}
+use Rattle.std.proofs.Math.Seq.{drop-cons}
+use Rattle.compare.specs.declared.Row.{Row}
+use Rattle.compare.specs.declared.Width.TheVariants.{Two, Four}
 use Rattle.numbers.specs.Walk.{walk, flat, bytes_at}
 use Rattle.numbers.specs.BigEndian.{number}
 use Rattle.numbers.specs.TwosComplement.{signed_of}
-use Rattle.numbers.proofs.WalkLaws.{size_walk, map_walk, walk_each, split}
+use Rattle.numbers.proofs.WalkLaws.{size_walk, map_walk, walk_each, split, bytes_between}
 use Rattle.fields.specs.Fields.{pair_place}
 use Rattle.reel.specs.Layout.{fields_from, binary_widths, binary_fields, trace_widths, trace_fields, field_number}
 use Rattle.record.specs.Kind.{tag04}
@@ -19,20 +29,21 @@ use Rattle.record.specs.Form.{held_samples, held_count, share_in, behind_trace_i
 use Rattle.record.specs.Held.{held_value, held_values_in}
 use Rattle.record.proofs.FormLaws.{place_next}
 use Rattle.exact.specs.Order.{or_else, lex_z}
-use Rattle.exact.specs.declared.Order.{Order}
-use Rattle.exact.specs.declared.Order.TheVariants.{Less, Same, More}
+use Rattle.std.specs.declared.cmp.Ordering.{Ordering}
+use Rattle.std.specs.declared.cmp.Ordering.TheVariants.{Less, Equal, Greater}
 use Rattle.compare.specs.Key.{card_key, binary_key, header_key, trace_key, traces_key, key_of}
-use Rattle.compare.specs.Parts.{is_decided, number_at, row_of, low_rows, high_rows, behind_traces, key_from}
-use Rattle.compare.proofs.LexLaws.{lex_append, lex_is, decided, undecided}
+use Rattle.std.specs.Ordering.{is_ne}
+use Rattle.compare.specs.Parts.{number_at, row_of, low_rows, high_rows, width_bytes, rows_key, rows_end, behind_traces, key_from}
+use Rattle.compare.proofs.LexLaws.{lex_append, lex_is, lex_self, decided, undecided}
 
 -- ## One part after the other
 
 -- the first part decides, or it doesn't and the second is the answer
-pub first_decides : (r x y : Order) → r ≡ x → is_decided r ≡ true → r ≡ or_else x y
-first_decides r x y e d = e ∙ sym (decided x y (sym (ap is_decided e) ∙ d))
+pub first_decides : (r x y : Ordering) → r ≡ x → is_ne r ≡ true → r ≡ or_else x y
+first_decides r x y e d = e ∙ sym (decided x y (sym (ap is_ne e) ∙ d))
 
-pub then_second : (r c x y : Order) → c ≡ x → is_decided c ≡ false → r ≡ y → r ≡ or_else x y
-then_second r c x y e d h = h ∙ ap (λ (z : Order). or_else z y) (sym (sym e ∙ undecided c d))
+pub behind_first : (c x y : Ordering) → c ≡ x → is_ne c ≡ false → or_else x y ≡ y
+behind_first c x y e d = ap (λ (z : Ordering). or_else z y) (sym e ∙ undecided c d)
 
 -- two parts of the same length, and three
 pub two_parts : (x₁ x₂ y₁ y₂ : List ℤ) → length x₁ ≡ length y₁ → lex_z (x₁ ++ x₂) (y₁ ++ y₂) ≡ or_else (lex_z x₁ y₁) (lex_z x₂ y₂)
@@ -128,29 +139,68 @@ card_size s = ap length (card_row s) ∙ row_size s 1 3200 3
 -- ## The parts that the code compares
 
 module _ (a b : List ℕ) (p q : ℕ) where
-  pub low_parts : lex_z (low_rows a p) (low_rows b q)
-      ≡ or_else (lex_z (row_of a 4 7 p) (row_of b 4 7 q)) (or_else (lex_z (row_of a 2 4 (p + 28)) (row_of b 2 4 (q + 28))) (lex_z (row_of a 4 8 (p + 36)) (row_of b 4 8 (q + 36))))
-  unfolding low_rows
-  low_parts =
-      three_parts (row_of a 4 7 p) (row_of a 2 4 (p + 28)) (row_of a 4 8 (p + 36)) (row_of b 4 7 q) (row_of b 2 4 (q + 28)) (row_of b 4 8 (q + 36)) (same_row a b 4 7 p q) (same_row a b 2 4 (p + 28) (q + 28))
-
-  pub high_parts : lex_z (high_rows a p) (high_rows b q)
-      ≡ or_else (lex_z (row_of a 2 2 (p + 68)) (row_of b 2 2 (q + 68))) (or_else (lex_z (row_of a 4 4 (p + 72)) (row_of b 4 4 (q + 72))) (lex_z (row_of a 2 46 (p + 88)) (row_of b 2 46 (q + 88))))
-  unfolding high_rows
-  high_parts =
-      three_parts (row_of a 2 2 (p + 68)) (row_of a 4 4 (p + 72)) (row_of a 2 46 (p + 88)) (row_of b 2 2 (q + 68)) (row_of b 4 4 (q + 72)) (row_of b 2 46 (q + 88)) (same_row a b 2 2 (p + 68) (q + 68)) (same_row a b 4 4 (p + 72) (q + 72))
-
-  pub header_parts : lex_z (header_key a p) (header_key b q) ≡ or_else (lex_z (low_rows a p) (low_rows b q)) (lex_z (high_rows a p) (high_rows b q))
-  header_parts = ap₂ lex_z (header_rows a p) (header_rows b q) ∙ two_parts (low_rows a p) (high_rows a p) (low_rows b q) (high_rows b q) (low_size a p ∙ sym (low_size b q))
-
   pub trace_parts : (n : ℕ) → lex_z (trace_key a n p) (trace_key b n q)
       ≡ or_else (lex_z (header_key a (p + 3)) (header_key b (q + 3))) (lex_z (held_values_in tag04 a n (p + 183)) (held_values_in tag04 b n (q + 183)))
   unfolding trace_key
   trace_parts n = two_parts (header_key a (p + 3)) (held_values_in tag04 a n (p + 183)) (header_key b (q + 3)) (held_values_in tag04 b n (q + 183)) (header_size_lem a (p + 3) ∙ sym (header_size_lem b (q + 3)))
 
+-- ## Rows in a table
+
+-- the row that stands first among those from row i on
+abbrev pub row_in : List Row → ℕ → Row
+row_in rows i = get_or rows i (record { offset = 0; width = Two; count = 0 })
+
+-- the rows from row i on
+row_on : (rows : List Row) (i : ℕ) → i < length rows → drop i rows ≡ row_in rows i ∷ drop (i + 1) rows
+row_on rows i h = drop-cons rows i (record { offset = 0; width = Two; count = 0 }) h ∙ ap (λ (x : ℕ). row_in rows i ∷ drop x rows) (let z : suc i ≡ i + 1 = omega arith in z)
+
+-- the first ends within all of them, and so do the others
+pub rows_room : (rows : List Row) (i : ℕ) → i < length rows
+    → ((row_in rows i).offset + (row_in rows i).count * width_bytes (row_in rows i).width ≤ rows_end (drop i rows)) × (rows_end (drop (i + 1) rows) ≤ rows_end (drop i rows))
+rows_room rows i h = let e = ap rows_end (row_on rows i h) in (omega (arith, e), omega (arith, e))
+
+-- the rows of a trace header, and of the binary header
+pub header_table : (s : List ℕ) (p : ℕ)
+    → rows_key s p
+    (record { offset = 0; width = Four; count = 7 }
+    ∷ record { offset = 28; width = Two; count = 4 }
+    ∷ record { offset = 36; width = Four; count = 8 }
+    ∷ record { offset = 68; width = Two; count = 2 }
+    ∷ record { offset = 72; width = Four; count = 4 }
+    ∷ record { offset = 88; width = Two; count = 46 }
+    ∷ []) ≡ header_key s p
+unfolding rows_key low_rows high_rows
+header_table s p =
+    let z : p + 0 ≡ p = omega arith in
+    let high = row_of s 2 2 (p + 68) ++ (row_of s 4 4 (p + 72) ++ row_of s 2 46 (p + 88)) in
+    ap₂ (λ (x : ℕ) (y : List ℤ). row_of s 4 7 x ++ (row_of s 2 4 (p + 28) ++ (row_of s 4 8 (p + 36) ++ (row_of s 2 2 (p + 68) ++ (row_of s 4 4 (p + 72) ++ y))))) z (append-nil (row_of s 2 46 (p + 88)))
+    ∙ sym (append_assoc (row_of s 4 7 p) (row_of s 2 4 (p + 28) ++ row_of s 4 8 (p + 36)) high ∙ ap (λ (x : List ℤ). row_of s 4 7 p ++ x) (append_assoc (row_of s 2 4 (p + 28)) (row_of s 4 8 (p + 36)) high))
+    ∙ sym (header_rows s p)
+
+pub binary_table : (s : List ℕ) → rows_key s 3206 (record { offset = 0; width = Four; count = 3 } ∷ record { offset = 12; width = Two; count = 24 } ∷ []) ≡ binary_key s
+unfolding rows_key
+binary_table s = ap (λ (y : List ℤ). row_of s 4 3 3206 ++ y) (append-nil (row_of s 2 24 3218)) ∙ sym (binary_rows s)
+
+module _ (a b : List ℕ) (p q : ℕ) (rows : List Row) (i : ℕ) where
+  abbrev first : Ordering
+  first =
+      let r = row_in rows i in
+      lex_z (row_of a (width_bytes r.width) r.count (p + r.offset)) (row_of b (width_bytes r.width) r.count (q + r.offset))
+
+  pub rows_next : i < length rows → lex_z (rows_key a p (drop i rows)) (rows_key b q (drop i rows)) ≡ or_else first (lex_z (rows_key a p (drop (i + 1) rows)) (rows_key b q (drop (i + 1) rows)))
+  unfolding rows_key
+  rows_next h =
+      let r = row_in rows i in
+      ap (λ (l : List Row). lex_z (rows_key a p l) (rows_key b q l)) (row_on rows i h)
+      ∙ two_parts (row_of a (width_bytes r.width) r.count (p + r.offset)) (rows_key a p (drop (i + 1) rows)) (row_of b (width_bytes r.width) r.count (q + r.offset)) (rows_key b q (drop (i + 1) rows)) (same_row a b (width_bytes r.width) r.count (p + r.offset) (q + r.offset))
+
+  pub rows_none : length rows ≤ i → Equal ≡ lex_z (rows_key a p (drop i rows)) (rows_key b q (drop i rows))
+  unfolding rows_key
+  rows_none h = sym (ap (λ (l : List Row). lex_z (rows_key a p l) (rows_key b q l)) (drop_of_length-le rows h))
+
 -- ## Traces
 
-some_more : (k l : List ℤ) → 0 < length k → lex_z (k ++ l) [] ≡ More
+some_more : (k l : List ℤ) → 0 < length k → lex_z (k ++ l) [] ≡ Greater
 some_more [] l h = absurd (not-suc-le-zero h)
 some_more (x ∷ k) l h = refl
 
@@ -190,7 +240,7 @@ module _ (a b : List ℕ) (n x y p q : ℕ) where
       ap₂ lex_z (key_one a n x p h) (key_one b n y q k)
       ∙ lex_append (trace_key a n p) (trace_key b n q) (key_from a n (x - 1) (behind_trace_in tag04 a n p)) (key_from b n (y - 1) (behind_trace_in tag04 b n q)) (trace_size a n p ∙ sym (trace_size b n q))
 
-  pub traces_more : 0 < x → y ≤ 0 → More ≡ lex_z (key_from a n x p) (key_from b n y q)
+  pub traces_more : 0 < x → y ≤ 0 → Greater ≡ lex_z (key_from a n x p) (key_from b n y q)
   traces_more h k =
       sym (ap₂ lex_z (key_one a n x p h) (key_none b n y q k) ∙ some_more (trace_key a n p) (key_from a n (x - 1) (behind_trace_in tag04 a n p)) (omega (arith, trace_size a n p)))
 
@@ -198,8 +248,17 @@ module _ (a b : List ℕ) (n x y p q : ℕ) where
   traces_less h k =
       sym (ap₂ lex_z (key_none a n x p h) (key_one b n y q k) ∙ some_less (trace_key b n q) (key_from b n (y - 1) (behind_trace_in tag04 b n q)) (omega (arith, trace_size b n q)))
 
-  pub traces_same : x ≤ 0 → y ≤ 0 → Same ≡ lex_z (key_from a n x p) (key_from b n y q)
+  pub traces_same : x ≤ 0 → y ≤ 0 → Equal ≡ lex_z (key_from a n x p) (key_from b n y q)
   traces_same h k = sym (ap₂ lex_z (key_none a n x p h) (key_none b n y q k))
+
+-- where one of the two has no more traces, the counts decide
+pub traces_end : (a b : List ℕ) (n s t k p q : ℕ) → k ≡ min s t → nat_cmp s t ≡ lex_z (key_from a n (s - k) p) (key_from b n (t - k) q)
+traces_end a b n s t k p q e =
+    ⊎_elim (λ (l : s < t). sym (nat_cmp_is s t Less l) ∙ traces_less a b n (s - k) (t - k) p q (omega (arith, e, l)) (omega (arith, e, l)))
+    (λ (l : t ≤ s).
+    ⊎_elim (λ (m : t < s). sym (nat_cmp_is s t Greater m) ∙ traces_more a b n (s - k) (t - k) p q (omega (arith, e, m)) (omega (arith, e, m)))
+    (λ (m : s ≤ t). let z : s ≡ t = omega arith in sym (nat_cmp_is s t Equal z) ∙ traces_same a b n (s - k) (t - k) p q (omega (arith, e, z)) (omega (arith, e, z))) (below_or t s))
+    (below_or s t)
 
 -- from the place of trace t on, they are the traces by their numbers
 key_walk : (s : List ℕ) (n k t : ℕ) → key_from s n k (trace_place s n t) ≡ flat (walk (λ j. trace_key s n (trace_place s n j)) 1 k t)
@@ -221,9 +280,6 @@ behind_walk s n (suc k) t =
 
 -- ## Records
 
-pub binary_parts : (a b : List ℕ) → lex_z (binary_key a) (binary_key b) ≡ or_else (lex_z (row_of a 4 3 3206) (row_of b 4 3 3206)) (lex_z (row_of a 2 24 3218) (row_of b 2 24 3218))
-binary_parts a b = ap₂ lex_z (binary_rows a) (binary_rows b) ∙ two_parts (row_of a 4 3 3206) (row_of a 2 24 3218) (row_of b 4 3 3206) (row_of b 2 24 3218) (same_row a b 4 3 3206 3206)
-
 pub record_parts : (a b : List ℕ) (x y : List ℤ)
     → lex_z (card_key a ++ (binary_key a ++ x)) (card_key b ++ (binary_key b ++ y)) ≡ or_else (lex_z (card_key a) (card_key b)) (or_else (lex_z (binary_key a) (binary_key b)) (lex_z x y))
 record_parts a b x y = three_parts (card_key a) (binary_key a) x (card_key b) (binary_key b) y (card_size a ∙ sym (card_size b)) (binary_size_lem a ∙ sym (binary_size_lem b))
@@ -235,11 +291,39 @@ key_is s n t e f =
     ap (λ (x : ℕ). card_key s ++ (binary_key s ++ traces_key s x (held_count s x))) e
     ∙ ap (λ (x : List ℤ). card_key s ++ (binary_key s ++ x)) (ap (traces_key s n) f ∙ sym (key_traces s n t))
 
+-- card bytes by the library's order of slices
+bytes_order : (k l : List ℕ) → slice_cmp nat_cmp k l ≡ lex_z (map pos k) (map pos l)
+bytes_order [] [] = refl
+bytes_order [] (y ∷ l) = refl
+bytes_order (x ∷ k) [] = refl
+bytes_order (x ∷ k) (y ∷ l) = ap₂ or_else (number_order x y) (bytes_order k l)
+
+pub cards_order : (a b : List ℕ) → 3203 ≤ length a → 3203 ≤ length b → slice_cmp nat_cmp (take 3200 (drop 3 a)) (take 3200 (drop 3 b)) ≡ lex_z (card_key a) (card_key b)
+unfolding card_key
+cards_order a b h k = bytes_order (take 3200 (drop 3 a)) (take 3200 (drop 3 b)) ∙ ap₂ (λ (x y : List ℕ). lex_z (map pos x) (map pos y)) (bytes_between a 3 3203 3200 h refl) (bytes_between b 3 3203 3200 k refl)
+
+-- what stands before the traces in two parts
+pub front_two : (a b : List ℕ) → lex_z (card_key a ++ binary_key a) (card_key b ++ binary_key b) ≡ or_else (lex_z (card_key a) (card_key b)) (lex_z (binary_key a) (binary_key b))
+front_two a b = two_parts (card_key a) (binary_key a) (card_key b) (binary_key b) (card_size a ∙ sym (card_size b))
+
+-- the same in two parts: what stands before the traces, and the traces
+pub front_parts : (a b : List ℕ) (x y : List ℤ)
+    → lex_z (card_key a ++ (binary_key a ++ x)) (card_key b ++ (binary_key b ++ y)) ≡ or_else (lex_z (card_key a ++ binary_key a) (card_key b ++ binary_key b)) (lex_z x y)
+front_parts a b x y =
+    ap₂ lex_z (sym (append_assoc (card_key a) (binary_key a) x)) (sym (append_assoc (card_key b) (binary_key b) y))
+    ∙ two_parts (card_key a ++ binary_key a) x (card_key b ++ binary_key b) y
+    (length-append (card_key a) (binary_key a) ∙ ap₂ (λ (m n : ℕ). m + n) (card_size a ∙ sym (card_size b)) (binary_size_lem a ∙ sym (binary_size_lem b)) ∙ sym (length-append (card_key b) (binary_key b)))
+
+pub front_same : (a b : List ℕ) → lex_z (card_key a ++ binary_key a) (card_key b ++ binary_key b) ≡ Equal → lex_z (binary_key a) (binary_key b) ≡ Equal
+front_same a b e =
+    let h = (split (card_key a) (card_key b) (binary_key a) (binary_key b) (card_size a ∙ sym (card_size b)) (lex_is (card_key a ++ binary_key a) (card_key b ++ binary_key b) e)).1 in
+    ap (lex_z (binary_key a)) (sym h) ∙ lex_self (binary_key a)
+
 -- records with the same binary numbers have the same N
 low_signed : (n : ℕ) → n ≤ 2 ^ 15 - 1 → nat_abs (signed_of 16 n) ≡ n
 low_signed n h = rw (lt-ltb n (2 ^ 15) (omega arith))
 
-pub same_samples : (a b : List ℕ) → held_samples a ≤ 2 ^ 15 - 1 → held_samples b ≤ 2 ^ 15 - 1 → lex_z (binary_key a) (binary_key b) ≡ Same → held_samples a ≡ held_samples b
+pub same_samples : (a b : List ℕ) → held_samples a ≤ 2 ^ 15 - 1 → held_samples b ≤ 2 ^ 15 - 1 → lex_z (binary_key a) (binary_key b) ≡ Equal → held_samples a ≡ held_samples b
 unfolding row_of
 same_samples a b h k e =
     let r = sym (binary_rows a) ∙ lex_is (binary_key a) (binary_key b) e ∙ binary_rows b in

@@ -13,13 +13,13 @@ use Rattle.fields.proofs.FieldsLaws.{walk_like, walk_parts, field_of, field_in_l
 use Rattle.record.specs.Kind.{tag04}
 use Rattle.record.specs.Held.{held_value}
 use Rattle.exact.specs.Order.{or_else, lex_z}
-use Rattle.exact.specs.declared.Order.{Order}
-use Rattle.exact.specs.declared.Order.TheVariants.{Same}
+use Rattle.std.specs.declared.cmp.Ordering.{Ordering}
+use Rattle.std.specs.declared.cmp.Ordering.TheVariants.{Equal}
 use Rattle.compare.specs.Parts.{run_of}
 use Rattle.compare.proofs.LexLaws.{lex_self, lex_append}
 
 -- samples with the same bytes are the same
-pub run_same : (a b : List ℕ) (p q n : ℕ) → bytes_at a p (n * 6) ≡ bytes_at b q (n * 6) → Same ≡ lex_z (walk (held_value a) 6 n p) (walk (held_value b) 6 n q)
+pub run_same : (a b : List ℕ) (p q n : ℕ) → bytes_at a p (n * 6) ≡ bytes_at b q (n * 6) → Equal ≡ lex_z (walk (held_value a) 6 n p) (walk (held_value b) 6 n q)
 unfolding bytes_at
 run_same a b p q n e =
     let v : walk (held_value a) 6 n p ≡ walk (held_value b) 6 n q =
@@ -55,10 +55,10 @@ module _ (c : ℕ) (some : 0 < c) (at : ℕ) where
 
 -- LAW. Samples in fields of c and in fields of d: a run, then those behind it.
 module _ (a b : List ℕ) (c d : ℕ) (sc : 0 < c) (sd : 0 < d) (p q n : ℕ) where
-  abbrev rest : ℕ → Order
+  abbrev rest : ℕ → Ordering
   rest j = lex_z (walk (λ x. held_value a (pair_place 6 c p x)) 1 (n - j) j) (walk (λ x. held_value b (pair_place 6 d q x)) 1 (n - j) j)
 
-  abbrev run : ℕ → ℕ → Order
+  abbrev run : ℕ → ℕ → Ordering
   run m j = lex_z (walk (held_value a) 6 m (pair_place 6 c p j)) (walk (held_value b) 6 m (pair_place 6 d q j))
 
   pub run_some : (j : ℕ) → j < n → 0 < run_of c d n j

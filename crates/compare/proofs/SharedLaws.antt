@@ -8,7 +8,10 @@ use native.Mathlib.Omega.{arith}
 use borrow.Author.Tests.{leb-true, ltb-true}
 use lib.Dec.{T, leb, ltb, eqb}
 use lib.ListN.{length, get_or, take, drop}
-use Rattle.numbers.specs.Cause.{then}
+use Rattle.std.specs.Prelude.{Result, Ok, Err}
+use Rattle.std.specs.Result.{is_err}
+use Rattle.numbers.specs.declared.Refusal.{Refusal}
+use Rattle.numbers.specs.Cause.{then, checked}
 use Rattle.numbers.specs.Cause.{Check}
 use Rattle.numbers.specs.Cause.{Fine, Refused}
 use Rattle.numbers.proofs.BoolLaws.{and_true, and_false}
@@ -20,9 +23,9 @@ use Rattle.reel.specs.Causes.{most_traces}
 use Rattle.record.specs.Kind.{tag04}
 use Rattle.record.specs.Form.{cards_causes, binary_causes, held_samples, held_interval, held_count, trace_form_in, held_stride_in, behind_trace_in, is_trace_in, trace_place, trace_place_in, traces_place, form_causes_in, form_causes, numbers_in}
 use Rattle.record.specs.Parts.{form_from}
-use Rattle.record.proofs.FormLaws.{form_room, is_more, form_more, form_is, place_next, held_length, held_count_lem}
+use Rattle.record.proofs.FormLaws.{form_room, form_stop, is_more, form_more, form_is, place_next, held_length, held_count_lem}
 use Rattle.exact.specs.Order.{or_else, lex_z}
-use Rattle.exact.specs.declared.Order.{Order}
+use Rattle.std.specs.declared.cmp.Ordering.{Ordering}
 use Rattle.compare.specs.Key.{card_key, binary_key, trace_key, order_of}
 use Rattle.compare.specs.Parts.{Alike, same_bytes, is_fine, is_shared, more_traces, key_from, behind_traces, Passed, Shared}
 use Rattle.compare.proofs.LexLaws.{lex_self}
@@ -34,6 +37,20 @@ use Rattle.compare.proofs.PrefixLaws.{number_like, cards_like, binary_like, card
 pub fine_is : (c : Check) → is_fine c ≡ true → c ≡ Fine
 fine_is Fine e = refl
 fine_is (Refused number place) e = absurd (subst T (sym e) tt)
+
+-- a check that is refused, and one that isn't
+pub refused_is : (r : Result (Unit {0}) Refusal) → is_err r ≡ true → is_fine (checked r) ≡ false
+refused_is (Ok v) e = absurd (subst T (sym e) tt)
+refused_is (Err x) e = refl
+
+pub passed_is : (r : Result (Unit {0}) Refusal) → is_err r ≡ false → checked r ≡ Fine
+passed_is (Ok v) e = refl
+passed_is (Err x) e = absurd (subst T e tt)
+
+-- what a check of the first two fields refuses, judging the whole record does
+pub front_stop : (s : List ℕ) (r : Result (Unit {0}) Refusal) → is_err r ≡ true → checked r ≡ then (cards_causes s) (binary_causes s) → form_causes s ≡ checked r
+front_stop s (Ok v) e f = absurd (subst T (sym e) tt)
+front_stop s (Err x) e f = form_stop s (sym f)
 
 -- ## What is found of a trace
 
@@ -149,7 +166,7 @@ module _ (a b : List ℕ) (n i : ℕ) where
         let y = counts b n i t at z.second more_b in
         let u : more_traces a n t - 1 ≡ more_traces a n (t + 1) = omega (arith, x) in
         let v : more_traces b n t - 1 ≡ more_traces b n (t + 1) = omega (arith, y) in
-        let rest : Order = lex_z (key_from a n (more_traces a n t - 1) (behind_trace_in tag04 a n at)) (key_from b n (more_traces b n t - 1) (behind_trace_in tag04 b n at)) in
+        let rest : Ordering = lex_z (key_from a n (more_traces a n t - 1) (behind_trace_in tag04 a n at)) (key_from b n (more_traces b n t - 1) (behind_trace_in tag04 b n at)) in
         record {
           few = let l = ltb-true t most_traces (and_true (ltb t most_traces) (eqb (get_or a at 0) 3) more_a).0 in omega arith;
           first = passed_next a n i t at z.first more_a fine_a;
@@ -158,7 +175,7 @@ module _ (a b : List ℕ) (n i : ℕ) where
           order =
               z.order
               ∙ traces_next a b n (more_traces a n t) (more_traces b n t) at at (omega (arith, x)) (omega (arith, y))
-              ∙ ap (λ (c : Order). or_else c rest) (ap (lex_z (trace_key a n at)) (sym key_b) ∙ lex_self (trace_key a n at))
+              ∙ ap (λ (c : Ordering). or_else c rest) (ap (lex_z (trace_key a n at)) (sym key_b) ∙ lex_self (trace_key a n at))
               ∙ ap₂ lex_z (ap (λ (k : ℕ). key_from a n k (behind_trace_in tag04 a n at)) u) (ap₂ (key_from b n) v (sym behind_b));
         }
 
@@ -183,8 +200,8 @@ module _ (a b : List ℕ) (ha : 3266 ≤ length a) (hb : 3266 ≤ length b) (sam
       let m : held_samples b ≡ n = sym (e ∙ samples_alike) in
       ap₂ lex_z (key_is a n (held_count a n) (sym e) refl) (key_is b n (held_count b n) m refl)
       ∙ record_parts a b x y
-      ∙ ap (λ (c : Order). or_else c (or_else (lex_z (binary_key a) (binary_key b)) (lex_z x y))) (ap (lex_z (card_key a)) (sym (card_key_like a b 3266 ha hb same (omega arith))) ∙ lex_self (card_key a))
-      ∙ ap (λ (c : Order). or_else c (lex_z x y)) (ap (lex_z (binary_key a)) (sym (binary_key_like a b 3266 ha hb same (omega arith))) ∙ lex_self (binary_key a))
+      ∙ ap (λ (c : Ordering). or_else c (or_else (lex_z (binary_key a) (binary_key b)) (lex_z x y))) (ap (lex_z (card_key a)) (sym (card_key_like a b 3266 ha hb same (omega arith))) ∙ lex_self (card_key a))
+      ∙ ap (λ (c : Ordering). or_else c (lex_z x y)) (ap (lex_z (binary_key a)) (sym (binary_key_like a b 3266 ha hb same (omega arith))) ∙ lex_self (binary_key a))
 
 -- ## Valid records
 

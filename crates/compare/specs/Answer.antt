@@ -1,23 +1,29 @@
 -- What comparing two records says: "12 and 13 apply, the first record's before the second's; the answer says which" (document 02, CR 9).
-use Rattle.std.specs.Prelude.{ℕ, List}
+use Rattle.std.specs.Prelude.{ℕ, List, Result, Ok, Err}
 use Rattle.numbers.specs.Places.{place_no}
-use Rattle.numbers.specs.Cause.{Check}
+use Rattle.numbers.specs.Cause.{Check, cause_no}
 use Rattle.numbers.specs.Cause as check
 use Rattle.record.specs.Form.{form_causes}
-use Rattle.exact.specs.declared.Order.{Order}
+use Rattle.std.specs.declared.cmp.Ordering.{Ordering}
 use Rattle.compare.specs.Key.{order_of}
-use Rattle.compare.specs.declared.Answer.{Answer}
-use Rattle.compare.specs.declared.Answer.TheVariants.{Ordered, Refused}
+use Rattle.compare.specs.declared.RefusedRecord.{RefusedRecord}
+use Rattle.compare.specs.declared.Which.{Which}
+use Rattle.compare.specs.declared.Which.TheVariants.{First, Second}
 
 -- The order of the first record to the second; or which record is refused, 1 or 2, by which number and at which place in that record.
 pub data Compared : Type 0 where
-  ordered : Order → Compared
+  ordered : Ordering → Compared
   refused : ℕ → ℕ → ℕ → Compared
 
+-- Which record, in numbers.
+abbrev pub which_number : Which → ℕ
+which_number First = 1
+which_number Second = 2
+
 -- The paper's values for each case of the answer.
-abbrev pub compare_said : Answer → Compared
-compare_said (Ordered o) = ordered o
-compare_said (Refused which number place) = refused which number (place_no place)
+abbrev pub compare_said : Result Ordering RefusedRecord → Compared
+compare_said (Ok o) = ordered o
+compare_said (Err r) = refused (which_number r.which) (cause_no r.refusal.cause) (place_no r.refusal.place)
 
 -- What is said where judging the second record finds this, and no cause applies to the first;
 abbrev pub second_found : List ℕ → List ℕ → Check → Compared

@@ -9,7 +9,7 @@ use Rattle.record.specs.Kind.{tag04}
 use Rattle.record.specs.Form.{field_head, binary_start, to_samples, held_samples, trace_place, held_count}
 use Rattle.record.specs.Held.{held_values_in}
 use Rattle.exact.specs.Order.{lex_z}
-use Rattle.exact.specs.declared.Order.{Order}
+use Rattle.std.specs.declared.cmp.Ordering.{Ordering}
 
 -- The card bytes, which are characters and have no sign.
 unfoldable pub card_key : List ℕ → List ℤ
@@ -41,5 +41,5 @@ key_of s = card_key s ++ (binary_key s ++ rest_key s)
 
 -- The order of two records: the first numbers of their keys that differ decide, and a key that ends first is the lesser. Records that agree in
 -- their binary numbers have the same N, and so traces of equally many numbers.
-abbrev pub order_of : List ℕ → List ℕ → Order
+abbrev pub order_of : List ℕ → List ℕ → Ordering
 order_of a b = lex_z (key_of a) (key_of b)

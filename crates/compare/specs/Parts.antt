@@ -1,5 +1,6 @@
 -- Parts of the key of a record, and what the functions of this crate hand to each other.
-use Rattle.std.specs.Prelude.{◌≡◌, Bool, true, false, ◌&&◌, List, [], ◌∷◌, ◌++◌, ℕ, zero, suc, ◌+◌, ◌-◌, ◌%◌, ◌≤◌, ◌<◌, min, eqb, leb, ltb, ℤ, pos, length, get_or, take, drop}
+use Rattle.std.specs.Prelude.{◌≡◌, Bool, true, false, ◌&&◌, List, [], ◌∷◌, ◌++◌, ℕ, zero, suc, ◌+◌, ◌-◌, ◌*◌, ◌%◌, ◌≤◌, ◌<◌, min, max, eqb, leb, ltb, ℤ, pos, length, get_or, take, drop}
+use Rattle.std.specs.Cmp.Lexicographic.{pointwise}
 use Rattle.numbers.specs.Walk.{pick, walk, bytes_at}
 use Rattle.numbers.specs.BigEndian.{number}
 use Rattle.numbers.specs.TwosComplement.{signed_of}
@@ -11,22 +12,14 @@ use Rattle.record.specs.Kind.{tag04}
 use Rattle.record.specs.Form.{trace_form_in, held_stride_in, behind_trace_in, is_trace_in, trace_place, traces_place, held_count}
 use Rattle.record.specs.Parts.{form_from}
 use Rattle.exact.specs.Order.{lex_z}
-use Rattle.exact.specs.declared.Order.{Order}
-use Rattle.exact.specs.declared.Order.TheVariants.{Less, Same, More}
 use Rattle.compare.specs.Key.{trace_key}
-
--- An order decides where it isn't `Same`.
-abbrev pub is_decided : Order → Bool
-is_decided Less = true
-is_decided Same = false
-is_decided More = true
+use Rattle.compare.specs.declared.Row.{Row}
+use Rattle.compare.specs.declared.Width.{Width}
+use Rattle.compare.specs.declared.Width.TheVariants.{Two, Four}
 
 -- Two lists of bytes are the same.
 abbrev pub same_bytes : List ℕ → List ℕ → Bool
-same_bytes [] [] = true
-same_bytes [] (y ∷ l) = false
-same_bytes (x ∷ k) [] = false
-same_bytes (x ∷ k) (y ∷ l) = eqb x y && same_bytes k l
+same_bytes = pointwise eqb
 
 -- The first n bytes of two lists, which have as many, are the same.
 abbrev pub Alike : List ℕ → List ℕ → ℕ → Type 0
@@ -58,6 +51,21 @@ low_rows s p = row_of s 4 7 p ++ (row_of s 2 4 (p + 28) ++ row_of s 4 8 (p + 36)
 
 unfoldable pub high_rows : List ℕ → ℕ → List ℤ
 high_rows s p = row_of s 2 2 (p + 68) ++ (row_of s 4 4 (p + 72) ++ row_of s 2 46 (p + 88))
+
+-- How many bytes a width stands for.
+abbrev pub width_bytes : Width → ℕ
+width_bytes Two = 2
+width_bytes Four = 4
+
+-- Rows of numbers, each at its offset from a place, one after the other.
+unfoldable pub rows_key : List ℕ → ℕ → List Row → List ℤ
+rows_key s p [] = []
+rows_key s p (r ∷ rows) = row_of s (width_bytes r.width) r.count (p + r.offset) ++ rows_key s p rows
+
+-- How far behind that place the last byte of the rows ends.
+abbrev pub rows_end : List Row → ℕ
+rows_end [] = 0
+rows_end (r ∷ rows) = max (r.offset + r.count * width_bytes r.width) (rows_end rows)
 
 -- ## Traces, one after the other
 

@@ -17,8 +17,8 @@ use Rattle.formats.specs.Codes.{is_code}
 use Rattle.value.specs.Pair.{pair_of, is_canonical, pair_length}
 use Rattle.formats.specs.Words.{word_of, Writes}
 use Rattle.value.specs.Writing.{write_pair}
-use Rattle.formats.specs.declared.Written.{Written}
-use Rattle.formats.specs.declared.Written.TheVariants.{Word, Refused}
+use Rattle.formats.specs.Written.{Written}
+use Rattle.formats.specs.Written.{Word, Refused}
 use Rattle.sample_theorems.proofs.Pairs.{pair_value}
 use Rattle.value.proofs.WrittenLaws.{written_is}
 use Rattle.sample.specs.Calls.{single_word}

@@ -25,8 +25,8 @@ use Rattle.formats.specs.Codes.{is_code, sample_bytes, word_length}
 use Rattle.value.specs.Pair.{pair_of, is_canonical}
 use Rattle.formats.specs.Words.{word_of, word_bits}
 use Rattle.value.specs.Writing.{write_pair}
-use Rattle.formats.specs.declared.Written.{Written}
-use Rattle.formats.specs.declared.Written.TheVariants.{Word, Refused}
+use Rattle.formats.specs.Written.{Written}
+use Rattle.formats.specs.Written.{Word, Refused}
 use Rattle.sample.specs.Reading.{bad_number, not_normal}
 use Rattle.sample.specs.Calls.{single_word}
 use Rattle.formats.proofs.CodeLaws.{word_there, code_limits}

@@ -22,7 +22,7 @@ use Rattle.formats.specs.Codes.{is_code, sample_bytes, word_length}
 use Rattle.formats.specs.Value.{exact_value}
 use Rattle.formats.specs.Words.{word_of}
 use Rattle.formats.specs.Nearest.{nearest_value, changes, differs}
-use Rattle.formats.specs.declared.Written.{Written}
+use Rattle.formats.specs.Written.{Written}
 use Rattle.format_theorems.proofs.NearestTheorems.{nearest_means}
 use Rattle.reel.specs.Layout.{first_trace, trace_header, stride, interval_of, samples_of, code_of, traces_of}
 use Rattle.reel.specs.Meaning.{Trace, trace_meaning, Meaning, meaning_by, meaning_of}

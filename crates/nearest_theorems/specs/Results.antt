@@ -9,7 +9,7 @@ use Rattle.formats.specs.Codes.{sample_bytes, word_length}
 use Rattle.formats.specs.Value.{word_number}
 use Rattle.formats.specs.Words.{word_of}
 use Rattle.formats.specs.Nearest.{nearest_value, differs}
-use Rattle.formats.specs.declared.Written.TheVariants.{Word}
+use Rattle.formats.specs.Written.{Word}
 use Rattle.format_theorems.specs.Nearness.{NearestOf}
 use Rattle.reel.specs.Layout.{code_of, samples_of, traces_of}
 use Rattle.reel.specs.Causes.{causes_of}

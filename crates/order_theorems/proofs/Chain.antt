@@ -8,29 +8,29 @@ use borrow.Author.Tests.{lt-ltb, le-ltb}
 use lib.IntN.{ℤ, pos, negsuc}
 use Rattle.numbers.proofs.SignLaws.{below_or}
 use Rattle.exact.specs.Order.{turned, order_n, order_z, or_else, lex_z}
-use Rattle.exact.specs.declared.Order.{Order}
-use Rattle.exact.specs.declared.Order.TheVariants.{Less, Same, More}
+use Rattle.std.specs.declared.cmp.Ordering.{Ordering}
+use Rattle.std.specs.declared.cmp.Ordering.TheVariants.{Less, Equal, Greater}
 use Rattle.compare.proofs.LexLaws.{same_is, lex_is, lex_turn}
 
 -- ## Orders that differ
 
-rank : Order → ℕ
+rank : Ordering → ℕ
 rank Less = 0
-rank Same = 1
-rank More = 2
+rank Equal = 1
+rank Greater = 2
 
-same_less : Same ≡ Less → ⊥
+same_less : Equal ≡ Less → ⊥
 unfolding rank
 same_less e = let z : ◌≡◌ {A = ℕ} 1 0 = ap rank e in omega arith
 
-more_less : More ≡ Less → ⊥
+more_less : Greater ≡ Less → ⊥
 unfolding rank
 more_less e = let z : ◌≡◌ {A = ℕ} 2 0 = ap rank e in omega arith
 
-less_more : Less ≡ More → ⊥
+less_more : Less ≡ Greater → ⊥
 less_more e = more_less (sym e)
 
-same_more : Same ≡ More → ⊥
+same_more : Equal ≡ Greater → ⊥
 unfolding rank
 same_more e = let z : ◌≡◌ {A = ℕ} 1 2 = ap rank e in omega arith
 
@@ -65,43 +65,43 @@ lex_chain (a ∷ k) [] m p q = absurd (more_less p)
 lex_chain (a ∷ k) (b ∷ l) [] p q = absurd (more_less q)
 lex_chain (a ∷ k) (b ∷ l) (c ∷ m) p q = go (order_z a b) (order_z b c) refl refl p q (λ x y. lex_chain k l m x y)
   where
-    go : (x y : Order) → order_z a b ≡ x → order_z b c ≡ y → or_else x (lex_z k l) ≡ Less → or_else y (lex_z l m) ≡ Less → (lex_z k l ≡ Less → lex_z l m ≡ Less → lex_z k m ≡ Less)
+    go : (x y : Ordering) → order_z a b ≡ x → order_z b c ≡ y → or_else x (lex_z k l) ≡ Less → or_else y (lex_z l m) ≡ Less → (lex_z k l ≡ Less → lex_z l m ≡ Less → lex_z k m ≡ Less)
         → or_else (order_z a c) (lex_z k m) ≡ Less
     go Less Less e f p q r = rw (signed_chain a b c e f)
-    go Less Same e f p q r = rw (← (same_is b c f), e)
-    go Same Less e f p q r = rw (same_is a b e, f)
-    go Same Same e f p q r = rw (same_is a b e, f) (r p q)
-    go More y e f p q r = absurd (more_less p)
-    go Less More e f p q r = absurd (more_less q)
-    go Same More e f p q r = absurd (more_less q)
+    go Less Equal e f p q r = rw (← (same_is b c f), e)
+    go Equal Less e f p q r = rw (same_is a b e, f)
+    go Equal Equal e f p q r = rw (same_is a b e, f) (r p q)
+    go Greater y e f p q r = absurd (more_less p)
+    go Less Greater e f p q r = absurd (more_less q)
+    go Equal Greater e f p q r = absurd (more_less q)
 
 -- ## Not greater
 
 -- LAW. So of lists that are not greater,
-pub most_chain : (k l m : List ℤ) → ¬ (lex_z k l ≡ More) → ¬ (lex_z l m ≡ More) → ¬ (lex_z k m ≡ More)
+pub most_chain : (k l m : List ℤ) → ¬ (lex_z k l ≡ Greater) → ¬ (lex_z l m ≡ Greater) → ¬ (lex_z k m ≡ Greater)
 most_chain k l m p q = go (lex_z k l) (lex_z l m) refl refl
   where
-    go : (x y : Order) → lex_z k l ≡ x → lex_z l m ≡ y → ¬ (lex_z k m ≡ More)
+    go : (x y : Ordering) → lex_z k l ≡ x → lex_z l m ≡ y → ¬ (lex_z k m ≡ Greater)
     go Less Less e f r = less_more (sym (lex_chain k l m e f) ∙ r)
-    go Less Same e f r = less_more (sym e ∙ ap (lex_z k) (lex_is l m f) ∙ r)
-    go Less More e f r = q f
-    go Same y e f r = q (ap (λ (x : List ℤ). lex_z x m) (sym (lex_is k l e)) ∙ r)
-    go More y e f r = p e
+    go Less Equal e f r = less_more (sym e ∙ ap (lex_z k) (lex_is l m f) ∙ r)
+    go Less Greater e f r = q f
+    go Equal y e f r = q (ap (λ (x : List ℤ). lex_z x m) (sym (lex_is k l e)) ∙ r)
+    go Greater y e f r = p e
 
 -- where neither is, they are the same,
-pub most_both : (k l : List ℤ) → ¬ (lex_z k l ≡ More) → ¬ (lex_z l k ≡ More) → lex_z k l ≡ Same
+pub most_both : (k l : List ℤ) → ¬ (lex_z k l ≡ Greater) → ¬ (lex_z l k ≡ Greater) → lex_z k l ≡ Equal
 most_both k l p q = go (lex_z k l) refl
   where
-    go : (x : Order) → lex_z k l ≡ x → lex_z k l ≡ Same
+    go : (x : Ordering) → lex_z k l ≡ x → lex_z k l ≡ Equal
     go Less e = absurd (q (lex_turn k l ∙ ap turned e))
-    go Same e = e
-    go More e = absurd (p e)
+    go Equal e = e
+    go Greater e = absurd (p e)
 
 -- and one of the two is not.
-pub most_total : (k l : List ℤ) → (¬ (lex_z k l ≡ More)) ⊎ (¬ (lex_z l k ≡ More))
+pub most_total : (k l : List ℤ) → (¬ (lex_z k l ≡ Greater)) ⊎ (¬ (lex_z l k ≡ Greater))
 most_total k l = go (lex_z k l) refl
   where
-    go : (x : Order) → lex_z k l ≡ x → (¬ (lex_z k l ≡ More)) ⊎ (¬ (lex_z l k ≡ More))
+    go : (x : Ordering) → lex_z k l ≡ x → (¬ (lex_z k l ≡ Greater)) ⊎ (¬ (lex_z l k ≡ Greater))
     go Less e = inl (λ r. less_more (sym e ∙ r))
-    go Same e = inl (λ r. same_more (sym e ∙ r))
-    go More e = inr (λ r. less_more (sym (lex_turn k l ∙ ap turned e) ∙ r))
+    go Equal e = inl (λ r. same_more (sym e ∙ r))
+    go Greater e = inr (λ r. less_more (sym (lex_turn k l ∙ ap turned e) ∙ r))

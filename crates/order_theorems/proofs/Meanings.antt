@@ -40,8 +40,8 @@ use Rattle.compare.specs.Key.{card_key, binary_key, header_key, trace_key, trace
 use Rattle.compare.proofs.KeyLaws.{header_size_lem, three_parts}
 use Rattle.compare.proofs.LexLaws.{same_self}
 use Rattle.exact.specs.Order.{or_else, lex_z}
-use Rattle.exact.specs.declared.Order.{Order}
-use Rattle.exact.specs.declared.Order.TheVariants.{Less}
+use Rattle.std.specs.declared.cmp.Ordering.{Ordering}
+use Rattle.std.specs.declared.cmp.Ordering.TheVariants.{Less}
 use Rattle.order_theorems.specs.MeaningKey.{trace_numbers, traces_numbers, IsSized, meaning_key, meaning_order}
 
 -- ## Headers
@@ -203,7 +203,7 @@ sizes_held s b v = go (held_by s).traces (held_proper s b v).traces
 more_less : (k x y : List ℤ) → 0 < length x → lex_z k (k ++ (x ++ y)) ≡ Less
 more_less [] [] y h = absurd (not-suc-le-zero h)
 more_less [] (z ∷ x) y h = refl
-more_less (z ∷ k) x y h = ap (λ (o : Order). or_else o (lex_z k (k ++ (x ++ y)))) (same_self z) ∙ more_less k x y h
+more_less (z ∷ k) x y h = ap (λ (o : Ordering). or_else o (lex_z k (k ++ (x ++ y)))) (same_self z) ∙ more_less k x y h
 
 flat_append : (k l : List (List ℤ)) → flat (k ++ l) ≡ flat k ++ flat l
 flat_append [] l = refl

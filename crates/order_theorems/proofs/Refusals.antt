@@ -12,13 +12,13 @@ use Rattle.numbers.specs.Cause.{Fine, Refused}
 use Rattle.record.specs.Form.{form_causes}
 use Rattle.demands.specs.Tables.{FormRow}
 use Rattle.demands.proofs.FormRefusals.{exact_form, no_form_cause}
-use Rattle.exact.specs.declared.Order.{Order}
+use Rattle.std.specs.declared.cmp.Ordering.{Ordering}
 use Rattle.compare.specs.Key.{order_of}
 use Rattle.compare.specs.Answer.{ordered, refused, second_found, first_found, compare_outcome}
 use Rattle.order_theorems.specs.CompareTable.{CompareRow, first_record, second_record}
 
 -- an order is no refusal
-no_order : {o : Order} {which number place : ℕ} → ordered o ≡ refused which number place → ⊥
+no_order : {o : Ordering} {which number place : ℕ} → ordered o ≡ refused which number place → ⊥
 no_order e = let z : ◌≡◌ {A = ℕ} 0 1 = cc in omega arith
 
 -- the row of a cause, by the number of its place
@@ -55,7 +55,7 @@ module _ (a b : List ℕ) where
   both_valid p q = ap (first_found a b) p ∙ ap (second_found a b) q
 
   -- and no others
-  pub ordered_valid : {o : Order} → compare_outcome a b ≡ ordered o → (form_causes a ≡ Fine) × (form_causes b ≡ Fine) × (order_of a b ≡ o)
+  pub ordered_valid : {o : Ordering} → compare_outcome a b ≡ ordered o → (form_causes a ≡ Fine) × (form_causes b ≡ Fine) × (order_of a b ≡ o)
   ordered_valid {o} e = first (form_causes a) refl e
     where
       second : form_causes a ≡ Fine → (d : Check) → form_causes b ≡ d → second_found a b d ≡ ordered o → (form_causes a ≡ Fine) × (form_causes b ≡ Fine) × (order_of a b ≡ o)

@@ -63,8 +63,8 @@ use Rattle.demands.proofs.Renewed.{renewed_bytes, renewed_valid, renewed_holds}
 use Rattle.demands.proofs.Determined.{read_valid, held_same}
 use Rattle.demands.proofs.Demand3.{records_equal}
 use Rattle.exact.specs.Order.{order_z, turned, or_else, lex_z}
-use Rattle.exact.specs.declared.Order.{Order}
-use Rattle.exact.specs.declared.Order.TheVariants.{Less, Same, More}
+use Rattle.std.specs.declared.cmp.Ordering.{Ordering}
+use Rattle.std.specs.declared.cmp.Ordering.TheVariants.{Less, Equal, Greater}
 use Rattle.compare.specs.Key.{card_key, binary_key, rest_key, key_of, order_of}
 use Rattle.compare.specs.Answer.{ordered, refused, compare_outcome}
 use Rattle.compare.proofs.LexLaws.{lex_is, lex_self, lex_turn, lex_append}
@@ -94,7 +94,7 @@ pub order_turn : (a b : List ℕ) → order_of b a ≡ turned (order_of a b)
 order_turn a b = lex_turn (key_of a) (key_of b)
 
 -- THEOREM. a record is the same as itself,
-pub order_self : (a : List ℕ) → order_of a a ≡ Same
+pub order_self : (a : List ℕ) → order_of a a ≡ Equal
 order_self a = lex_self (key_of a)
 
 -- THEOREM. and a record less than one that is less than a third is less than the third.
@@ -102,15 +102,15 @@ pub order_chain : (a b c : List ℕ) → order_of a b ≡ Less → order_of b c 
 order_chain a b c p q = lex_chain (key_of a) (key_of b) (key_of c) p q
 
 -- THEOREM. So with not greater: it goes on from one to the next,
-pub at_most_chain : (a b c : List ℕ) → ¬ (order_of a b ≡ More) → ¬ (order_of b c ≡ More) → ¬ (order_of a c ≡ More)
+pub at_most_chain : (a b c : List ℕ) → ¬ (order_of a b ≡ Greater) → ¬ (order_of b c ≡ Greater) → ¬ (order_of a c ≡ Greater)
 at_most_chain a b c p q = most_chain (key_of a) (key_of b) (key_of c) p q
 
 -- THEOREM. two records of which neither is the greater are the same,
-pub at_most_both : (a b : List ℕ) → ¬ (order_of a b ≡ More) → ¬ (order_of b a ≡ More) → order_of a b ≡ Same
+pub at_most_both : (a b : List ℕ) → ¬ (order_of a b ≡ Greater) → ¬ (order_of b a ≡ Greater) → order_of a b ≡ Equal
 at_most_both a b p q = most_both (key_of a) (key_of b) p q
 
 -- THEOREM. and of two records one is not greater than the other.
-pub at_most_total : (a b : List ℕ) → (¬ (order_of a b ≡ More)) ⊎ (¬ (order_of b a ≡ More))
+pub at_most_total : (a b : List ℕ) → (¬ (order_of a b ≡ Greater)) ⊎ (¬ (order_of b a ≡ Greater))
 at_most_total a b = most_total (key_of a) (key_of b)
 
 -- ## What records hold
@@ -148,7 +148,7 @@ renewed_order a b ba bb va vb =
     ∙ ap₂ meaning_order (renewed_holds a ba va) (renewed_holds b bb vb) ∙ sym (order_held a b ba bb va vb)
 
 -- THEOREM. and such a record counts as equal to itself in that form.
-pub renewed_same : (a : List ℕ) → Bytes a → form_causes a ≡ Fine → order_of (renewed a) a ≡ Same
+pub renewed_same : (a : List ℕ) → Bytes a → form_causes a ≡ Fine → order_of (renewed a) a ≡ Equal
 renewed_same a ba va =
     order_held (renewed a) a (renewed_bytes a ba va) ba (renewed_valid a ba va) va
     ∙ ap (λ (m : Meaning). meaning_order m (held_by a)) (renewed_holds a ba va) ∙ lex_self (meaning_key (held_by a))
@@ -163,14 +163,14 @@ ends_first a b t ts ba bb va vb c d e = order_held a b ba bb va vb ∙ later_les
 -- ## Records that count as equal
 
 -- THEOREM. "two records count as equal just when their meanings are equal".
-pub order_same : (a b : List ℕ) → Bytes a → Bytes b → form_causes a ≡ Fine → form_causes b ≡ Fine → Iff (order_of a b ≡ Same) (held_by a ≡ held_by b)
+pub order_same : (a b : List ℕ) → Bytes a → Bytes b → form_causes a ≡ Fine → form_causes b ≡ Fine → Iff (order_of a b ≡ Equal) (held_by a ≡ held_by b)
 order_same a b ba bb va vb = (
   λ e. held_only a b ba bb va vb (lex_is (key_of a) (key_of b) e),
   λ e. order_held a b ba bb va vb ∙ ap (meaning_order (held_by a)) (sym e) ∙ lex_self (meaning_key (held_by a)),
 )
 
 -- THEOREM. So two records in the newest form count as equal exactly when they are equal byte for byte.
-pub newest_same : (a b : List ℕ) → Bytes a → Bytes b → form_causes a ≡ Fine → form_causes b ≡ Fine → IsNewest a → IsNewest b → Iff (order_of a b ≡ Same) (a ≡ b)
+pub newest_same : (a b : List ℕ) → Bytes a → Bytes b → form_causes a ≡ Fine → form_causes b ≡ Fine → IsNewest a → IsNewest b → Iff (order_of a b ≡ Equal) (a ≡ b)
 newest_same a b ba bb va vb na nb = (
   λ e. held_same a b ba bb va vb na nb ((order_same a b ba bb va vb).0 e),
   λ e. ap (order_of a) (sym e) ∙ order_self a,
@@ -191,7 +191,7 @@ module _ (s₁ s₂ out₁ out₂ : List ℕ) (t₁ n₁ l₁ c₁ t₂ n₂ l�
       ∙ ap ordered (order_held a b r₁.bytes r₂.bytes r₁.valid r₂.valid ∙ ap₂ meaning_order r₁.holds r₂.holds)
 
   -- THEOREM. It says that they are the same exactly when the reels mean the same.
-  pub reels_same : Iff (compare_outcome (take l₁ (read_outcome s₁ out₁).bytes) (take l₂ (read_outcome s₂ out₂).bytes) ≡ ordered Same) (MeanTheSame s₁ s₂)
+  pub reels_same : Iff (compare_outcome (take l₁ (read_outcome s₁ out₁).bytes) (take l₂ (read_outcome s₂ out₂).bytes) ≡ ordered Equal) (MeanTheSame s₁ s₂)
   reels_same =
       let a = take l₁ (read_outcome s₁ out₁).bytes in
       let b = take l₂ (read_outcome s₂ out₂).bytes in
@@ -260,11 +260,11 @@ module _ (a b : List ℕ) where
   compare_taken = (no_rows a b, rows_none a b)
 
   -- THEOREM. "Compare two valid records": it says an order exactly when both are valid, and then theirs.
-  pub compare_valid : (o : Order) → Iff (compare_outcome a b ≡ ordered o) ((form_causes a ≡ Fine) × (form_causes b ≡ Fine) × (order_of a b ≡ o))
+  pub compare_valid : (o : Ordering) → Iff (compare_outcome a b ≡ ordered o) ((form_causes a ≡ Fine) × (form_causes b ≡ Fine) × (order_of a b ≡ o))
   compare_valid o = (ordered_valid a b, λ h. both_valid a b h.0 h.1 ∙ ap ordered h.2)
 
   -- THEOREM. "The order is total": asked the other way round, it says the order turned.
-  pub compare_turn : (o : Order) → compare_outcome a b ≡ ordered o → compare_outcome b a ≡ ordered (turned o)
+  pub compare_turn : (o : Ordering) → compare_outcome a b ≡ ordered o → compare_outcome b a ≡ ordered (turned o)
   compare_turn o e = let h = ordered_valid a b e in both_valid b a h.1 h.0 ∙ ap ordered (order_turn a b ∙ ap turned h.2)
 
   -- THEOREM. The answer says 1 or 2, and 12 or 13.
@@ -291,23 +291,23 @@ module _ (a b : List ℕ) (va : form_causes a ≡ Fine) (vb : form_causes b ≡ 
       let whole : (s : List ℕ) → key_of s ≡ front_key s ++ rest_key s = λ s. sym (append_assoc (card_key s) (binary_key s) (rest_key s)) in
       let size : (s : List ℕ) → length (front_key s) ≡ 3227 = λ s. length-append (card_key s) (binary_key s) ∙ ap₂ (λ (x y : ℕ). x + y) (card_size s) (binary_size_lem s) in
       ap₂ lex_z (whole a) (whole b) ∙ lex_append (front_key a) (front_key b) (rest_key a) (rest_key b) (size a ∙ sym (size b))
-      ∙ ap (λ (o : Order). or_else o (lex_z (rest_key a) (rest_key b))) (sym (ap₂ lex_z (front_key_lem a va) (front_key_lem b vb)))
+      ∙ ap (λ (o : Ordering). or_else o (lex_z (rest_key a) (rest_key b))) (sym (ap₂ lex_z (front_key_lem a va) (front_key_lem b vb)))
 
   -- THEOREM. where the fronts are not the same, they decide,
-  pub front_decides : ¬ (order_of (front_of a) (front_of b) ≡ Same) → order_of a b ≡ order_of (front_of a) (front_of b)
+  pub front_decides : ¬ (order_of (front_of a) (front_of b) ≡ Equal) → order_of a b ≡ order_of (front_of a) (front_of b)
   front_decides n = front_parts ∙ go (order_of (front_of a) (front_of b)) n
     where
-      go : (o : Order) → ¬ (o ≡ Same) → or_else o (lex_z (rest_key a) (rest_key b)) ≡ o
+      go : (o : Ordering) → ¬ (o ≡ Equal) → or_else o (lex_z (rest_key a) (rest_key b)) ≡ o
       go Less n = refl
-      go Same n = absurd (n refl)
-      go More n = refl
+      go Equal n = absurd (n refl)
+      go Greater n = refl
 
   -- THEOREM. and where they are, the traces do.
-  pub front_same : order_of (front_of a) (front_of b) ≡ Same → order_of a b ≡ lex_z (rest_key a) (rest_key b)
-  front_same e = front_parts ∙ ap (λ (o : Order). or_else o (lex_z (rest_key a) (rest_key b))) e
+  pub front_same : order_of (front_of a) (front_of b) ≡ Equal → order_of a b ≡ lex_z (rest_key a) (rest_key b)
+  front_same e = front_parts ∙ ap (λ (o : Ordering). or_else o (lex_z (rest_key a) (rest_key b))) e
 
   -- THEOREM. So with what comparing says: an order of the fronts that decides is that of the records.
-  pub front_said : (o : Order) → ¬ (o ≡ Same) → compare_outcome (front_of a) (front_of b) ≡ ordered o → compare_outcome a b ≡ ordered o
+  pub front_said : (o : Ordering) → ¬ (o ≡ Equal) → compare_outcome (front_of a) (front_of b) ≡ ordered o → compare_outcome a b ≡ ordered o
   front_said o n e =
       let f = (ordered_valid (front_of a) (front_of b) e).2 in
       both_valid a b va vb ∙ ap ordered (front_decides (λ s. n (sym f ∙ s)) ∙ f)

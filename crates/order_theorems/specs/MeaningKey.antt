@@ -7,7 +7,7 @@ use Rattle.reel.specs.Meaning.{Trace, Meaning}
 use Rattle.headers.specs.Header.{record_numbers}
 use Rattle.record.specs.Record.{with_code}
 use Rattle.exact.specs.Order.{lex_z}
-use Rattle.exact.specs.declared.Order.{Order}
+use Rattle.std.specs.declared.cmp.Ordering.{Ordering}
 
 -- The numbers of a trace: "header numbers before samples", the 71 as a record holds them, 69 and 71 the scalars of the smallest powers; then
 -- the exact values of its samples.
@@ -28,5 +28,5 @@ unfoldable pub meaning_key : Meaning → List ℤ
 meaning_key m = map pos m.cards ++ (with_code 0 m.binary ++ traces_numbers m.traces)
 
 -- The order of two meanings: the first numbers that differ decide, and numbers that end first are the lesser.
-abbrev pub meaning_order : Meaning → Meaning → Order
+abbrev pub meaning_order : Meaning → Meaning → Ordering
 meaning_order m₁ m₂ = lex_z (meaning_key m₁) (meaning_key m₂)

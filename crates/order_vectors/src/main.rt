@@ -16,7 +16,7 @@
 #![tactic(auto)]
 
 use compare::Answer;
-use exact::Order;
+use std::cmp::Ordering;
 use std::io;
 use std::io::Read;
 
@@ -26,11 +26,11 @@ fn print_item(rt: &impl Print, n: u64) -> io::Result<()> {
 }
 
 // The line of two records that are taken.
-fn print_order(rt: &impl Print, order: Order) -> io::Result<()> {
+fn print_order(rt: &impl Print, order: Ordering) -> io::Result<()> {
     match order {
-        Order::Less => println!(rt; "lesser"),
-        Order::Same => println!(rt; "equal"),
-        Order::More => println!(rt; "greater"),
+        Ordering::Less => println!(rt; "lesser"),
+        Ordering::Equal => println!(rt; "equal"),
+        Ordering::Greater => println!(rt; "greater"),
     }
 }
 

@@ -165,7 +165,7 @@ fn pair_at(record: &[u8], at: usize) -> Pair
     requires { at + 6 ≤ length «record».now }
     ensures { result ≡ pair_in (bytes_at «record».now at 6) }
 {
-    value::pair_in([
+    Pair::of_bytes([
         record[at],
         record[at + 1],
         record[at + 2],

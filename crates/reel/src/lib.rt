@@ -3,10 +3,9 @@
 
 ghost use Rattle.std.specs.Prelude.{◌≡◌, ◌+◌, ◌-◌, ◌*◌, ◌/◌, ◌%◌, ◌^◌, ◌<◌, ◌≤◌, eqb, length, not, IfOk};
 ghost use Rattle.numbers.specs.Walk.{walk};
-ghost use Rattle.numbers.specs.Cause.{checked, number_of, refuse_if, then, first_of};
+ghost use Rattle.numbers.specs.Cause.{checked, cause_no, refuse_if, then, first_of};
 ghost use Rattle.numbers.specs.Places.{place_no, byte_no, byte_place};
 ghost use Rattle.formats.specs.Codes.{is_code, sample_bytes};
-ghost use Rattle.sample.specs.Reading.{bad_number};
 ghost use Rattle.reel.specs.Layout.{first_trace, trace_header, stride, number16, trailer_bytes, stride_in};
 ghost use Rattle.reel.specs.Causes.{within, neither, allows, limit_causes_by, size_causes, scalar_cause, word_cause, trace_causes, trailer_cause, trace_causes_by, judged_by, reel_judged};
 ghost use Rattle.reel.specs.declared.Layout.TheVariants.{Eagle};
@@ -17,7 +16,6 @@ mod own_numbers;
 
 use numbers::{ByteNo, Cause, Number, Place, Refusal};
 pub use own_numbers::Numbers;
-use sample::Sample;
 
 // The layouts of reels: plain, that of 1975; and Eagle, that of source document 004 (document 02, CR 7), where a trailer of 960 bytes stands
 // behind the samples of each trace, and columns 79 and 80 of card 40 hold a check.
@@ -44,7 +42,7 @@ pub fn check_limits(
     cause: Cause,
     place: Place,
 ) -> Result<(), Refusal>
-    ensures { checked result ≡ refuse_if (not (within least most n)) (number_of cause) (place_no place) }
+    ensures { checked result ≡ refuse_if (not (within least most n)) (cause_no cause) (place_no place) }
 {
     if n < least {
         return Err(Refusal { cause, place });
@@ -58,7 +56,7 @@ pub fn check_limits(
 // A cause that applies where a trace's own number, by the byte number where it begins, is neither 0 nor the reel's.
 fn check_own(reel: &[u8], at: usize, b: ByteNo, own: usize, cause: Cause) -> Result<(), Refusal>
     requires { (1 ≤ byte_no b) × (at + byte_no b < length reel.now) }
-    ensures { checked result ≡ refuse_if (neither (number16 reel.now (byte_place at (byte_no b))) own) (number_of cause) (byte_place at (byte_no b)) }
+    ensures { checked result ≡ refuse_if (neither (number16 reel.now (byte_place at (byte_no b))) own) (cause_no cause) (byte_place at (byte_no b)) }
 {
     let place = places::field_at(Place(at), b);
     let n = slices::number_at::<u16>(reel, place) as usize;
@@ -89,7 +87,7 @@ fn check_scalar(reel: &[u8], at: usize, b: ByteNo) -> Result<(), Refusal>
 
 // A cause that applies where a number is no code: 2 for a reel's, 11 for a target.
 pub fn check_code(code: usize, cause: Cause, place: Place) -> Result<(), Refusal>
-    ensures { checked result ≡ refuse_if (not (is_code code)) (number_of cause) (place_no place) }
+    ensures { checked result ≡ refuse_if (not (is_code code)) (cause_no cause) (place_no place) }
 {
     if formats::is_code(code) {
         return Ok(());
@@ -152,17 +150,6 @@ fn check_size(size: usize, w: usize, t: usize, over: usize) -> Result<(), Refusa
     Ok(())
 }
 
-// The cause against a word without a value.
-fn bad_cause(code: u32) -> Cause
-    ensures { number_of result ≡ bad_number code }
-{
-    if code == 4 {
-        Cause::GainWord
-    } else {
-        Cause::NotFinite
-    }
-}
-
 // 9 and 19: the first of n words from start on that is refused under code 4 or 5, which have words without a value.
 fn check_words(reel: &[u8], code: u32, n: usize, start: usize) -> Result<(), Refusal>
     requires { (4 ≤ code) × (code < 6) × (start + n * 4 ≤ length reel.now) }
@@ -171,12 +158,13 @@ fn check_words(reel: &[u8], code: u32, n: usize, start: usize) -> Result<(), Ref
     for i in 0..n {
         let at = start + i * 4;
         let word = sample::read(code, [reel[at], reel[at + 1], reel[at + 2], reel[at + 3]]);
-        let Sample::Taken { e: _, m: _ } = word else {
-            return Err(Refusal {
-                cause: bad_cause(code),
-                place: Place(at),
-            });
+        let Err(cause) = word else {
+            continue;
         };
+        return Err(Refusal {
+            cause,
+            place: Place(at),
+        });
     }
     Ok(())
 }

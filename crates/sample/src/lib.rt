@@ -4,7 +4,7 @@
 ghost use Rattle.std.specs.Prelude.{◌≡◌, ◌+◌, ◌*◌, ◌/◌, ◌%◌, ◌^◌, ◌<◌, ◌≤◌, pos, ◌==◌};
 ghost use Rattle.std.proofs.Math.IntN.{sub_ℕ};
 ghost use Rattle.numbers.specs.Walk.{pick};
-ghost use Rattle.numbers.specs.Cause.{number_of};
+ghost use Rattle.numbers.specs.Cause.{cause_no};
 ghost use Rattle.numbers.specs.Places.{place_no};
 ghost use Rattle.numbers.specs.TwosComplement.{signed_of};
 ghost use Rattle.numbers.specs.SignMagnitude.{sign_magnitude};
@@ -159,7 +159,7 @@ fn is_bad(code: Code, word: [u8; 4]) -> bool
 
 // The cause against a word without a value.
 fn bad_cause(code: Code) -> Cause
-    ensures { number_of result ≡ bad_number (code_no code) }
+    ensures { cause_no result ≡ bad_number (code_no code) }
 {
     match code {
         Code::Gain => Cause::GainWord,
@@ -248,7 +248,7 @@ pub fn read(code: u32, word: [u8; 4]) -> Result<Pair, Cause>
 
 // The refusal of a single sample: the place beside it is 0.
 fn refusal(cause: Cause) -> Refusal
-    ensures { (number_of result.cause ≡ number_of cause) × (place_no result.place ≡ 0) }
+    ensures { (cause_no result.cause ≡ cause_no cause) × (place_no result.place ≡ 0) }
 {
     Refusal {
         cause,

@@ -17,12 +17,20 @@ ghost use Rattle.record.specs.Judged.{judged, Fine};
 ghost use Rattle.record.specs.Answer.{outcome, counted_outcome};
 ghost use Rattle.write_reel.specs.Writing.{write_outcome};
 ghost use Rattle.write_reel.specs.Nearest.{nearest_outcome};
-ghost use Rattle.write_reel.specs.Copied.{reel_header_copied, samples_copied, samples_changed_at, fields_words, fields_changed_at, reel_trace_copied, trace_changed_at, traces_copied, traces_changed_at, reel_copied, copied_outcome};
+ghost use Rattle.write_reel.specs.Copied.{zeros_for, reel_header_copied, samples_copied, samples_changed_at, fields_words, fields_changed_at, reel_trace_copied, trace_changed_at, traces_copied, traces_changed_at, reel_copied, copied_outcome};
 
 use numbers::{ByteNo, Cause, Place, Refusal};
 use record::{Counted, Numbers, Taken};
 
-// A header: its assigned bytes, and behind them the unassigned, which are 00.
+// Bytes 00, which unassigned bytes are.
+#[tactic(auto, unfolding(crate::specs::Copied::zeros_for))]
+fn put_zeros(out: &mut [u8])
+    ensures { out.new ≡ zeros_for out.old }
+{
+    out.fill(0);
+}
+
+// A header: its assigned bytes, and behind them the unassigned.
 fn put_header(assigned: &[u8], out: &mut [u8])
     requires { length assigned.now ≤ length out.old }
     ensures { out.new ≡ reel_header_copied (length out.old) assigned.now }
@@ -30,7 +38,7 @@ fn put_header(assigned: &[u8], out: &mut [u8])
     let k = assigned.len();
     let e = out.len();
     slices::copy(assigned, &mut out[0..k]);
-    out[k..e].fill(0);
+    put_zeros(&mut out[k..e]);
 }
 
 // n samples whose pairs stand one behind the other, to the nearest where `near` is set, else exactly; and how many changed.
@@ -200,12 +208,7 @@ fn put_checked(
 }
 
 // A record that can be written under the code, by its N and T.
-fn write_checked(
-    record: &[u8],
-    code: u32,
-    own: Numbers,
-    reel: &mut [u8],
-) -> Result<Taken, Refusal>
+fn write_checked(record: &[u8], code: u32, own: Numbers, reel: &mut [u8]) -> Result<Taken, Refusal>
     requires { fit_judged «record».now code ≡ Fine own.samples own.traces }
     ensures { outcome result reel.new ≡ write_outcome «record».now code reel.old }
 {

@@ -24,19 +24,19 @@ n_b c = sym (c.requires.2 ∙ samples_alike c.args.a.now c.args.b.now (room_a (g
 -- the traces that follow in each
 more_a : (c : After-numbers_in-x)
     → let a = c.args in
-    (a.t ≤ c.numbers_in-x.result.traces) × (c.numbers_in-x.result.traces - a.t ≡ more_traces a.a.now a.n a.t)
+    (a.shared.traces ≤ c.numbers_in-x.result.traces) × (c.numbers_in-x.result.traces - a.shared.traces ≡ more_traces a.a.now a.n a.shared.traces)
 more_a c =
     let s = (goal.at.After-numbers_in-x c).Start in
     let a = s.args in
-    subst (λ (r : Numbers). (a.t ≤ r.traces) × (r.traces - a.t ≡ more_traces a.a.now a.n a.t)) (sym c.numbers_in-x.ensures) (count_rest a.a.now a.n a.i a.t a.at s.requires.0 (sym s.requires.2) s.requires.4.first)
+    subst (λ (r : Numbers). (a.shared.traces ≤ r.traces) × (r.traces - a.shared.traces ≡ more_traces a.a.now a.n a.shared.traces)) (sym c.numbers_in-x.ensures) (count_rest a.a.now a.n a.i a.shared.traces a.shared.place s.requires.0 (sym s.requires.2) s.requires.4.first)
 
 more_b : (c : After-numbers_in-y)
     → let a = c.args in
-    (a.t ≤ c.numbers_in-y.result.traces) × (c.numbers_in-y.result.traces - a.t ≡ more_traces a.b.now a.n a.t)
+    (a.shared.traces ≤ c.numbers_in-y.result.traces) × (c.numbers_in-y.result.traces - a.shared.traces ≡ more_traces a.b.now a.n a.shared.traces)
 more_b c =
     let s = (goal.at.After-numbers_in-y c).Start in
     let a = s.args in
-    subst (λ (r : Numbers). (a.t ≤ r.traces) × (r.traces - a.t ≡ more_traces a.b.now a.n a.t)) (sym c.numbers_in-y.ensures) (count_rest a.b.now a.n a.i a.t a.at s.requires.1 (n_b s) s.requires.4.second)
+    subst (λ (r : Numbers). (a.shared.traces ≤ r.traces) × (r.traces - a.shared.traces ≡ more_traces a.b.now a.n a.shared.traces)) (sym c.numbers_in-y.ensures) (count_rest a.b.now a.n a.i a.shared.traces a.shared.place s.requires.1 (n_b s) s.requires.4.second)
 
 pub compare_traces-requires : goal.compare_traces-requires
 compare_traces-requires c =
@@ -44,8 +44,8 @@ compare_traces-requires c =
     let a = s.args in
     let x = a.a.now in
     let y = a.b.now in (
-      subst (λ (k : ℕ). behind_traces x a.n k a.at ≤ length x) (sym (more_a (goal.at.compare_traces-requires c).After-numbers_in-x).1) (rest_room x a.n a.i a.t a.at s.requires.0 (sym s.requires.2) s.requires.4.first),
-      subst (λ (k : ℕ). behind_traces y a.n k a.at ≤ length y) (sym (more_b (goal.at.compare_traces-requires c).After-numbers_in-y).1) (rest_room y a.n a.i a.t a.at s.requires.1 (n_b s) s.requires.4.second),
+      subst (λ (k : ℕ). behind_traces x a.n k a.shared.place ≤ length x) (sym (more_a (goal.at.compare_traces-requires c).After-numbers_in-x).1) (rest_room x a.n a.i a.shared.traces a.shared.place s.requires.0 (sym s.requires.2) s.requires.4.first),
+      subst (λ (k : ℕ). behind_traces y a.n k a.shared.place ≤ length y) (sym (more_b (goal.at.compare_traces-requires c).After-numbers_in-y).1) (rest_room y a.n a.i a.shared.traces a.shared.place s.requires.1 (n_b s) s.requires.4.second),
     )
 
 pub returns : goal.returns
@@ -56,7 +56,7 @@ returns c =
     let x = a.a.now in
     let y = a.b.now in
     c.compare_traces.ensures
-    ∙ ap₂ (λ (u v : ℕ). lex_z (key_from x a.n u a.at) (key_from y a.n v a.at)) (more_a (goal.at.returns c).After-numbers_in-x).1 (more_b k).1
+    ∙ ap₂ (λ (u v : ℕ). lex_z (key_from x a.n u a.shared.place) (key_from y a.n v a.shared.place)) (more_a (goal.at.returns c).After-numbers_in-x).1 (more_b k).1
     ∙ sym (order_alike x y (room_a s) (room_b s) s.requires.3 a.n s.requires.2 ∙ s.requires.4.order)
 
 pub overflow_sub-x : goal.overflow_sub-x

@@ -1,116 +1,85 @@
 -- `compare::compare_traces` meets its contract. Assumes nothing.
-use Rattle.compare.proofs.LexLaws.{undecided}
-use Rattle.compare.proofs.KeyLaws.{first_decides, behind_one, next_room, traces_next, traces_more, traces_less, traces_same}
+use Rattle.compare.proofs.KeyLaws.{first_decides, behind_first, behind_one, next_room, traces_next, traces_end}
 use Rattle.compare.specs.Key.{trace_key}
 use Rattle.compare.specs.Parts.{behind_traces, key_from}
 use Rattle.record.specs.Kind.{tag04}
 use Rattle.record.specs.Form.{behind_trace_in}
 use Rattle.exact.specs.Order.{or_else, lex_z}
-use Rattle.exact.specs.declared.Order.{Order}
 use lib.ListN.{length}
-use Prim.Native.Nat.{ℕ, ◌+◌, ◌-◌, ◌≤◌, ◌<◌}
-use mathlib.Core.Path.{◌≡◌, refl, sym, ap, ap₂, ◌∙◌, subst}
+use Prim.Native.Nat.{ℕ, ◌+◌, ◌-◌, ◌≤◌, ◌<◌, min}
+use mathlib.Core.Path.{◌≡◌, sym, ap, ap₂, ◌∙◌, subst}
 use native.Mathlib.Omega.{arith}
-use Rattle.compare.proofs.compare_traces.Goals.{After-stride_at-i, After-stride_at-j, Else-y-eq0}
+use Rattle.compare.proofs.compare_traces.Goals.{After-stride_at-i, After-stride_at-j, In-loop}
 use Rattle.compare.proofs.compare_traces.Goals as goal
 
-pub loop-x-init : goal.loop-x-init
-loop-x-init c = let s = c in (refl, s.requires.0, s.requires.1)
+-- a trace of each is left
+left : (c : In-loop) → let a = c.args in (0 < a.s - c.loop.counter) × (0 < a.t - c.loop.counter)
+left c = (omega (arith, c.loop-test.true, c.min-end.ensures), omega (arith, c.loop-test.true, c.min-end.ensures))
 
-pub returns-then-y-eq0 : goal.returns-then-y-eq0
-returns-then-y-eq0 c =
-    let i = c in
-    let l = i.loop-x in
-    let a = i.args in
-    traces_more a.a.now a.b.now a.n l.x l.y l.i l.j i.loop-x-test.true (omega (arith, c.if-y-eq0.true)) ∙ sym l.invariant.0
-
--- a trace of each lies within its record
-room : (c : Else-y-eq0)
-    → let h = c in let l = h.loop-x in let a = h.args in
-    (behind_trace_in tag04 a.a.now a.n l.i ≤ length a.a.now) × (behind_trace_in tag04 a.b.now a.n l.j ≤ length a.b.now) × (0 < l.y)
+-- and lies within its record
+room : (c : In-loop)
+    → let a = c.args in
+    (behind_trace_in tag04 a.a.record.now a.n c.loop.i ≤ length a.a.record.now) × (behind_trace_in tag04 a.b.record.now a.n c.loop.j ≤ length a.b.record.now)
 room c =
-    let h = c in
-    let l = h.loop-x in
-    let a = h.args in
-    let y : 0 < l.y = omega (arith, c.if-y-eq0.false) in
-    (omega (arith, next_room a.a.now a.n l.x l.i c.loop-x-test.true, l.invariant.1), omega (arith, next_room a.b.now a.n l.y l.j y, l.invariant.2), y)
+    let l = c.loop in
+    let a = c.args in
+    let h = left (goal.at.In-loop c).In-loop in
+    (omega (arith, next_room a.a.record.now a.n (a.s - l.counter) l.i h.0, l.invariant.1), omega (arith, next_room a.b.record.now a.n (a.t - l.counter) l.j h.1, l.invariant.2))
 
 -- the first traces, then the others
-next : (c : Else-y-eq0)
-    → let h = c in let l = h.loop-x in let a = h.args in
-    lex_z (key_from a.a.now a.n a.s a.p) (key_from a.b.now a.n a.t a.q)
-    ≡ or_else (lex_z (trace_key a.a.now a.n l.i) (trace_key a.b.now a.n l.j)) (lex_z (key_from a.a.now a.n (l.x - 1) (behind_trace_in tag04 a.a.now a.n l.i)) (key_from a.b.now a.n (l.y - 1) (behind_trace_in tag04 a.b.now a.n l.j)))
+next : (c : In-loop)
+    → let l = c.loop in let a = c.args in
+    lex_z (key_from a.a.record.now a.n a.s a.a.place) (key_from a.b.record.now a.n a.t a.b.place)
+    ≡ or_else (lex_z (trace_key a.a.record.now a.n l.i) (trace_key a.b.record.now a.n l.j)) (lex_z (key_from a.a.record.now a.n (a.s - l.counter - 1) (behind_trace_in tag04 a.a.record.now a.n l.i)) (key_from a.b.record.now a.n (a.t - l.counter - 1) (behind_trace_in tag04 a.b.record.now a.n l.j)))
 next c =
-    let h = c in
-    let l = h.loop-x in
-    let a = h.args in
-    l.invariant.0 ∙ traces_next a.a.now a.b.now a.n l.x l.y l.i l.j c.loop-x-test.true (room (goal.at.Else-y-eq0 c).Else-y-eq0).2
+    let l = c.loop in
+    let a = c.args in
+    let h = left (goal.at.In-loop c).In-loop in
+    l.invariant.0 ∙ traces_next a.a.record.now a.b.record.now a.n (a.s - l.counter) (a.t - l.counter) l.i l.j h.0 h.1
 
-pub returns-then-decides : goal.returns-then-decides
-returns-then-decides c =
-    let g = c in
-    first_decides _ _ _ g.compare_trace-c.ensures (sym c.decides.ensures ∙ c.if-decides.true) ∙ sym (next (goal.at.returns-then-decides c).Else-y-eq0)
+pub compare_trace-order-requires : goal.compare_trace-order-requires
+compare_trace-order-requires c = room (goal.at.compare_trace-order-requires c).In-loop
+
+pub returns-then-is_ne : goal.returns-then-is_ne
+returns-then-is_ne c = first_decides _ _ _ c.compare_trace-order.ensures (sym c.is_ne.ensures ∙ c.if-is_ne.true) ∙ sym (next (goal.at.returns-then-is_ne c).In-loop)
 
 -- where the next traces stand
-behind_a : (c : After-stride_at-i)
-    → let l = c.loop-x in let a = c.args in
-    l.i + c.stride_at-i.result ≡ behind_trace_in tag04 a.a.now a.n l.i
+behind_a : (c : After-stride_at-i) → let a = c.args in c.loop.i + c.stride_at-i.result ≡ behind_trace_in tag04 a.a.record.now a.n c.loop.i
 unfolding behind_trace_in
-behind_a c = ap (λ (x : ℕ). c.loop-x.i + x) c.stride_at-i.ensures
+behind_a c = ap (λ (x : ℕ). c.loop.i + x) c.stride_at-i.ensures
 
-behind_b : (c : After-stride_at-j)
-    → let l = c.loop-x in let a = c.args in
-    l.j + c.stride_at-j.result ≡ behind_trace_in tag04 a.b.now a.n l.j
+behind_b : (c : After-stride_at-j) → let a = c.args in c.loop.j + c.stride_at-j.result ≡ behind_trace_in tag04 a.b.record.now a.n c.loop.j
 unfolding behind_trace_in
-behind_b c = ap (λ (x : ℕ). c.loop-x.j + x) c.stride_at-j.ensures
+behind_b c = ap (λ (x : ℕ). c.loop.j + x) c.stride_at-j.ensures
 
-pub loop-x-preserved : goal.loop-x-preserved
-loop-x-preserved c =
-    let k = (goal.at.loop-x-preserved c).After-stride_at-i in
-    let f = c in
-    let g = c in
-    let e = (goal.at.loop-x-preserved c).Else-y-eq0 in
-    let h = c in
-    let l = h.loop-x in
-    let a = h.args in
-    let x = a.a.now in
-    let y = a.b.now in
-    let u = behind_a k in
-    let v = behind_b (goal.at.loop-x-preserved c).After-stride_at-j in
-    let rest : Order = lex_z (key_from x a.n (l.x - 1) (behind_trace_in tag04 x a.n l.i)) (key_from y a.n (l.y - 1) (behind_trace_in tag04 y a.n l.j)) in (
-      next e
-          ∙ ap (λ (z : Order). or_else z rest) (sym g.compare_trace-c.ensures ∙ undecided g.compare_trace-c.result (sym f.decides.ensures ∙ f.if-decides.false))
-          ∙ ap₂ (λ (m o : ℕ). lex_z (key_from x a.n (l.x - 1) m) (key_from y a.n (l.y - 1) o)) (sym u) (sym v),
-      subst (λ (m : ℕ). behind_traces x a.n (l.x - 1) m ≤ length x) (sym u) (subst (λ (m : ℕ). m ≤ length x) (behind_one x a.n l.x l.i e.loop-x-test.true) l.invariant.1),
-      subst (λ (m : ℕ). behind_traces y a.n (l.y - 1) m ≤ length y) (sym v) (subst (λ (m : ℕ). m ≤ length y) (behind_one y a.n l.y l.j (room e).2) l.invariant.2),
-    )
+pub overflow_add-i : goal.overflow_add-i
+overflow_add-i c = omega (arith, behind_a c, (room (goal.at.overflow_add-i c).In-loop).0)
 
-pub returns-then-y-gt0 : goal.returns-then-y-gt0
-returns-then-y-gt0 c =
-    let l = c.loop-x in
+pub overflow_add-j : goal.overflow_add-j
+overflow_add-j c = omega (arith, behind_b c, (room (goal.at.overflow_add-j c).In-loop).1)
+
+pub loop-preserved : goal.loop-preserved
+loop-preserved c =
+    let l = c.loop in
     let a = c.args in
-    traces_less a.a.now a.b.now a.n l.x l.y l.i l.j c.loop-x-test.false c.if-y-gt0.true ∙ sym l.invariant.0
+    let x = a.a.record.now in
+    let y = a.b.record.now in
+    let e = (goal.at.loop-preserved c).In-loop in
+    let h = left e in
+    let u = behind_a (goal.at.loop-preserved c).After-stride_at-i in
+    let v = behind_b (goal.at.loop-preserved c).After-stride_at-j in
+    let s : a.s - l.counter - 1 ≡ a.s - (l.counter + 1) = omega arith in
+    let t : a.t - l.counter - 1 ≡ a.t - (l.counter + 1) = omega arith in (
+      next e
+          ∙ behind_first _ _ _ c.compare_trace-order.ensures (sym c.is_ne.ensures ∙ c.if-is_ne.false)
+          ∙ ap₂ (λ (m o : ℕ). lex_z (key_from x a.n (a.s - l.counter - 1) m) (key_from y a.n (a.t - l.counter - 1) o)) (sym u) (sym v)
+          ∙ ap₂ (λ (m o : ℕ). lex_z (key_from x a.n m (l.i + c.stride_at-i.result)) (key_from y a.n o (l.j + c.stride_at-j.result))) s t,
+      subst (λ (k : ℕ). behind_traces x a.n k (l.i + c.stride_at-i.result) ≤ length x) s (subst (λ (m : ℕ). behind_traces x a.n (a.s - l.counter - 1) m ≤ length x) (sym u) (subst (λ (m : ℕ). m ≤ length x) (behind_one x a.n (a.s - l.counter) l.i h.0) l.invariant.1)),
+      subst (λ (k : ℕ). behind_traces y a.n k (l.j + c.stride_at-j.result) ≤ length y) t (subst (λ (m : ℕ). behind_traces y a.n (a.t - l.counter - 1) m ≤ length y) (sym v) (subst (λ (m : ℕ). m ≤ length y) (behind_one y a.n (a.t - l.counter) l.j h.1) l.invariant.2)),
+    )
 
 pub returns : goal.returns
 returns c =
-    let l = c.loop-x in
     let a = c.args in
-    traces_same a.a.now a.b.now a.n l.x l.y l.i l.j c.loop-x-test.false c.if-y-gt0.false ∙ sym l.invariant.0
-
-pub compare_trace-c-requires : goal.compare_trace-c-requires
-compare_trace-c-requires c = ((room (goal.at.compare_trace-c-requires c).Else-y-eq0).0, (room (goal.at.compare_trace-c-requires c).Else-y-eq0).1)
-
-pub overflow_add-i : goal.overflow_add-i
-overflow_add-i c = omega (arith, behind_a c, (room (goal.at.overflow_add-i c).Else-y-eq0).0)
-
-pub overflow_add-j : goal.overflow_add-j
-overflow_add-j c = omega (arith, behind_b c, (room (goal.at.overflow_add-j c).Else-y-eq0).1)
-
-pub overflow_sub-x : goal.overflow_sub-x
-overflow_sub-x c = omega (arith, c.loop-x-test.true)
-
-pub overflow_sub-y : goal.overflow_sub-y
-overflow_sub-y c = omega (arith, (room (goal.at.overflow_sub-y c).Else-y-eq0).2)
-
-pub loop-x-smaller : goal.loop-x-smaller
-loop-x-smaller c = omega (arith, c.loop-x-test.true)
+    let e : c.loop.counter ≡ min a.s a.t = omega (arith, c.loop-test.false, c.loop.auto.counter-end, c.min-end.ensures) in
+    c.cmp.ensures ∙ traces_end a.a.record.now a.b.record.now a.n a.s a.t c.loop.counter c.loop.i c.loop.j e ∙ sym c.loop.invariant.0

@@ -32,7 +32,10 @@ ends c r told =
     ∙ exact_end s a.code a.reel.now a.own.samples a.own.traces (all_bytes s (λ i. omega (arith, c.shared_slice_known-1.given i))) (owns b)
 
 pub returns : goal.returns
-returns c = ends (goal.at.returns c).After-put_checked _ ?
+returns c = ends (goal.at.returns c).After-put_checked _ c.in_ok-c.was
 
-pub returns-in_err-put_checked : goal.returns-in_err-put_checked
-returns-in_err-put_checked c = ?
+pub returns-in_err-c : goal.returns-in_err-c
+returns-in_err-c c =
+    let r = c.in_err-c.field-0.0 in
+    let q : outcome c.from_residual.result c.put_checked.new.reel ≡ without_count (counted_outcome (Err r) c.put_checked.new.reel) = search rules in
+    q ∙ ends (goal.at.returns-in_err-c c).After-put_checked (Err r) c.in_err-c.was
