@@ -3,15 +3,19 @@ use mathlib.Core.Path.{◌≡◌, refl, sym, ap, ◌∙◌}
 use mathlib.Core.Logic.{⊎_elim}
 use mathlib.Core.Bool.{Bool, true, false, not, ◌&&◌}
 use mathlib.Core.List.{List, [], ◌∷◌}
-use Prim.Native.Nat.{ℕ, ◌+◌, ◌*◌, ◌/◌, ◌%◌, ◌^◌, ◌≤◌, ◌<◌}
+use Prim.Native.Nat.{ℕ, ◌+◌, ◌*◌, ◌-◌, ◌/◌, ◌%◌, ◌^◌, ◌≤◌, ◌<◌}
 use native.Mathlib.Omega.{arith}
 use borrow.Author.Tests.{eqb-true, eqb-false, eq-eqb, ne_eqb, le-leb, lt-leb}
 use lib.Dec.{leb, eqb}
-use lib.ListN.{length, get_or}
-use Rattle.numbers.specs.Walk.{pick, sum, bytes_at}
+use lib.ListN.{length, get_or, take, drop}
+use Rattle.std.specs.Simd.{first_chunks}
+use Rattle.std.specs.Int.{from_le_bytes, w32}
+use Rattle.std.proofs.Common.{sum_by}
+use Rattle.numbers.specs.Walk.{pick, walk, sum, bytes_at}
 use Rattle.numbers.specs.BigEndian.{number}
 use Rattle.numbers.specs.Iff.{Iff}
 use Rattle.numbers.proofs.WalkLaws.{walk_same, sum_under, sum_zero, four_bytes}
+use Rattle.numbers.proofs.ChunkLaws.{parts_walk, sum_by_walk}
 use Rattle.numbers.proofs.SignLaws.{below_or}
 use Rattle.formats.specs.Value.{characteristic, fraction}
 use Rattle.formats.specs.Words.{first_digit, is_normal}
@@ -21,7 +25,7 @@ use Rattle.formats.specs.Codes.{sample_bytes}
 use Rattle.reel.specs.Causes.{most_samples}
 use Rattle.reel.specs.NotNormal.{not_normal_in}
 use Rattle.count_words.specs.Counted.{words_fit, words_counted}
-use Rattle.count_words.specs.Parts.{low_first, may_count, counts, passing}
+use Rattle.count_words.specs.Parts.{low_first, may_count, counts, tested, passing, passing_words}
 
 -- ## One word
 
@@ -135,6 +139,25 @@ module _ (s : List ℕ) (b : (i : ℕ) → get_or s i 0 < 256) where
   pub none_is : (n at : ℕ) → passing false s n at ≡ 0 → not_normal_in s 1 n at ≡ 0
   unfolding passing
   none_is n at e = sym (exact_is n at) ∙ omega (arith, e, sum_under (λ p. counts (low_first s p)) (λ p. may_count (low_first s p)) 4 (λ p. counts_may (low_first s p)) n at)
+
+-- ## Words cut out of a reel
+
+-- the number of a word's own bytes, the first lowest
+low_of_word : (s : List ℕ) (p : ℕ) → from_le_bytes w32 (bytes_at s p 4) ≡ low_first s p
+low_of_word s p = ap (from_le_bytes w32) (four_bytes s p) ∙ turned_sum (get_or s p 0) (get_or s (p + 1) 0) (get_or s (p + 2) 0) (get_or s (p + 3) 0)
+  where
+    turned_sum : (a b c d : ℕ) → from_le_bytes w32 (a ∷ b ∷ c ∷ d ∷ []) ≡ number (d ∷ c ∷ b ∷ a ∷ [])
+    turned_sum a b c d = omega arith
+
+-- words that stand in a row pass as the words of a walk do
+pub words_pass : (exact : Bool) (s : List ℕ) (n at e : ℕ) → e ≡ at + n * 4 → e ≤ length s
+    → let t = take (e - at) (drop at s) in passing_words exact (first_chunks 4 (length t / 4) t) ≡ passing exact s n at
+unfolding passing
+words_pass exact s n at e q l =
+    let f : List ℕ → ℕ = λ w. tested exact (from_le_bytes w32 w) in
+    ap (sum_by f) (parts_walk 4 n s at e (omega arith) q l)
+    ∙ sum_by_walk f (λ p. bytes_at s p 4) 4 n at
+    ∙ ap sum (walk_same (λ p. f (bytes_at s p 4)) (λ p. tested exact (low_first s p)) 4 4 n at at (λ j h. ap (tested exact) (low_of_word s (at + j * 4))))
 
 -- ## The call
 

@@ -1,5 +1,6 @@
 -- What the functions inside this crate hand to each other: an IBM word as a number whose first byte stands lowest, and two tests of it.
-use Rattle.std.specs.Prelude.{ℕ, ◌+◌, ◌/◌, ◌%◌, ◌^◌, Bool, true, false, not, ◌&&◌, List, [], ◌∷◌, get_or, eqb}
+use Rattle.std.specs.Prelude.{ℕ, ◌+◌, ◌/◌, ◌%◌, ◌^◌, Bool, true, false, not, ◌&&◌, List, [], ◌∷◌, get_or, sum_by, eqb}
+use Rattle.std.specs.Int.{from_le_bytes, w32}
 use Rattle.numbers.specs.Walk.{pick, walk, sum}
 use Rattle.numbers.specs.BigEndian.{number}
 
@@ -28,3 +29,7 @@ tested false x = may_count x
 -- How many of n words from a place on pass the one test or the other.
 unfoldable pub passing : Bool → List ℕ → ℕ → ℕ → ℕ
 passing exact s n at = sum (walk (λ p. tested exact (low_first s p)) 4 n at)
+
+-- The same of some words, each by its four bytes.
+abbrev pub passing_words : Bool → List (List ℕ) → ℕ
+passing_words exact words = sum_by (λ w. tested exact (from_le_bytes w32 w)) words

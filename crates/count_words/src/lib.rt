@@ -2,25 +2,17 @@
 // words at once: in the loop that reads them, it would cost three tenths of the speed.
 #![tactic(auto)]
 
-ghost use Rattle.std.specs.Prelude.{◌≡◌, ◌+◌, ◌*◌, ◌^◌, ◌≤◌, ◌<◌, eqb, length};
+ghost use Rattle.std.specs.Prelude.{◌≡◌, ◌+◌, ◌*◌, ◌^◌, ◌≤◌, ◌<◌, ℕ, Bool, eqb, length};
 ghost use Rattle.numbers.specs.Walk.{pick};
 ghost use Rattle.numbers.specs.Places.{place_no};
 ghost use Rattle.reel.specs.Causes.{most_samples};
 ghost use Rattle.count_words.specs.Counted.{words_counted};
-ghost use Rattle.count_words.specs.Parts.{low_first, zero_digit, tested, passing};
+ghost use Rattle.count_words.specs.Parts.{zero_digit, tested, passing_words};
 
 use numbers::Place;
 
 // The most samples of a trace.
 const MOST_SAMPLES: usize = 32767;
-
-// The number in the four bytes at a place, the first byte lowest, as a processor of today fetches it.
-fn low_first_at(reel: &[u8], at: usize) -> u32
-    requires { at + 4 ≤ length reel.now }
-    ensures { result ≡ low_first reel.now at }
-{
-    numbers::le32(reel[at], reel[at + 1], reel[at + 2], reel[at + 3])
-}
 
 // 1 where the first digit of F is 0 and b isn't. 15 less the digit stands over b, so that one comparison is enough.
 fn zero_digit(x: u32, b: u32) -> u32
@@ -41,29 +33,18 @@ fn minus_zero(x: u32) -> u32
     if x == 0x80 { 1 } else { 0 }
 }
 
-// 1 where the word may be one that isn't normal, or only where it is one.
-fn tested_word(exact: bool, x: u32) -> u32
-    ensures { (result ≡ tested exact x) × (result ≤ 2) }
+// How many words pass a test, which gives 1 or more of the word's four bytes as a number, the first lowest, as a processor of today fetches
+// them. It is 1 where the word may be one that isn't normal, or only where it is one.
+fn count_passing<F: Fn(u32) -> u32>(words: &[[u8; 4]], test: F) -> u32
+    requires callable { F.IsAlwaysCallable test }
+    requires few { length words.now ≤ most_samples }
+    requires small { (x r : ℕ) → F.post test x r → r ≤ 2 }
+    ensures { (exact : Bool) → ((x r : ℕ) → F.post test x r → r ≡ tested exact x) → result ≡ passing_words exact words.now }
 {
-    if exact {
-        zero_digit(x, x % 0x80) + minus_zero(x)
-    } else {
-        zero_digit(x, x % 0x100)
-    }
-}
-
-// How many of n words from a place on pass the one test or the other.
-fn count_passing(exact: bool, reel: &[u8], n: usize, start: usize) -> u32
-    requires { (n ≤ most_samples) × (start + n * 4 ≤ length reel.now) }
-    ensures { result ≡ passing exact reel.now n start }
-{
-    let mut count = 0;
-    let mut i = 0;
-    while i < n {
-        count += tested_word(exact, low_first_at(reel, start + i * 4));
-        i += 1;
-    }
-    count
+    words
+        .iter()
+        .map(|word| test(u32::from_le_bytes(*word)))
+        .sum()
 }
 
 // How many of n words from a place on are not normal; 0 where they aren't all there, or are more than a trace has. Most traces have no word
@@ -81,8 +62,9 @@ pub fn count_words(reel: &[u8], code: usize, n: usize, start: Place) -> usize
     if !slices::are_within(reel.len(), n, 4, at) {
         return 0;
     }
-    if count_passing(false, reel, n, at) == 0 {
+    let (words, _) = reel[at..at + n * 4].as_chunks::<4>();
+    if count_passing(words, |x| zero_digit(x, x % 0x100)) == 0 {
         return 0;
     }
-    count_passing(true, reel, n, at) as usize
+    count_passing(words, |x| zero_digit(x, x % 0x80) + minus_zero(x)) as usize
 }

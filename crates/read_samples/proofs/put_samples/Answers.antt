@@ -1,25 +1,12 @@
 -- `read_samples::put_samples` meets its contract. Assumes nothing.
-use Rattle.formats.proofs.CodeLaws.{code_limits}
-use Rattle.formats.specs.Codes.{sample_bytes}
-use mathlib.Core.Path.{◌≡◌, sym, ◌∙◌}
-use native.Mathlib.Omega.{arith}
+use Rattle.std.proofs.Common.{refl, ap, ◌∙◌}
+use Rattle.numbers.proofs.ChunkLaws.{part_more}
+use Rattle.read_samples.specs.Samples.{pair_content}
 use Rattle.read_samples.proofs.put_samples.Goals as goal
 
-pub overflow_cast-code : goal.overflow_cast-code
-overflow_cast-code c = let b = c in omega (arith, (code_limits b.args.code b.requires.0).1)
-
-pub put_shorts-requires : goal.put_shorts-requires
-put_shorts-requires c =
-    let b = c in
-    let v = c.width_of-v in
-    (b.requires.0, sym v.ensures.0, c.if-v-lt4.true, rw v.ensures.0 b.requires.1, b.requires.2)
-
-pub overflow_cast-code-2 : goal.overflow_cast-code-2
-overflow_cast-code-2 c = let b = c in omega (arith, (code_limits b.args.code b.requires.0).1)
-
-pub put_words-requires : goal.put_words-requires
-put_words-requires c =
-    let b = c in
-    let v = c.width_of-v in
-    let four : sample_bytes b.args.code ≡ 4 = sym v.ensures.0 ∙ omega (arith, v.ensures.1, c.if-v-lt4.false) in
-    (b.requires.0, four, rw four at b.requires.1, b.requires.2)
+pub loop-i-preserved : goal.loop-i-preserved
+loop-i-preserved g c pair h =
+    let l = c.loop-i in
+    let w = c.index-words-i.result in
+    part_more (λ w. pair_content (pair w)) 6 (λ w. refl) c.args.words.now l.i w w c.args.out.now l.out c.put_sample.new.out
+    c.loop-i-test.true c.index-words-i.is (l.invariant pair h) (c.put_sample.ensures ∙ ap pair_content (h _ _ c.pair_of_word.ensures))
