@@ -1,7 +1,7 @@
 // Single samples: the canonical pair of a word under a code, and the two calls.
 #![tactic(auto)]
 
-ghost use Rattle.std.specs.Prelude.{◌≡◌, ◌+◌, ◌*◌, ◌/◌, ◌%◌, ◌^◌, ◌<◌, ◌≤◌, pos, ◌==◌};
+ghost use Rattle.std.specs.Prelude.{◌≡◌, ◌+◌, ◌*◌, ◌/◌, ◌%◌, ◌^◌, ◌<◌, ◌≤◌, pos, ◌*ℤ◌, unsigned_abs, ◌==◌};
 ghost use Rattle.std.proofs.Math.IntN.{sub_ℕ};
 ghost use Rattle.numbers.specs.Walk.{pick};
 ghost use Rattle.numbers.specs.Cause.{cause_no};
@@ -64,16 +64,16 @@ fn exponent_unless_zero(a: u32, e: i16) -> i16
     if a == 0 { 0 } else { e }
 }
 
-// The canonical pair of V = ± a × 2^k: the power of two in a is counted out of it. There is no branch on a: where it is 0, all its 32
-// bits are trailing zeros, and it is shifted by none of them.
-#[tactic(auto, using(crate::proofs::PairLaws::pair_any, crate::proofs::PairLaws::shifted_lt))]
-fn canonical(neg: bool, a: u32, k: u32) -> Pair
-    requires { (a ≤ 2 ^ 31) × (k ≤ 2 ^ 14) }
-    ensures { result ≡ pair_of (sign_magnitude neg (a * 2 ^ k)) }
+// The canonical pair of V = z × 2^k, by z and its magnitude: the power of two in the magnitude is counted out of it, and z is shifted by it
+// with its sign. There is no branch on z: where it is 0, all 32 bits of the magnitude are trailing zeros, and z is shifted by none of them.
+fn canonical(z: i32, a: u32, k: u32) -> Pair
+    requires magnitude { a ≡ unsigned_abs z }
+    requires low { k ≤ 2 ^ 14 }
+    ensures { result ≡ pair_of (z *ℤ pos (2 ^ k)) }
 {
     let twos = u32::trailing_zeros(a);
     let e = exponent_unless_zero(a, exponent(k + twos));
-    let m = with_sign(neg, a >> (twos % 32));
+    let m = z >> (twos % 32);
     Pair { e, m }
 }
 
@@ -90,9 +90,10 @@ fn fraction_of(n: u32) -> u32
 pub fn ibm_parts(first: u8, rest: u32) -> Pair
     ensures { result ≡ pair_of (ibm_value (first * 2 ^ 24 + rest % 2 ^ 24)) }
 {
+    let f = fraction_of(rest);
     canonical(
-        0x80 <= first,
-        fraction_of(rest),
+        with_sign(0x80 <= first, f),
+        f,
         IBM_BASE + first as u32 * 4 % 512,
     )
 }
@@ -104,18 +105,27 @@ pub fn ibm(n: u32) -> Pair
     ibm_parts((n / 0x100_0000) as u8, n)
 }
 
+// The pair of V = z × 2^k, by the magnitude of 32 bits, which the compiler sees through: of 16 bits it takes four instructions more.
+#[tactic(auto, using(numbers::proofs::SignLaws::signed_bits))]
+fn scaled(z: i32, k: u32) -> Pair
+    requires { k ≤ 2 ^ 14 }
+    ensures { result ≡ pair_of (z *ℤ pos (2 ^ k)) }
+{
+    canonical(z, u32::of_signed(z).magnitude(), k)
+}
+
 // Code 2: the pair of a 32-bit number.
 pub fn whole32(n: u32) -> Pair
     ensures { result ≡ pair_of (whole_value (signed_of 32 n)) }
 {
-    canonical(0x8000_0000 <= n, n.magnitude(), DENOMINATOR_POWER)
+    scaled(n.signed(), DENOMINATOR_POWER)
 }
 
 // Code 3: the pair of a 16-bit number.
 pub fn whole16(n: u16) -> Pair
     ensures { result ≡ pair_of (whole_value (signed_of 16 n)) }
 {
-    canonical(0x8000 <= n, n.magnitude() as u32, DENOMINATOR_POWER)
+    scaled(i32::from(n.signed()), DENOMINATOR_POWER)
 }
 
 // The 16 bits of a number of 8 bits, with its sign.
@@ -136,11 +146,7 @@ pub fn whole8(n: u8) -> Pair
 pub fn gain_number(g: u8, d: u16) -> Pair
     ensures { result ≡ pair_of (gain_value g (signed_of 16 d)) }
 {
-    canonical(
-        0x8000 <= d,
-        d.magnitude() as u32,
-        DENOMINATOR_POWER - g as u32,
-    )
+    scaled(i32::from(d.signed()), DENOMINATOR_POWER - g as u32)
 }
 
 // Whether a word of four bytes has no value under a code: under code 4 its first byte isn't 00, under code 5 it is an infinity or a
@@ -194,9 +200,10 @@ pub fn ieee_number(n: u32) -> Pair
     ensures { result ≡ pair_of (ieee_value 8 23 n) }
 {
     let e = ieee_exponent(n);
+    let a = significand_of(e, n);
     canonical(
-        0x8000_0000 <= n,
-        significand_of(e, n),
+        with_sign(0x8000_0000 <= n, a),
+        a,
         IEEE_BASE + counted_exponent(e),
     )
 }
