@@ -5,6 +5,8 @@
 ghost use Rattle.std.specs.Prelude.{◌≡◌, map};
 ghost use Rattle.numbers.specs.Places.{place_no};
 ghost use Rattle.numbers.specs.BigEndian.{number, bytes_of};
+ghost use Rattle.numbers.specs.Cause.{number_of};
+ghost use Rattle.numbers.specs.Outcome.{refused};
 ghost use Rattle.cards.specs.Cards.{blank};
 ghost use Rattle.sample.specs.Calls as single;
 ghost use Rattle.record.specs.Answer.{said_by, counted_by};
@@ -20,10 +22,8 @@ ghost use Rattle.listing.specs.Calls as calls;
 ghost use Rattle.aukpocket.specs.Interface.{handed, taken_answer, refused_answer, reel_answer, reel_in, reel_handed, read_answer, read_handed, nearest_answer, nearest_handed, listing_answer, listing_handed, field_handed, order_number, order_answer, box_answer, sample_answer, word_answer, sample_in, sample_handed, word_handed};
 
 use exact::Order;
-use listing::Listed;
-use numbers::{ByteNo, Place};
-use record::{Answer, Counted};
-use sample::WordAnswer;
+use numbers::{ByteNo, Refusal};
+use record::{Counted, Taken};
 
 // What a call on a whole reel or record answers: T, N and the length of what it wrote, of which the listing of a record's cards has the
 // length alone; of reading a reel how many of its words are not normal, and of nearest writing how many samples have another value; or the
@@ -83,15 +83,15 @@ pub struct SampleAnswer {
 const NONE_COUNTED: u64 = 0;
 
 // What a refused call on a whole reel or record answers, in numbers.
-fn refused_answer(number: u8, place: Place) -> ReelAnswer
-    ensures { result ≡ refused_answer number (place_no place) }
+fn refused_answer(refusal: Refusal) -> ReelAnswer
+    ensures { result ≡ refused_answer (number_of refusal.cause) (place_no refusal.place) }
 {
     ReelAnswer {
-        number: number as u64,
+        number: refusal.cause.number() as u64,
         traces: 0,
         samples: 0,
         length: 0,
-        beside: place.0 as u64,
+        beside: refusal.place.0 as u64,
         not_normal: NONE_COUNTED,
         changed: NONE_COUNTED,
     }
@@ -119,46 +119,33 @@ fn taken_answer(
 }
 
 // An answer in numbers.
-fn reel_answer(answer: Answer) -> ReelAnswer
+fn reel_answer(answer: Result<Taken, Refusal>) -> ReelAnswer
     ensures { handed result ≡ reel_answer (said_by answer) }
 {
     match answer {
-        Answer::Taken {
-            traces,
-            samples,
-            length,
-        } => taken_answer(traces, samples, length, 0, 0),
-        Answer::Refused { number, place } => refused_answer(number, place),
+        Ok(a) => taken_answer(a.traces, a.samples, a.length, 0, 0),
+        Err(refusal) => refused_answer(refusal),
     }
 }
 
 // An answer of reading with its count, in numbers.
-fn read_answer(answer: Counted) -> ReelAnswer
+fn read_answer(answer: Result<Counted, Refusal>) -> ReelAnswer
     ensures { handed result ≡ read_answer (counted_by answer) }
 {
     match answer {
-        Counted::Taken {
-            traces,
-            samples,
-            length,
-            count,
-        } => taken_answer(traces, samples, length, count, 0),
-        Counted::Refused { number, place } => refused_answer(number, place),
+        Ok(a) => taken_answer(a.traces, a.samples, a.length, a.count, 0),
+        Err(refusal) => refused_answer(refusal),
     }
 }
 
-// An answer of nearest writing with its count, in numbers.
-fn nearest_answer(answer: Counted) -> ReelAnswer
+// An answer of nearest writing with its count, in numbers. It differs from the one above in the count's place alone: two names say that more
+// plainly than a parameter.
+fn nearest_answer(answer: Result<Counted, Refusal>) -> ReelAnswer
     ensures { handed result ≡ nearest_answer (counted_by answer) }
 {
     match answer {
-        Counted::Taken {
-            traces,
-            samples,
-            length,
-            count,
-        } => taken_answer(traces, samples, length, 0, count),
-        Counted::Refused { number, place } => refused_answer(number, place),
+        Ok(a) => taken_answer(a.traces, a.samples, a.length, 0, a.count),
+        Err(refusal) => refused_answer(refusal),
     }
 }
 
@@ -195,12 +182,12 @@ pub extern "C" fn aukpocket_write_nearest(record: &[u8], code: u32, out: &mut [u
 }
 
 // What listing a record's cards answers, in numbers.
-fn listing_answer(answer: Listed) -> ReelAnswer
+fn listing_answer(answer: Result<usize, Refusal>) -> ReelAnswer
     ensures { handed result ≡ listing_answer (calls.said_by answer) }
 {
     match answer {
-        Listed::Taken { length } => taken_answer(0, 0, length, 0, 0),
-        Listed::Refused { number, place } => refused_answer(number, place),
+        Ok(length) => taken_answer(0, 0, length, 0, 0),
+        Err(refusal) => refused_answer(refusal),
     }
 }
 
@@ -234,15 +221,15 @@ pub extern "C" fn aukpocket_look_up(reel: &[u8], trace: usize, byte: u32) -> Fie
     ensures { handed result ≡ field_handed (look_up_outcome reel.now trace (record { 0 = byte })) }
 {
     match look_up::look_up(reel, trace, ByteNo(byte)) {
-        look_up::Answer::Taken { value } => FieldAnswer {
+        Ok(value) => FieldAnswer {
             number: 0,
             value,
             beside: 0,
         },
-        look_up::Answer::Refused { number, place } => FieldAnswer {
-            number: number as u32,
+        Err(refusal) => FieldAnswer {
+            number: refusal.cause.number() as u32,
             value: 0,
-            beside: place.0 as u64,
+            beside: refusal.place.0 as u64,
         },
     }
 }
@@ -289,59 +276,58 @@ pub extern "C" fn aukpocket_compare(first: &[u8], second: &[u8]) -> OrderAnswer
 pub extern "C" fn aukpocket_check_box(reels: &[u8], lengths: &[u64]) -> BoxAnswer
     ensures { handed result ≡ box_answer (box_outcome reels.now lengths.now) }
 {
-    let answer = reel_box::check_box(reels, lengths);
-    match answer {
-        reel_box::Answer::Taken {
-            reels: n,
-            traces: t,
-        } => BoxAnswer {
+    match reel_box::check_box(reels, lengths) {
+        Ok(contents) => BoxAnswer {
             number: 0,
-            reels: n as u64,
-            traces: t as u64,
+            reels: contents.reels as u64,
+            traces: contents.traces as u64,
             beside: 0,
         },
-        reel_box::Answer::Refused { number, place } => BoxAnswer {
-            number: number as u64,
+        Err(refusal) => BoxAnswer {
+            number: refusal.cause.number() as u64,
             reels: 0,
             traces: 0,
-            beside: place.0 as u64,
+            beside: refusal.place.0 as u64,
         },
+    }
+}
+
+// A refused single sample, in numbers.
+fn refused_sample(refusal: Refusal) -> SampleAnswer
+    ensures { handed result ≡ sample_answer (refused (number_of refusal.cause) (place_no refusal.place)) }
+{
+    SampleAnswer {
+        number: refusal.cause.number() as u64,
+        beside: refusal.place.0 as u64,
+        not_normal: 0,
     }
 }
 
 // What writing a pair answers, in numbers.
-fn sample_answer(answer: sample::Answer) -> SampleAnswer
+fn sample_answer(answer: Result<(), Refusal>) -> SampleAnswer
     ensures { handed result ≡ sample_answer (single.said_by answer) }
 {
     match answer {
-        sample::Answer::Taken => SampleAnswer {
+        Ok(()) => SampleAnswer {
             number: 0,
             beside: 0,
             not_normal: 0,
         },
-        sample::Answer::Refused { number, place } => SampleAnswer {
-            number: number as u64,
-            beside: place.0 as u64,
-            not_normal: 0,
-        },
+        Err(refusal) => refused_sample(refusal),
     }
 }
 
 // What reading a word answers, in numbers.
-fn word_answer(answer: WordAnswer) -> SampleAnswer
+fn word_answer(answer: Result<bool, Refusal>) -> SampleAnswer
     ensures { handed result ≡ word_answer (single.word_said answer) }
 {
     match answer {
-        WordAnswer::Taken { not_normal } => SampleAnswer {
+        Ok(not_normal) => SampleAnswer {
             number: 0,
             beside: 0,
-            not_normal: not_normal as u64,
+            not_normal: u64::from(not_normal),
         },
-        WordAnswer::Refused { number, place } => SampleAnswer {
-            number: number as u64,
-            beside: place.0 as u64,
-            not_normal: 0,
-        },
+        Err(refusal) => refused_sample(refusal),
     }
 }
 

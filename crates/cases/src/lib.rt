@@ -7,7 +7,7 @@ ghost use Rattle.std.specs.List.{FoldsTo};
 ghost use Rattle.cases.specs.Cases.{HasFewer, IsCutShort, ConsumesLength, Follows};
 ghost use Rattle.cases.specs.declared.Stop.TheVariants.{BadCase, Failed};
 
-use numbers::Place;
+use numbers::Refusal;
 use std::io;
 use std::io::Read;
 
@@ -98,6 +98,8 @@ pub fn run_cases<F: FnMut() -> Result<(), Stop>>(
 }
 
 // Prints the line of a call that is refused: its number, the place beside it, and the digest of the whole output.
-pub fn print_refused(rt: &impl Print, number: u8, place: Place, out: &[u8]) -> io::Result<()> {
-    println!(rt; "refused {number} {} {}", place.0, digests::digest(out))
+pub fn print_refused(rt: &impl Print, refusal: Refusal, out: &[u8]) -> io::Result<()> {
+    let number = refusal.cause.number();
+    let place = refusal.place.0;
+    println!(rt; "refused {number} {place} {}", digests::digest(out))
 }

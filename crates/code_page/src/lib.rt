@@ -1,4 +1,4 @@
-// EBCDIC code page 037 and ISO 8859-1, by a table of 256 entries each way.
+// EBCDIC code page 037 and ISO 8859-1, by a table of 256 entries each way. Both are constants, the form that the code page is published in.
 #![tactic(auto)]
 
 ghost use Rattle.std.specs.Prelude.{◌≡◌};
@@ -43,6 +43,7 @@ const EBCDIC: [u8; 256] = *b"\
     \x8c\x49\xcd\xce\xcb\xcf\xcc\xe1\x70\xdd\xde\xdb\xdc\x8d\x8e\xdf";
 
 // Code page 037: the ISO 8859-1 character of each EBCDIC code.
+#[tactic(auto, unfolding(crate::specs::Page::latin))]
 pub fn characters() -> [u8; 256]
     ensures { result ≡ latin }
 {
@@ -50,6 +51,7 @@ pub fn characters() -> [u8; 256]
 }
 
 // The other way round: the EBCDIC code of each ISO 8859-1 character.
+#[tactic(auto, using(crate::proofs::PageLaws::inverse_is), unfolding(crate::proofs::PageLaws::ebcdic))]
 pub fn codes() -> [u8; 256]
     ensures { result ≡ inverse latin }
 {

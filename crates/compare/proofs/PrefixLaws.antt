@@ -13,7 +13,7 @@ use Rattle.numbers.specs.BigEndian.{number}
 use Rattle.numbers.specs.TwosComplement.{signed_of}
 use Rattle.numbers.specs.Places.{byte_place}
 use Rattle.numbers.specs.Cause.{refuse_if, then, first_of}
-use Rattle.numbers.specs.declared.Check.{Check}
+use Rattle.numbers.specs.Cause.{Check}
 use Rattle.numbers.proofs.WalkLaws.{walk_same, cons_eq}
 use Rattle.fields.specs.Fields.{each, pair_place, fields_length, in_fields}
 use Rattle.fields.proofs.FieldsLaws.{by_fields, length_more, fields_more, in_none, in_next, pairs_in_fields}

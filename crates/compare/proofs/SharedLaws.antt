@@ -9,8 +9,8 @@ use borrow.Author.Tests.{leb-true, ltb-true}
 use lib.Dec.{T, leb, ltb, eqb}
 use lib.ListN.{length, get_or, take, drop}
 use Rattle.numbers.specs.Cause.{then}
-use Rattle.numbers.specs.declared.Check.{Check}
-use Rattle.numbers.specs.declared.Check.TheVariants.{Fine, Refused}
+use Rattle.numbers.specs.Cause.{Check}
+use Rattle.numbers.specs.Cause.{Fine, Refused}
 use Rattle.numbers.proofs.BoolLaws.{and_true, and_false}
 use Rattle.numbers.proofs.CauseLaws.{then_fine}
 use Rattle.numbers.proofs.WalkLaws.{bytes_part}

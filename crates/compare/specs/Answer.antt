@@ -1,8 +1,8 @@
 -- What comparing two records says: "12 and 13 apply, the first record's before the second's; the answer says which" (document 02, CR 9).
 use Rattle.std.specs.Prelude.{ℕ, List}
 use Rattle.numbers.specs.Places.{place_no}
-use Rattle.numbers.specs.declared.Check.{Check}
-use Rattle.numbers.specs.declared.Check.TheVariants as check
+use Rattle.numbers.specs.Cause.{Check}
+use Rattle.numbers.specs.Cause as check
 use Rattle.record.specs.Form.{form_causes}
 use Rattle.exact.specs.declared.Order.{Order}
 use Rattle.compare.specs.Key.{order_of}

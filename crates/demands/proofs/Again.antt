@@ -12,7 +12,7 @@ use lib.ListN.{length}
 use Rattle.numbers.specs.Walk.{walk, flat, bytes_at}
 use Rattle.numbers.specs.BigEndian.{bytes_of}
 use Rattle.numbers.specs.Terms.{Bytes}
-use Rattle.numbers.specs.declared.Check.TheVariants.{Fine}
+use Rattle.numbers.specs.Cause.{Fine}
 use Rattle.numbers.proofs.WalkLaws.{size_walk}
 use Rattle.numbers.proofs.ByteLaws.{bytes_again}
 use Rattle.numbers.proofs.CauseLaws.{then_fine}

@@ -38,8 +38,8 @@ use Rattle.numbers.specs.Cause.{refuse_if, then}
 use Rattle.numbers.specs.Outcome.{Said, taken, refused}
 use Rattle.numbers.specs.Places.{place_no, byte_no}
 use Rattle.numbers.specs.declared.ByteNo.{ByteNo}
-use Rattle.numbers.specs.declared.Check.{Check}
-use Rattle.numbers.specs.declared.Check.TheVariants.{Fine, Refused}
+use Rattle.numbers.specs.Cause.{Check}
+use Rattle.numbers.specs.Cause.{Fine, Refused}
 use Rattle.numbers.specs.Terms.{All, Bytes, at_place}
 use Rattle.numbers.specs.Iff.{Iff}
 use Rattle.numbers.proofs.CauseLaws.{passed, then_fine, at_most}
@@ -53,12 +53,12 @@ use Rattle.value.specs.Pair.{value_of, is_canonical, pair_in}
 use Rattle.formats.specs.Words.{is_normal, word_of}
 use Rattle.value.specs.Writing.{write_pair}
 use Rattle.formats.proofs.WordLaws.{Only14, only_14}
-use Rattle.formats.specs.declared.Written.{Written}
-use Rattle.formats.specs.declared.Written.TheVariants as written
+use Rattle.formats.specs.Written.{Written}
+use Rattle.formats.specs.Written as written
 use Rattle.sample.specs.Reading.{bad_number, not_normal, pair_taken, read_word}
 use Rattle.sample.specs.Calls as calls
-use Rattle.sample.specs.declared.Sample.{Sample}
-use Rattle.sample.specs.declared.Sample.TheVariants as sample
+use Rattle.sample.specs.Reading.{Sample}
+use Rattle.sample.specs.Reading as sample
 use Rattle.sample_theorems.proofs.Pairs.{value_pair_back}
 use Rattle.reel.specs.Layout.{Field, traces_of}
 use Rattle.reel.specs.Causes.{trace_causes, behind_causes_by, causes_by, causes_of}

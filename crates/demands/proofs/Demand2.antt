@@ -29,7 +29,7 @@ use Prim.Native.Nat.{ℕ, ◌+◌, ◌*◌, ◌/◌, ◌≤◌}
 use lib.ListN.{length, take, drop}
 use lib.Seq.{take_at, drop_at}
 use Rattle.numbers.specs.Outcome.{taken, Outcome}
-use Rattle.numbers.specs.declared.Check.TheVariants.{Fine}
+use Rattle.numbers.specs.Cause.{Fine}
 use Rattle.numbers.specs.Terms.{Bytes}
 use Rattle.numbers.specs.Iff.{Iff}
 use Rattle.formats.specs.Codes.{sample_bytes}

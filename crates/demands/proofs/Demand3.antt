@@ -42,7 +42,7 @@ use lib.IntN.{ℤ, pos, negsuc, nat_abs}
 use lib.Dec.{eqb}
 use Rattle.numbers.specs.Walk.{bytes_at, pick}
 use Rattle.numbers.specs.Outcome.{taken, Outcome}
-use Rattle.numbers.specs.declared.Check.TheVariants.{Fine}
+use Rattle.numbers.specs.Cause.{Fine}
 use Rattle.numbers.specs.Terms.{All, Bytes, ZeroOr}
 use Rattle.numbers.specs.Iff.{Iff}
 use Rattle.numbers.proofs.WalkLaws.{cons_eq, size_bytes}

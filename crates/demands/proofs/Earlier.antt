@@ -25,7 +25,7 @@ use Rattle.numbers.specs.BigEndian.{number}
 use Rattle.numbers.specs.Outcome.{taken, Outcome}
 use Rattle.numbers.specs.Iff.{Iff}
 use Rattle.numbers.specs.Terms.{Bytes}
-use Rattle.numbers.specs.declared.Check.TheVariants.{Fine}
+use Rattle.numbers.specs.Cause.{Fine}
 use Rattle.numbers.proofs.SignLaws.{below_or}
 use Rattle.numbers.proofs.WalkLaws.{cons_eq}
 use Rattle.fields.specs.Fields.{fields_in, field_count}

@@ -8,7 +8,7 @@ use lib.ListN.{length, get_or}
 use Rattle.numbers.specs.Walk.{walk, flat}
 use Rattle.numbers.specs.BigEndian.{bytes_of}
 use Rattle.numbers.specs.Cause.{first_of}
-use Rattle.numbers.specs.declared.Check.TheVariants.{Fine}
+use Rattle.numbers.specs.Cause.{Fine}
 use Rattle.numbers.specs.Terms.{All, Bytes}
 use Rattle.numbers.proofs.ByteLaws.{length_bytes, bytes_of_lem}
 use Rattle.numbers.proofs.AllLaws.{all_append}

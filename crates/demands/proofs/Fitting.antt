@@ -9,7 +9,7 @@ use Prim.Native.Nat.{ℕ, ◌+◌}
 use lib.Dec.{T}
 use lib.IntN.{ℤ}
 use Rattle.numbers.specs.Cause.{refuse_if}
-use Rattle.numbers.specs.declared.Check.TheVariants.{Fine}
+use Rattle.numbers.specs.Cause.{Fine}
 use Rattle.numbers.specs.Terms.{All}
 use Rattle.numbers.specs.Iff.{Iff}
 use Rattle.numbers.proofs.CauseLaws.{passed, first_all, all_first}
@@ -17,8 +17,8 @@ use Rattle.formats.specs.Codes.{is_code}
 use Rattle.value.specs.Pair.{pair_of, is_canonical, pair_length}
 use Rattle.formats.specs.Words.{word_of, Writes}
 use Rattle.value.specs.Writing.{write_pair}
-use Rattle.formats.specs.declared.Written.{Written}
-use Rattle.formats.specs.declared.Written.TheVariants.{Word, Refused}
+use Rattle.formats.specs.Written.{Written}
+use Rattle.formats.specs.Written.{Word, Refused}
 use Rattle.sample_theorems.proofs.Pairs.{pair_value}
 use Rattle.value.proofs.WrittenLaws.{written_is}
 use Rattle.sample.specs.Calls.{single_word}

@@ -14,7 +14,7 @@ use Rattle.numbers.specs.Walk.{flat, bytes_at}
 use Rattle.numbers.specs.Places.{byte_place}
 use Rattle.numbers.specs.BigEndian.{number, bytes_of}
 use Rattle.numbers.specs.Cause.{first_of}
-use Rattle.numbers.specs.declared.Check.TheVariants.{Fine}
+use Rattle.numbers.specs.Cause.{Fine}
 use Rattle.numbers.specs.Terms.{Bytes}
 use Rattle.numbers.proofs.WalkLaws.{flat_size}
 use Rattle.numbers.proofs.ByteLaws.{length_bytes, bytes_of_lem}

@@ -10,7 +10,7 @@ use lib.ListN.{length, get_or}
 use Rattle.numbers.specs.Cause.{first_of}
 use Rattle.numbers.specs.Iff.{Iff}
 use Rattle.numbers.specs.Terms.{at_place}
-use Rattle.numbers.specs.declared.Check.TheVariants.{Fine, Refused}
+use Rattle.numbers.specs.Cause.{Fine, Refused}
 use Rattle.numbers.proofs.RowLaws.{then_row, then_first, then_second, fine_then, refused_then, row_then, no_row, not_enough, too_short, first_is, first_of_lem, walk_refused, walk_row, fine_none}
 use Rattle.reel.specs.Layout.{elevation_scalar, coordinate_scalar}
 use Rattle.reel.specs.Meaning.{elevation_fields, coordinate_fields}
@@ -18,7 +18,7 @@ use Rattle.fields.specs.Fields.{each}
 use Rattle.fields.proofs.FieldsLaws.{step_is}
 use Rattle.record.specs.Kind.{tag04}
 use Rattle.record.specs.Form.{card_cause, cards_causes, held_interval, held_samples, binary_causes, end_causes, samples_causes_in, body_causes_in, form_causes_in, form_causes}
-use Rattle.numbers.specs.declared.Check.{Check}
+use Rattle.numbers.specs.Cause.{Check}
 use Rattle.demands.specs.ValidRecord.{trace_place, CardsRight, HeadRight, ScalarsRight, HeaderRight, TraceNext, EndNext}
 use Rattle.demands.specs.Tables.{FormRow, no_cards, bad_card, no_binary, bad_held_interval, bad_held_samples, bad_held_code, no_header, bad_held_69, bad_held_71, bad_held_115, bad_held_117, no_end, bad_count, after}
 use Rattle.demands.proofs.Valid.{card_tests, cards_test, binary_test, interval_test, number_test, code_test, end_test, total_test, last_test, cards_fine, cards_right, head_right, form_at, header_test, scalar_test, count_test, spacing_test, form_parts, behind_scalars, behind_header, trace_fine, count_in, next_counted, end_next, trace_next, body_end, form_body}

@@ -12,8 +12,8 @@ use Rattle.numbers.specs.Walk.{walk, flat, sum, bytes_at}
 use Rattle.numbers.specs.BigEndian.{number, bytes_of}
 use Rattle.numbers.specs.TwosComplement.{signed_of, bits_of}
 use Rattle.numbers.specs.Cause.{first_of}
-use Rattle.numbers.specs.declared.Check.{Check}
-use Rattle.numbers.specs.declared.Check.TheVariants.{Fine}
+use Rattle.numbers.specs.Cause.{Check}
+use Rattle.numbers.specs.Cause.{Fine}
 use Rattle.numbers.specs.Terms.{All}
 use Rattle.numbers.proofs.WalkLaws.{cons_eq, flat_size, bytes_part}
 use Rattle.numbers.proofs.ByteLaws.{number_bytes_lem, length_bytes}

@@ -15,7 +15,7 @@ use lib.IntN.{ℤ, pos}
 use Rattle.numbers.specs.Walk.{pick, bytes_at}
 use Rattle.numbers.specs.TwosComplement.{signed_of}
 use Rattle.numbers.specs.Cause.{refuse_if}
-use Rattle.numbers.specs.declared.Check.TheVariants.{Fine}
+use Rattle.numbers.specs.Cause.{Fine}
 use Rattle.numbers.specs.Terms.{All, Bytes}
 use Rattle.numbers.proofs.WalkLaws.{size_walk, size_bytes, all_both}
 use Rattle.numbers.proofs.ByteLaws.{bytes_at_lem}

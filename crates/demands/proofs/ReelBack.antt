@@ -15,7 +15,7 @@ use lib.IntN.{ℤ, pos, nat_abs}
 use Rattle.numbers.specs.Walk.{pick, walk, flat, sum, bytes_at}
 use Rattle.numbers.specs.BigEndian.{number, bytes_of}
 use Rattle.numbers.specs.Cause.{refuse_if, first_of}
-use Rattle.numbers.specs.declared.Check.TheVariants.{Fine}
+use Rattle.numbers.specs.Cause.{Fine}
 use Rattle.numbers.specs.Terms.{All, Bytes}
 use Rattle.numbers.proofs.WalkLaws.{cons_eq, flat_size, all_both}
 use Rattle.numbers.proofs.ByteLaws.{length_bytes, bytes_of_lem, number_bytes_lem}
@@ -25,8 +25,8 @@ use Rattle.formats.specs.Codes.{is_code, sample_bytes, word_length}
 use Rattle.value.specs.Pair.{pair_of, is_canonical}
 use Rattle.formats.specs.Words.{word_of, word_bits}
 use Rattle.value.specs.Writing.{write_pair}
-use Rattle.formats.specs.declared.Written.{Written}
-use Rattle.formats.specs.declared.Written.TheVariants.{Word, Refused}
+use Rattle.formats.specs.Written.{Written}
+use Rattle.formats.specs.Written.{Word, Refused}
 use Rattle.sample.specs.Reading.{bad_number, not_normal}
 use Rattle.sample.specs.Calls.{single_word}
 use Rattle.formats.proofs.CodeLaws.{word_there, code_limits}

@@ -10,7 +10,7 @@ use native.Mathlib.Omega.{arith}
 use lib.ListN.{length}
 use Rattle.numbers.specs.Iff.{Iff}
 use Rattle.numbers.specs.Terms.{Bytes}
-use Rattle.numbers.specs.declared.Check.TheVariants.{Fine}
+use Rattle.numbers.specs.Cause.{Fine}
 use Rattle.numbers.proofs.WalkLaws.{size_walk}
 use Rattle.record.specs.Kind.{tag04}
 use Rattle.record.specs.Record.{record_of, record_length}

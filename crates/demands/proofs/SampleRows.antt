@@ -11,8 +11,8 @@ use native.Mathlib.Nat.{suc-mul, div-add-mod', mod-lt, mul-le-mul_right}
 use native.Mathlib.Omega.{arith}
 use Rattle.numbers.specs.Walk.{walk, bytes_at}
 use Rattle.numbers.specs.Cause.{then, first_of}
-use Rattle.numbers.specs.declared.Check.{Check}
-use Rattle.numbers.specs.declared.Check.TheVariants.{Fine, Refused}
+use Rattle.numbers.specs.Cause.{Check}
+use Rattle.numbers.specs.Cause.{Fine, Refused}
 use Rattle.numbers.proofs.SignLaws.{below_or}
 use Rattle.numbers.proofs.CauseLaws.{then_fine}
 use Rattle.record.specs.Form.{field_cause, pair_cause_in, field_form_in, share_in, samples_causes_in}

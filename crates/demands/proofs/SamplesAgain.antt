@@ -10,7 +10,7 @@ use lib.ListN.{length, length-append}
 use lib.IntN.{ℤ}
 use Rattle.numbers.specs.Walk.{pick, walk, flat, bytes_at}
 use Rattle.numbers.specs.Cause.{first_of}
-use Rattle.numbers.specs.declared.Check.TheVariants.{Fine}
+use Rattle.numbers.specs.Cause.{Fine}
 use Rattle.numbers.proofs.WalkLaws.{size_walk, size_bytes}
 use Rattle.numbers.specs.Terms.{Bytes}
 use Rattle.numbers.proofs.ByteLaws.{bytes_at_lem}

@@ -13,7 +13,7 @@ use lib.ListN.{length, take, drop, length-take, length-drop, take-append-drop}
 use lib.IntN.{ℤ}
 use Rattle.numbers.specs.Walk.{pick, walk, flat}
 use Rattle.numbers.specs.Cause.{refuse_if, first_of}
-use Rattle.numbers.specs.declared.Check.TheVariants.{Fine}
+use Rattle.numbers.specs.Cause.{Fine}
 use Rattle.numbers.proofs.SignLaws.{below_or}
 use Rattle.numbers.specs.Terms.{All, Bytes}
 use Rattle.numbers.proofs.WalkLaws.{all_take, all_drop}

@@ -11,8 +11,8 @@ use lib.IntN.{ℤ}
 use Rattle.numbers.specs.Walk.{walk, bytes_at}
 use Rattle.numbers.specs.Cause.{refuse_if, then}
 use Rattle.numbers.specs.Outcome.{Said, taken, Outcome}
-use Rattle.numbers.specs.declared.Check.{Check}
-use Rattle.numbers.specs.declared.Check.TheVariants.{Fine}
+use Rattle.numbers.specs.Cause.{Check}
+use Rattle.numbers.specs.Cause.{Fine}
 use Rattle.numbers.specs.Terms.{All, Bytes}
 use Rattle.numbers.proofs.WalkLaws.{cons_eq, size_walk, map_walk}
 use Rattle.numbers.proofs.CauseLaws.{passed, then_fine, at_most}

@@ -15,8 +15,8 @@ use lib.ListN.{length, get_or}
 use Rattle.numbers.specs.Walk.{walk, flat, bytes_at}
 use Rattle.numbers.specs.BigEndian.{number}
 use Rattle.numbers.specs.Cause.{refuse_if, then, first_of}
-use Rattle.numbers.specs.declared.Check.{Check}
-use Rattle.numbers.specs.declared.Check.TheVariants.{Fine}
+use Rattle.numbers.specs.Cause.{Check}
+use Rattle.numbers.specs.Cause.{Fine}
 use Rattle.numbers.specs.Terms.{Between}
 use Rattle.numbers.proofs.CauseLaws.{then_assoc, then_fine}
 use Rattle.numbers.proofs.BoolLaws.{and_true, and_both}

@@ -13,8 +13,8 @@ use lib.Dec.{ltb}
 use lib.ListN.{get_or}
 use Rattle.numbers.specs.BigEndian.{number}
 use Rattle.numbers.specs.Cause.{refuse_if}
-use Rattle.numbers.specs.declared.Check.{Check}
-use Rattle.numbers.specs.declared.Check.TheVariants.{Fine, Refused}
+use Rattle.numbers.specs.Cause.{Check}
+use Rattle.numbers.specs.Cause.{Fine, Refused}
 use Rattle.numbers.specs.Iff.{Iff}
 use Rattle.numbers.specs.Terms.{at_place}
 use Rattle.numbers.proofs.CauseLaws.{then_fine}

@@ -5,7 +5,7 @@ use Rattle.numbers.specs.Places.{byte_no}
 use Rattle.numbers.specs.Outcome.{taken}
 use Rattle.numbers.specs.Terms.{All, Bytes}
 use Rattle.numbers.specs.declared.ByteNo.{ByteNo}
-use Rattle.numbers.specs.declared.Check.TheVariants.{Fine}
+use Rattle.numbers.specs.Cause.{Fine}
 use Rattle.formats.specs.Codes.{is_code, sample_bytes, word_length}
 use Rattle.formats.specs.Value.{exact_value}
 use Rattle.scalars.specs.Scalar.{power_of}

@@ -9,10 +9,8 @@ pub fn digest(bytes: &[u8]) -> u64
     ensures { result ≡ digest_of bytes.now }
 {
     let mut d: u64 = 0;
-    let mut i = 0;
-    while i < bytes.len() {
-        d = (d * 31 + bytes[i] as u64) % 0x1_0000_0000;
-        i += 1;
+    for b in bytes {
+        d = (d * 31 + u64::from(*b)) % 0x1_0000_0000;
     }
     d
 }
@@ -21,9 +19,5 @@ pub fn digest(bytes: &[u8]) -> u64
 pub fn fill(b: u8, out: &mut [u8])
     ensures { out.new ≡ replicate (length out.old) b }
 {
-    let mut i = 0;
-    while i < out.len() {
-        out[i] = b;
-        i += 1;
-    }
+    out.fill(b);
 }

@@ -12,7 +12,7 @@ use lib.ListN.{length, get_or}
 use Rattle.numbers.specs.Walk.{walk, sum, bytes_at}
 use Rattle.numbers.specs.BigEndian.{number}
 use Rattle.numbers.specs.Cause.{refuse_if, then, first_of}
-use Rattle.numbers.specs.declared.Check.TheVariants.{Fine}
+use Rattle.numbers.specs.Cause.{Fine}
 use Rattle.numbers.proofs.WalkLaws.{walk_same}
 use Rattle.numbers.proofs.RowLaws.{then_second, none_of}
 use Rattle.formats.specs.Codes.{sample_bytes}

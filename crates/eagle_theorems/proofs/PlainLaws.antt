@@ -12,7 +12,7 @@ use lib.ListN.{length, length-append}
 use Rattle.numbers.specs.Walk.{walk, flat, sum, bytes_at}
 use Rattle.numbers.specs.BigEndian.{number}
 use Rattle.numbers.specs.Cause.{first_of}
-use Rattle.numbers.specs.declared.Check.TheVariants.{Fine}
+use Rattle.numbers.specs.Cause.{Fine}
 use Rattle.numbers.specs.Terms.{All, Bytes}
 use Rattle.numbers.proofs.WalkLaws.{size_bytes, size_walk, map_walk, all_at}
 use Rattle.numbers.proofs.AllLaws.{all_append, all_flat, all_each}

@@ -11,8 +11,8 @@ use lib.Dec.{ltb, eqb}
 use lib.ListN.{length}
 use Rattle.numbers.specs.Walk.{walk}
 use Rattle.numbers.specs.Cause.{refuse_if, first_of}
-use Rattle.numbers.specs.declared.Check.{Check}
-use Rattle.numbers.specs.declared.Check.TheVariants.{Fine, Refused}
+use Rattle.numbers.specs.Cause.{Check}
+use Rattle.numbers.specs.Cause.{Fine, Refused}
 use Rattle.numbers.specs.Iff.{Iff}
 use Rattle.numbers.specs.Terms.{at_place}
 use Rattle.numbers.proofs.CauseLaws.{then_fine}

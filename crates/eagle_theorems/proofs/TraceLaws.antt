@@ -13,8 +13,8 @@ use Rattle.numbers.specs.BigEndian.{number}
 use Rattle.numbers.specs.TwosComplement.{signed_of}
 use Rattle.numbers.specs.Cause.{refuse_if, then}
 use Rattle.numbers.specs.Outcome.{taken, Outcome}
-use Rattle.numbers.specs.declared.Check.{Check}
-use Rattle.numbers.specs.declared.Check.TheVariants.{Fine, Refused}
+use Rattle.numbers.specs.Cause.{Check}
+use Rattle.numbers.specs.Cause.{Fine, Refused}
 use Rattle.numbers.specs.Terms.{All}
 use Rattle.numbers.proofs.WalkLaws.{walk_same}
 use Rattle.numbers.proofs.AllLaws.{all_append, all_with, map_same}

@@ -4,7 +4,7 @@ use Rattle.std.specs.Prelude.{◌≡◌, List, [], ◌∷◌, ◌++◌, ℕ, ◌
 use Rattle.numbers.specs.Walk.{walk, flat, bytes_at}
 use Rattle.numbers.specs.BigEndian.{number}
 use Rattle.numbers.specs.Outcome.{taken}
-use Rattle.numbers.specs.declared.Check.TheVariants.{Fine}
+use Rattle.numbers.specs.Cause.{Fine}
 use Rattle.formats.specs.Codes.{sample_bytes}
 use Rattle.reel.specs.Layout.{samples_of, code_of}
 use Rattle.reel.specs.Causes.{causes_of}

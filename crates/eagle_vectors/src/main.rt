@@ -16,6 +16,7 @@
 #![tactic(auto)]
 
 use cases::Stop;
+use numbers::Refusal;
 use record::Counted;
 use std::io;
 use std::io::Read;
@@ -40,18 +41,18 @@ impl TryFrom<u8> for Call {
 }
 
 // Prints the line of a reel that was read or refused.
-fn print_answer(rt: &impl Print, answer: Counted, out: &[u8]) -> io::Result<()> {
+fn print_answer(rt: &impl Print, answer: Result<Counted, Refusal>, out: &[u8]) -> io::Result<()> {
     match answer {
-        Counted::Taken {
+        Ok(Counted {
             traces,
             samples,
             length,
             count,
-        } => println!(rt;
+        }) => println!(rt;
             "taken {traces} {samples} {length} {count} {}",
             digests::digest(out)
         ),
-        Counted::Refused { number, place } => cases::print_refused(rt, number, place, out),
+        Err(refusal) => cases::print_refused(rt, refusal, out),
     }
 }
 

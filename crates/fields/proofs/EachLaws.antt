@@ -9,8 +9,8 @@ use native.Mathlib.Nat.{add-zero, not-suc-le-zero}
 use native.Mathlib.Omega.{arith}
 use Rattle.numbers.specs.Walk.{pick, flat}
 use Rattle.numbers.specs.Cause.{then, first_of}
-use Rattle.numbers.specs.declared.Check.{Check}
-use Rattle.numbers.specs.declared.Check.TheVariants.{Fine}
+use Rattle.numbers.specs.Cause.{Check}
+use Rattle.numbers.specs.Cause.{Fine}
 use Rattle.numbers.specs.Terms.{All}
 use Rattle.numbers.proofs.AllLaws.{all_each}
 use Rattle.numbers.proofs.WalkLaws.{map_walk}

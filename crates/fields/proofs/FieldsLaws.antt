@@ -2,29 +2,22 @@
 use mathlib.Core.Path.{◌≡◌, refl, sym, ap, ap₂, ◌∙◌, subst}
 use mathlib.Core.Logic.{⊎_elim}
 use mathlib.Core.List.{List, [], ◌∷◌, ◌++◌, append-nil, append_assoc}
-use Prim.Native.Nat.{ℕ, zero, suc, ◌+◌, ◌-◌, ◌*◌, ◌/◌, ◌%◌, ◌≤◌, ◌<◌, min}
-use native.Mathlib.Nat.{zero-mul, add-zero, suc-mul, mul_assoc, mul_comm, add-mul, div-add-mod', mod-lt, mul-le-mul_right, not-suc-le-zero}
+use Prim.Native.Nat.{ℕ, zero, suc, ◌+◌, ◌-◌, ◌*◌, ◌/◌, ◌≤◌, ◌<◌, min}
+use native.Mathlib.Nat.{div-eq_of_lt, add-div_left, zero-mul, add-zero, suc-mul, mul_assoc, mul_comm, add-mul, not-suc-le-zero}
 use native.Mathlib.Omega.{arith}
+use Rattle.std.proofs.Common.{add-one}
 use lib.ListN.{length, take, drop, length-drop, drop_of_length-le}
 use lib.Seq.{take_at, drop_at, take_all, drop-drop}
 use Rattle.numbers.specs.Walk.{walk, flat, sum}
 use Rattle.numbers.proofs.SignLaws.{below_or}
-use Rattle.numbers.proofs.WalkLaws.{cons_eq}
+use Rattle.numbers.proofs.WalkLaws.{cons_eq, walk_same}
 use Rattle.fields.specs.Fields.{each, fields_in, field_count, field_place, pair_place, fields_length, in_fields, shares}
 
 -- ## Walks
 
 -- Walks that give the same at each step are the same.
 pub walk_like : {A : Type 0} (f g : ℕ → A) (w u k s t : ℕ) → ((j : ℕ) → j < k → f (s + j * w) ≡ g (t + j * u)) → walk f w k s ≡ walk g u k t
-walk_like f g w u zero s t h = refl
-walk_like f g w u (suc k) s t h =
-    let a : s + 0 * w ≡ s = rw zero-mul (add-zero s) in
-    let b : t + 0 * u ≡ t = rw zero-mul (add-zero t) in
-    cons_eq (ap f (sym a) ∙ h 0 (omega arith) ∙ ap g b)
-    (walk_like f g w u k (s + w) (t + u) (λ j l. ap f (step s w j) ∙ h (suc j) (omega arith) ∙ ap g (sym (step t u j))))
-  where
-    step : (s w j : ℕ) → s + w + j * w ≡ s + suc j * w
-    step s w j = rw suc-mul (omega arith)
+walk_like = walk_same
 
 -- A walk in two parts.
 pub walk_parts : {A : Type 0} (f : ℕ → A) (w a k s : ℕ) → walk f w (a + k) s ≡ walk f w a s ++ walk f w k (s + a * w)
@@ -64,33 +57,10 @@ take_parts {A} c n x y e h =
 
 -- Below c, and c on.
 pub quotient_low : (j c : ℕ) → j < c → j / c ≡ 0
-quotient_low j c h = go (j / c) (div-add-mod' j c)
-  where
-    go : (q : ℕ) → q * c + j % c ≡ j → q ≡ 0
-    go zero e = refl
-    go (suc q) e = absurd (no e)
-      where
-        no : suc q * c + j % c ≡ j → ⊥
-        no e = omega (arith, suc-mul q c, e, h)
+quotient_low j c h = div-eq_of_lt h
 
 pub quotient_next : (j c : ℕ) → 0 < c → (c + j) / c ≡ suc (j / c)
-quotient_next j c h =
-    let a = div-add-mod' (c + j) c in
-    let b = div-add-mod' j c in
-    same ((c + j) / c) (suc (j / c)) ((c + j) % c) (j % c) (mod-lt (c + j) h) (mod-lt j h) (omega (arith, a, b, suc-mul (j / c) c))
-  where
-    below : (p q : ℕ) → p < q → p * c + c ≤ q * c
-    below p q l = let k : suc p * c ≤ q * c = mul-le-mul_right c l in omega (arith, k, suc-mul p c)
-
-    same : (p q x y : ℕ) → x < c → y < c → p * c + x ≡ q * c + y → p ≡ q
-    same p q x y a b e =
-        ⊎_elim (λ (l : p < q). absurd (one (below p q l))) (λ (l : q ≤ p). ⊎_elim (λ (g : q < p). absurd (two (below q p g))) (λ (g : p ≤ q). omega arith) (below_or q p)) (below_or p q)
-      where
-        one : p * c + c ≤ q * c → ⊥
-        one k = omega (arith, k, e, a, b)
-
-        two : q * c + c ≤ p * c → ⊥
-        two k = omega (arith, k, e, a, b)
+quotient_next j c h = add-div_left j h ∙ add-one (j / c)
 
 -- ## A field at a time
 

@@ -7,8 +7,5 @@ ghost use Rattle.std.specs.Prelude.{◌≡◌, min};
 pub fn next_count(c: usize, left: usize) -> usize
     ensures { result ≡ min c left }
 {
-    if c < left {
-        return c;
-    }
-    left
+    c.min(left)
 }

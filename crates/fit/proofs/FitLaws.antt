@@ -11,16 +11,16 @@ use Rattle.numbers.specs.Walk.{pick, walk, flat, bytes_at}
 use Rattle.numbers.specs.BigEndian.{number}
 use Rattle.numbers.specs.Cause.{refuse_if, then, first_of}
 use Rattle.numbers.specs.declared.Place.{Place}
-use Rattle.numbers.specs.declared.Check.{Check}
-use Rattle.numbers.specs.declared.Check.TheVariants.{Fine, Refused}
+use Rattle.numbers.specs.Cause.{Check}
+use Rattle.numbers.specs.Cause.{Fine, Refused}
 use Rattle.numbers.proofs.CauseLaws.{not_fine, passed, then_fine}
 use Rattle.formats.specs.Codes.{is_code}
 use Rattle.value.specs.Pair.{value_of, is_canonical, pair_length, pair_in}
 use Rattle.formats.specs.Words.{word_of}
 use Rattle.formats.proofs.WordLaws.{Only14, only_14}
 use Rattle.value.specs.declared.Pair.{Pair}
-use Rattle.formats.specs.declared.Written.{Written}
-use Rattle.formats.specs.declared.Written.TheVariants as written
+use Rattle.formats.specs.Written.{Written}
+use Rattle.formats.specs.Written as written
 use Rattle.reel.specs.Causes.{most_traces}
 use Rattle.fields.specs.Fields.{run_from, in_fields}
 use Rattle.fields.proofs.FieldsLaws.{by_fields, in_none, in_next, pairs_in_fields}
@@ -30,7 +30,7 @@ use Rattle.record.specs.Form.{field_cause, cards_causes, held_samples, held_inte
 use Rattle.record.specs.Held.{held_value}
 use Rattle.fit.specs.Target.{is_unfit, fit_cause, samples_fit, trace_fit, fit_causes, target_causes}
 use Rattle.write_samples.specs.Samples.{pair_refused, pair_check}
-use Rattle.record.specs.declared.Target.TheVariants.{Code}
+use Rattle.std.proofs.Common.{Some}
 use Rattle.record.specs.Parts.{pairs_by, field_by, fields_by, trace_by, form_from}
 use Rattle.fit.specs.Parts.{fit_from}
 use Rattle.write_samples.proofs.WordLaws.{samples_checked_lem}
@@ -80,12 +80,12 @@ module _ (s : List ℕ) (code : ℕ) (h : is_code code ≡ true) where
   fit_of m p = walk (fit_cause s code) 6 m (p + 3)
 
   -- the pairs of a field that stands, by 13 and 14
-  pairs_are : (m at : ℕ) → field_cause s 4 (m * 6) at ≡ Fine → pairs_by (Code code) s m (at + 3) ≡ first_of (walk (pair_check s code) 6 m (at + 3))
+  pairs_are : (m at : ℕ) → field_cause s 4 (m * 6) at ≡ Fine → pairs_by (Some code) s m (at + 3) ≡ first_of (walk (pair_check s code) 6 m (at + 3))
   unfolding pairs_by
   pairs_are m at e = samples_checked_lem s code m (at + 3) h (omega (arith, field_room s 4 (m * 6) at e))
 
   -- a field in which nothing is found is of the right form, and its samples fit
-  one_fine : (m at : ℕ) → field_by (Code code) s m at ≡ Fine → (field_form_in tag04 s m at ≡ Fine) × (first_of (fit_of m at) ≡ Fine)
+  one_fine : (m at : ℕ) → field_by (Some code) s m at ≡ Fine → (field_form_in tag04 s m at ≡ Fine) × (first_of (fit_of m at) ≡ Fine)
   unfolding field_by field_form_in
   one_fine m at e =
       let t = then_fine (field_cause s 4 (m * 6) at) _ e in
@@ -94,22 +94,22 @@ module _ (s : List ℕ) (code : ℕ) (h : is_code code ≡ true) where
       (ap₂ then t.0 p, sym (pairs_fit s code h 6 m (at + 3) p) ∙ q)
 
   -- what is found in a field of the right form
-  one_fit : (m at : ℕ) → field_form_in tag04 s m at ≡ Fine → field_by (Code code) s m at ≡ first_of (fit_of m at)
+  one_fit : (m at : ℕ) → field_form_in tag04 s m at ≡ Fine → field_by (Some code) s m at ≡ first_of (fit_of m at)
   unfolding field_by field_form_in
   one_fit m at e =
       let t = then_fine (field_cause s 4 (m * 6) at) _ e in
-      ap (λ (x : Check). then x (pairs_by (Code code) s m (at + 3))) t.0 ∙ pairs_are m at t.0 ∙ pairs_fit s code h 6 m (at + 3) t.1
+      ap (λ (x : Check). then x (pairs_by (Some code) s m (at + 3))) t.0 ∙ pairs_are m at t.0 ∙ pairs_fit s code h 6 m (at + 3) t.1
 
   module _ (c : ℕ) (some : 0 < c) where
     abbrev Both : ℕ → Type 0
-    Both n = (at : ℕ) → fields_by (Code code) s c n at ≡ Fine → (first_of (in_fields (field_form_in tag04 s) 6 c n at) ≡ Fine) × (first_of (flat (in_fields fit_of 6 c n at)) ≡ Fine)
+    Both n = (at : ℕ) → fields_by (Some code) s c n at ≡ Fine → (first_of (in_fields (field_form_in tag04 s) 6 c n at) ≡ Fine) × (first_of (flat (in_fields fit_of 6 c n at)) ≡ Fine)
 
     fields_fine : (n : ℕ) → Both n
     fields_fine =
         by_fields c some Both (λ n l at e. (ap first_of (in_none c some 6 (field_form_in tag04 s) n at l), ap (λ (x : List (List Check)). first_of (flat x)) (in_none c some 6 fit_of n at l)))
         (λ n l rest at e.
         let next = at + (3 + min c n * 6) in
-        let t = then_fine (field_by (Code code) s (min c n) at) _ (sym (fields_more (Code code) s c some n at l) ∙ e) in
+        let t = then_fine (field_by (Some code) s (min c n) at) _ (sym (fields_more (Some code) s c some n at l) ∙ e) in
         let x = one_fine (min c n) at t.0 in
         let y = rest next t.1 in (
           ap first_of (in_next c some 6 (field_form_in tag04 s) n at l) ∙ ap₂ then x.0 y.0,
@@ -117,15 +117,15 @@ module _ (s : List ℕ) (code : ℕ) (h : is_code code ≡ true) where
         ))
 
     abbrev Fits : ℕ → Type 0
-    Fits n = (at : ℕ) → first_of (in_fields (field_form_in tag04 s) 6 c n at) ≡ Fine → fields_by (Code code) s c n at ≡ first_of (flat (in_fields fit_of 6 c n at))
+    Fits n = (at : ℕ) → first_of (in_fields (field_form_in tag04 s) 6 c n at) ≡ Fine → fields_by (Some code) s c n at ≡ first_of (flat (in_fields fit_of 6 c n at))
 
     fields_fit : (n : ℕ) → Fits n
     fields_fit =
-        by_fields c some Fits (λ n l at e. fields_none (Code code) s c some n at l ∙ sym (ap (λ (x : List (List Check)). first_of (flat x)) (in_none c some 6 fit_of n at l)))
+        by_fields c some Fits (λ n l at e. fields_none (Some code) s c some n at l ∙ sym (ap (λ (x : List (List Check)). first_of (flat x)) (in_none c some 6 fit_of n at l)))
         (λ n l rest at e.
         let next = at + (3 + min c n * 6) in
         let t = then_fine (field_form_in tag04 s (min c n) at) _ (sym (ap first_of (in_next c some 6 (field_form_in tag04 s) n at l)) ∙ e) in
-        fields_more (Code code) s c some n at l
+        fields_more (Some code) s c some n at l
         ∙ ap₂ then (one_fit (min c n) at t.0) (rest next t.1)
         ∙ sym (ap (λ (z : List (List Check)). first_of (flat z)) (in_next c some 6 fit_of n at l) ∙ first_append (fit_of (min c n) at) (flat (in_fields fit_of 6 c (n - c) next))))
 
@@ -135,14 +135,14 @@ module _ (s : List ℕ) (code : ℕ) (h : is_code code ≡ true) where
     fit_is = ap first_of (pairs_in_fields (share_in tag04 s n at) (share_some tag04 s n at) 6 (fit_cause s code) n at)
 
     -- a trace's samples in which the one pass finds nothing are of the right form, and fit
-    judged_fine : fields_by (Code code) s (share_in tag04 s n at) n at ≡ Fine → (samples_causes_in tag04 s n at ≡ Fine) × (samples_fit s code n at ≡ Fine)
+    judged_fine : fields_by (Some code) s (share_in tag04 s n at) n at ≡ Fine → (samples_causes_in tag04 s n at ≡ Fine) × (samples_fit s code n at ≡ Fine)
     unfolding samples_causes_in
     judged_fine e =
         let x = fields_fine (share_in tag04 s n at) (share_some tag04 s n at) n at e in
         (x.0, fit_is ∙ x.1)
 
     -- in samples of the right form it finds the first that doesn't fit
-    judged_fit : samples_causes_in tag04 s n at ≡ Fine → fields_by (Code code) s (share_in tag04 s n at) n at ≡ samples_fit s code n at
+    judged_fit : samples_causes_in tag04 s n at ≡ Fine → fields_by (Some code) s (share_in tag04 s n at) n at ≡ samples_fit s code n at
     unfolding samples_causes_in
     judged_fit e = fields_fit (share_in tag04 s n at) (share_some tag04 s n at) n at e ∙ sym fit_is
 
@@ -150,7 +150,7 @@ module _ (s : List ℕ) (code : ℕ) (h : is_code code ≡ true) where
 
 module _ (s : List ℕ) (code n i : ℕ) (h : is_code code ≡ true) where
   -- a trace for which the check finds nothing
-  pub trace_fine : (at : ℕ) → trace_by (Code code) s n i at ≡ Fine → (trace_form_in tag04 s n i at ≡ Fine) × (trace_fit s code n at ≡ Fine)
+  pub trace_fine : (at : ℕ) → trace_by (Some code) s n i at ≡ Fine → (trace_form_in tag04 s n i at ≡ Fine) × (trace_fit s code n at ≡ Fine)
   unfolding trace_by trace_form_in
   trace_fine at e =
       let t = then_fine (header_causes s n i at) _ e in
@@ -158,7 +158,7 @@ module _ (s : List ℕ) (code n i : ℕ) (h : is_code code ≡ true) where
       (ap₂ then t.0 x.0, x.1)
 
   -- what the check finds in a trace of the right form
-  pub trace_fit_lem : (at : ℕ) → trace_form_in tag04 s n i at ≡ Fine → trace_by (Code code) s n i at ≡ trace_fit s code n at
+  pub trace_fit_lem : (at : ℕ) → trace_form_in tag04 s n i at ≡ Fine → trace_by (Some code) s n i at ≡ trace_fit s code n at
   unfolding trace_by trace_form_in
   trace_fit_lem at e =
       let t = then_fine (header_causes s n i at) _ e in
@@ -211,7 +211,7 @@ module _ (s : List ℕ) (n : ℕ) where
 
     module _ (i : ℕ) (h : is_code code ≡ true) (t at : ℕ) (e : is_more s t at ≡ true) where
       -- behind a trace for which the check finds nothing
-      pub body_more : trace_by (Code code) s n i at ≡ Fine
+      pub body_more : trace_by (Some code) s n i at ≡ Fine
           → then (form_from s n i (most_traces - t) t at) (fit_from s code n (most_traces - t) at)
           ≡ then (form_from s n i (most_traces - (t + 1)) (t + 1) (behind_trace_in tag04 s n at)) (fit_from s code n (most_traces - (t + 1)) (behind_trace_in tag04 s n at))
       body_more f =
@@ -221,11 +221,11 @@ module _ (s : List ℕ) (n : ℕ) where
           (fit_more t at e ∙ ap (λ c. then c (fit_from s code n (most_traces - (t + 1)) (behind_trace_in tag04 s n at))) x.1)
 
       -- at a trace for which it finds something
-      pub body_stop : {number : ℕ} {place : Place} → trace_by (Code code) s n i at ≡ Refused number place
-          → then (form_from s n i (most_traces - t) t at) (trace_by (Code code) s n i at) ≡ then (form_from s n i (most_traces - t) t at) (fit_from s code n (most_traces - t) at)
+      pub body_stop : {number : ℕ} {place : Place} → trace_by (Some code) s n i at ≡ Refused number place
+          → then (form_from s n i (most_traces - t) t at) (trace_by (Some code) s n i at) ≡ then (form_from s n i (most_traces - t) t at) (fit_from s code n (most_traces - t) at)
       body_stop {number} {place} f = go (form_from s n i (most_traces - t) t at) refl
         where
-          go : (c : Check) → form_from s n i (most_traces - t) t at ≡ c → then c (trace_by (Code code) s n i at) ≡ then c (fit_from s code n (most_traces - t) at)
+          go : (c : Check) → form_from s n i (most_traces - t) t at ≡ c → then c (trace_by (Some code) s n i at) ≡ then c (fit_from s code n (most_traces - t) at)
           go Fine q =
               let x = then_fine (trace_form_in tag04 s n i at) _ (sym (form_more s n i t at e) ∙ q) in
               let y = trace_fit_lem s code n i h at x.0 in

@@ -2,8 +2,8 @@
 use Rattle.std.specs.Prelude.{ℕ, zero, suc, List, eqb, get_or}
 use Rattle.numbers.specs.Walk.{pick}
 use Rattle.numbers.specs.Cause.{then}
-use Rattle.numbers.specs.declared.Check.{Check}
-use Rattle.numbers.specs.declared.Check.TheVariants.{Fine}
+use Rattle.numbers.specs.Cause.{Check}
+use Rattle.numbers.specs.Cause.{Fine}
 use Rattle.record.specs.Kind.{tag04}
 use Rattle.record.specs.Form.{behind_trace_in}
 use Rattle.fit.specs.Target.{trace_fit}

@@ -2,16 +2,16 @@
 use Rattle.std.specs.Prelude.{ℕ, ◌+◌, List, Bool, true, false, not}
 use Rattle.fields.specs.Fields.{each, pair_place}
 use Rattle.numbers.specs.Cause.{refuse_if, then, first_of}
-use Rattle.numbers.specs.declared.Check.{Check}
+use Rattle.numbers.specs.Cause.{Check}
 use Rattle.formats.specs.Codes.{is_code}
 use Rattle.value.specs.Pair.{pair_length}
 use Rattle.formats.specs.Words.{word_of}
-use Rattle.formats.specs.declared.Written.{Written}
-use Rattle.formats.specs.declared.Written.TheVariants as written
+use Rattle.formats.specs.Written.{Written}
+use Rattle.formats.specs.Written as written
 use Rattle.record.specs.Kind.{tag04}
 use Rattle.record.specs.Form.{to_samples, held_samples, share_in, trace_place, held_count, form_causes, record_found}
 use Rattle.record.specs.Held.{held_value}
-use Rattle.record.specs.declared.Judged.{Judged}
+use Rattle.record.specs.Judged.{Judged}
 
 -- There is no word.
 abbrev pub is_unfit : Written → Bool

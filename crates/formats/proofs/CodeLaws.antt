@@ -6,7 +6,9 @@ use native.Mathlib.Omega.{arith}
 use borrow.Author.Tests.{eqb-true, ne_eqb}
 use lib.Dec.{T, eqb}
 use Rattle.numbers.specs.Walk.{pick, bytes_at}
-use Rattle.formats.specs.Codes.{is_code, sample_bytes, word_length, ibm_format, ieee_format, format_of}
+use Rattle.formats.specs.declared.Code as code
+use Rattle.formats.specs.declared.Code.TheVariants as of
+use Rattle.formats.specs.Codes.{is_code, code_no, sample_bytes, word_length, ibm_format, ieee_format, format_of}
 use Rattle.formats.specs.Value.{word_number}
 use Rattle.formats.specs.Steps.{Sound, Float}
 use Rattle.numbers.specs.BigEndian.{number}
@@ -97,3 +99,14 @@ code_limits code h = go code (code_is code h)
     go code gain = (omega arith, omega arith)
     go code ieee = (omega arith, omega arith)
     go code whole8 = (omega arith, omega arith)
+
+-- ## The type of codes
+
+-- its numbers are the six codes
+pub code_no_is : (c : code.Code) → is_code (code_no c) ≡ true
+code_no_is of.Ibm = refl
+code_no_is of.Whole32 = refl
+code_no_is of.Whole16 = refl
+code_no_is of.Gain = refl
+code_no_is of.Ieee = refl
+code_no_is of.Whole8 = refl

@@ -13,10 +13,10 @@ use Rattle.numbers.specs.Walk.{pick}
 use Rattle.numbers.proofs.SignLaws.{below_or}
 use Rattle.numbers.specs.SignMagnitude.{sign_magnitude}
 use Rattle.numbers.proofs.BoolLaws.{and_false}
-use Rattle.formats.specs.Format.{unit, limit, fits_at, placed_at, placed}
+use Rattle.formats.specs.Format.{unit, limit, fits_at, placed_at, placed, beside}
+use Rattle.std.specs.Prelude.{Some, None}
 use Rattle.formats.specs.Steps.{Length, Lowest}
 use Rattle.formats.specs.declared.Format.{Format}
-use Rattle.formats.specs.declared.Placed.TheVariants.{At, Nowhere}
 use Rattle.numbers.proofs.FirstLaws.{first_at, none_passes}
 use Rattle.formats.proofs.Powers.{parted, exact_div, exact_mod, inexact, whole}
 use Rattle.numbers.proofs.Magnitudes.{neg_signed, abs_signed}
@@ -84,13 +84,13 @@ module _ (x : Format) where
     pub no_whole : (c : ℕ) → k < place c → fits_at x (sign_magnitude s (o * 2 ^ k)) c ≡ false
     no_whole c h = rw (abs_signed s (o * 2 ^ k), ne_eqb (o * 2 ^ k % unit x c) 0 (inexact o k (place c) odd h))
 
-    nowhere : ((i : ℕ) → i < x.characteristics → fits_at x (sign_magnitude s (o * 2 ^ k)) i ≡ false) → placed x (sign_magnitude s (o * 2 ^ k)) ≡ Nowhere
+    nowhere : ((i : ℕ) → i < x.characteristics → fits_at x (sign_magnitude s (o * 2 ^ k)) i ≡ false) → placed x (sign_magnitude s (o * 2 ^ k)) ≡ None
     nowhere f =
         ap (placed_at x (sign_magnitude s (o * 2 ^ k))) (none_passes (fits_at x (sign_magnitude s (o * 2 ^ k))) x.characteristics 0 (λ i z h. f i (omega arith)))
         ∙ rw (le-ltb (0 + x.characteristics) x.characteristics (omega arith))
 
     -- with a last 1 below all last places it is nowhere
-    pub placed_low : k < x.base → placed x (sign_magnitude s (o * 2 ^ k)) ≡ Nowhere
+    pub placed_low : k < x.base → placed x (sign_magnitude s (o * 2 ^ k)) ≡ None
     placed_low h = nowhere (λ i l. no_whole i (omega (arith, places_rise 0 i (omega arith))))
 
     -- and of n bits
@@ -125,19 +125,19 @@ module _ (x : Format) where
         below : (i : ℕ) → i < c → fits_at x (sign_magnitude s (o * 2 ^ k)) i ≡ false
         below i h = no_bits i (omega (arith, low.least i h))
 
-        pub placed_at_lem : c < x.characteristics → place c ≤ k → placed x (sign_magnitude s (o * 2 ^ k)) ≡ At c (o * 2 ^ (k - place c))
+        pub placed_at_lem : c < x.characteristics → place c ≤ k → placed x (sign_magnitude s (o * 2 ^ k)) ≡ Some (beside c (o * 2 ^ (k - place c)))
         placed_at_lem h l =
             ap (placed_at x (sign_magnitude s (o * 2 ^ k))) (first_at (fits_at x (sign_magnitude s (o * 2 ^ k))) x.characteristics 0 c (omega arith) (omega arith) (serves c l (omega (arith, low.enough))) (λ i z. below i))
             ∙ rw (lt-ltb c x.characteristics h, abs_signed s (o * 2 ^ k), exact_div o k (place c) l)
 
-        pub placed_high : x.characteristics ≤ c → placed x (sign_magnitude s (o * 2 ^ k)) ≡ Nowhere
+        pub placed_high : x.characteristics ≤ c → placed x (sign_magnitude s (o * 2 ^ k)) ≡ None
         placed_high h = nowhere (λ i l. below i (omega arith))
 
-        pub placed_odd : k < place c → placed x (sign_magnitude s (o * 2 ^ k)) ≡ Nowhere
+        pub placed_odd : k < place c → placed x (sign_magnitude s (o * 2 ^ k)) ≡ None
         placed_odd h = nowhere (λ i l. ⊎_elim (λ (j : i < c). below i j) (λ (j : c ≤ i). no_whole i (lt_of_lt_of_le h (places_rise c i j))) (below_or i c))
 
   -- zero has characteristic 0 and fraction 0
-  pub placed_zero : 0 < x.characteristics → placed x (pos 0) ≡ At 0 0
+  pub placed_zero : 0 < x.characteristics → placed x (pos 0) ≡ Some (beside 0 0)
   placed_zero h =
       ap (placed_at x (pos 0)) (first_at (fits_at x (pos 0)) x.characteristics 0 0 (omega arith) (omega arith) (zero_fits 0) (λ i z l. absurd (none i l)))
       ∙ rw (lt-ltb 0 x.characteristics h, zero-div)

@@ -17,7 +17,7 @@ use Rattle.formats.specs.Format.{unit}
 use Rattle.formats.specs.Codes.{denominator_power, gain_format}
 use Rattle.formats.specs.Words.{gain_fits, gain_at, gain_word}
 use Rattle.formats.specs.Steps.{Length}
-use Rattle.formats.specs.declared.Written.TheVariants.{Word, Refused}
+use Rattle.formats.specs.Written.{Word, Refused}
 use Rattle.numbers.proofs.FirstLaws.{first_at, none_passes}
 use Rattle.numbers.proofs.Magnitudes.{neg_signed, abs_signed}
 use Rattle.formats.proofs.FitLaws.{large, zero_fits, serves, no_bits, no_whole, fraction_at}

@@ -13,9 +13,10 @@ use Rattle.numbers.specs.Walk.{pick}
 use Rattle.numbers.proofs.SignLaws.{below_or}
 use Rattle.numbers.specs.SignMagnitude.{sign_magnitude, is_negative, is_multiple}
 use Rattle.numbers.proofs.BoolLaws.{and_true}
-use Rattle.formats.specs.Format.{Value, unit, limit, fits_at, least_serving, in_format, placed_at, placed}
+use Rattle.formats.specs.Format.{Value, unit, limit, fits_at, least_serving, in_format, placed_at, placed, beside}
+use Rattle.std.specs.Prelude.{Some, None}
 use Rattle.formats.specs.declared.Format.{Format}
-use Rattle.formats.specs.declared.Placed.TheVariants.{At, Nowhere}
+use Rattle.formats.specs.declared.Placed.{Placed}
 use Rattle.numbers.proofs.FirstLaws.{found, first_at}
 use Rattle.formats.proofs.Powers.{whole}
 use Rattle.numbers.proofs.Magnitudes.{neg_signed, abs_signed, signed_back, signed_zero}
@@ -66,16 +67,17 @@ module _ (x : Format) where
     pub is : nat_abs v ≡ f * unit x c
     pub least : (i : ℕ) → i < c → fits_at x v i ≡ false
 
-  pub placed_is : (v : ℤ) (c f : ℕ) → placed x v ≡ At c f → Place v c f
+  pub placed_is : (v : ℤ) (c f : ℕ) → placed x v ≡ Some (beside c f) → Place v c f
   placed_is v c f e = go (ltb r x.characteristics) refl e
     where
       r : ℕ
       r = least_serving x v
 
-      go : (b : Bool) → ltb r x.characteristics ≡ b → pick b (At r (nat_abs v / unit x r)) Nowhere ≡ At c f → Place v c f
+      go : (b : Bool) → ltb r x.characteristics ≡ b → pick b (Some (beside r (nat_abs v / unit x r))) None ≡ Some (beside c f) → Place v c f
       go true h q =
-          let i : r ≡ c = cc in
-          let j : nat_abs v / unit x r ≡ f = cc in
+          let p : beside r (nat_abs v / unit x r) ≡ beside c f = cc in
+          let i : r ≡ c = ap (λ (p : Placed). p.characteristic) p in
+          let j : nat_abs v / unit x r ≡ f = ap (λ (p : Placed). p.fraction) p in
           let b : r < x.characteristics = ltb-true r x.characteristics h in
           let s = served v r ((found (fits_at x v) x.characteristics 0).passes (omega arith)) in
           let at : (y : ℕ) → nat_abs v ≡ y * unit x r → y < limit x (is_negative v) → Place v r y =
@@ -83,27 +85,27 @@ module _ (x : Format) where
           subst (λ (y : ℕ). Place v y f) i (subst (Place v r) j (at _ s.0 s.1))
       go false h q = let z : ◌≡◌ {A = ℕ} 0 1 = cc in absurd (no_zero_one z)
 
-  pub placed_none : (v : ℤ) → placed x v ≡ Nowhere → in_format x v ≡ false
+  pub placed_none : (v : ℤ) → placed x v ≡ None → in_format x v ≡ false
   placed_none v e = go (in_format x v) refl e
     where
       r : ℕ
       r = least_serving x v
 
-      go : (b : Bool) → ltb r x.characteristics ≡ b → pick b (At r (nat_abs v / unit x r)) Nowhere ≡ Nowhere → in_format x v ≡ false
+      go : (b : Bool) → ltb r x.characteristics ≡ b → pick b (Some (beside r (nat_abs v / unit x r))) None ≡ None → in_format x v ≡ false
       go true h q = let z : ◌≡◌ {A = ℕ} 0 1 = cc in absurd (no_zero_one z)
       go false h q = h
 
-  pub placed_in : (v : ℤ) (c f : ℕ) → placed x v ≡ At c f → in_format x v ≡ true
+  pub placed_in : (v : ℤ) (c f : ℕ) → placed x v ≡ Some (beside c f) → in_format x v ≡ true
   placed_in v c f e = lt-ltb (least_serving x v) x.characteristics (go (in_format x v) refl e)
     where
       r : ℕ
       r = least_serving x v
 
-      go : (b : Bool) → ltb r x.characteristics ≡ b → pick b (At r (nat_abs v / unit x r)) Nowhere ≡ At c f → r < x.characteristics
+      go : (b : Bool) → ltb r x.characteristics ≡ b → pick b (Some (beside r (nat_abs v / unit x r))) None ≡ Some (beside c f) → r < x.characteristics
       go true h q = ltb-true r x.characteristics h
       go false h q = let z : ◌≡◌ {A = ℕ} 0 1 = cc in absurd (no_zero_one z)
 
-  pub placed_some : (v : ℤ) → in_format x v ≡ true → placed x v ≡ At (least_serving x v) (nat_abs v / unit x (least_serving x v))
+  pub placed_some : (v : ℤ) → in_format x v ≡ true → placed x v ≡ Some (beside (least_serving x v) (nat_abs v / unit x (least_serving x v)))
   placed_some v e = rw e
 
   -- zero's place is 0 and 0
@@ -149,7 +151,7 @@ module _ (x : Format) where
 
   -- LAW. Of sign and magnitude, a value has one normal place.
   pub placed_only : (v : ℤ) (c f : ℕ) → x.more ≡ false → x.digit ≤ x.fraction → c < x.characteristics → f < 2 ^ x.fraction → nat_abs v ≡ f * unit x c → (c ≡ 0) ⊎ (2 ^ (x.fraction - x.digit) ≤ f)
-      → placed x v ≡ At c f
+      → placed x v ≡ Some (beside c f)
   placed_only v c f m d h b e n =
       ap (placed_at x v) (first_at (fits_at x v) x.characteristics 0 c (omega arith) (omega arith) here (λ i z. before i))
       ∙ rw (lt-ltb c x.characteristics h, e, mul-div_cancel f (pow_pos (x.base + x.digit * c)))

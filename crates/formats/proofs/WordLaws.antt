@@ -9,6 +9,7 @@ use lib.IntN.{ℤ, nat_abs}
 use Rattle.numbers.specs.Walk.{pick}
 use Rattle.numbers.specs.SignMagnitude.{is_negative}
 use Rattle.formats.specs.Format.{unit, limit, in_format, least_serving, placed}
+use Rattle.std.specs.Prelude.{Option, Some, None}
 use Rattle.formats.specs.Steps.{Sound, Float}
 use Rattle.numbers.specs.First.{first}
 use lib.Dec.{eqb, ltb}
@@ -16,9 +17,7 @@ use Rattle.formats.specs.Codes.{ibm_format, whole_format, ieee_format}
 use Rattle.formats.specs.Words.{float_bits, float_of, float_word, whole_of, whole_word, gain_fits, gain_at, word_of}
 use Rattle.formats.specs.declared.Format.{Format}
 use Rattle.formats.specs.declared.Placed.{Placed}
-use Rattle.formats.specs.declared.Placed.TheVariants.{At, Nowhere}
-use Rattle.formats.specs.declared.Written.{Written}
-use Rattle.formats.specs.declared.Written.TheVariants.{Word, Refused}
+use Rattle.formats.specs.Written.{Written, Word, Refused}
 use Rattle.formats.proofs.PlacedLaws.{Place, placed_is, placed_some}
 
 -- characteristic and fraction leave the sign bit free
@@ -50,9 +49,11 @@ no_word e = let z : ◌≡◌ {A = ℕ} 0 1 = cc in omega arith
 pub float_is : (x : Format) (w y : ℕ) (v : ℤ) (n : ℕ) → float_word x w y v ≡ Word n → (c f : ℕ) × Place x v c f × (n ≡ float_bits w y (is_negative v) c f)
 float_is x w y v n h = go (placed x v) refl h
   where
-    go : (r : Placed) → placed x v ≡ r → float_of w y (is_negative v) r ≡ Word n → (c f : ℕ) × Place x v c f × (n ≡ float_bits w y (is_negative v) c f)
-    go (At c f) e q = let i : n ≡ float_bits w y (is_negative v) c f = cc in (c, f, placed_is x v c f e, i)
-    go Nowhere e q = absurd (no_word q)
+    go : (r : Option Placed) → placed x v ≡ r → float_of w y (is_negative v) r ≡ Word n → (c f : ℕ) × Place x v c f × (n ≡ float_bits w y (is_negative v) c f)
+    go (Some p) e q =
+        let i : n ≡ float_bits w y (is_negative v) p.characteristic p.fraction = cc in
+        (p.characteristic, p.fraction, placed_is x v p.characteristic p.fraction e, i)
+    go None e q = absurd (no_word q)
 
 pub float_some : (x : Format) (w y : ℕ) (v : ℤ) → in_format x v ≡ true → (n : ℕ) × (float_word x w y v ≡ Word n)
 float_some x w y v h = (float_bits w y (is_negative v) (least_serving x v) (nat_abs v / unit x (least_serving x v)), ap (float_of w y (is_negative v)) (placed_some x v h))
@@ -80,16 +81,16 @@ only_14 code v =
     float : (x : Format) (y : ℕ) → Only14 (float_word x 32 y v)
     float x y = go (placed x v)
       where
-        go : (r : Placed) → Only14 (float_of 32 y (is_negative v) r)
-        go (At c f) = tt
-        go Nowhere = refl
+        go : (r : Option Placed) → Only14 (float_of 32 y (is_negative v) r)
+        go (Some p) = tt
+        go None = refl
 
     whole : (w : ℕ) → Only14 (whole_word w v)
     whole w = go (placed (whole_format w) v)
       where
-        go : (r : Placed) → Only14 (whole_of w (is_negative v) r)
-        go (At c f) = tt
-        go Nowhere = refl
+        go : (r : Option Placed) → Only14 (whole_of w (is_negative v) r)
+        go (Some p) = tt
+        go None = refl
 
     gain : (g : ℕ) → Only14 (gain_at v g)
     gain g = go (ltb g 256) _

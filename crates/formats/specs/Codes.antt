@@ -1,6 +1,8 @@
 -- The format codes: which there are, the bytes of a sample under each, and the format of each.
-use Rattle.std.specs.Prelude.{ℕ, ◌+◌, ◌-◌, ◌*◌, ◌^◌, Bool, true, false, List, [], ◌∷◌, eqb}
+use Rattle.std.specs.Prelude.{ℕ, ◌+◌, ◌-◌, ◌*◌, ◌^◌, ◌≡◌, Bool, true, false, List, [], ◌∷◌, eqb, Option, Some, None}
 use Rattle.numbers.specs.Walk.{pick, is_among}
+use Rattle.formats.specs.declared.Code.{Code}
+use Rattle.formats.specs.declared.Code.TheVariants.{Ibm, Whole32, Whole16, Gain, Ieee, Whole8}
 use Rattle.formats.specs.declared.Format.{Format}
 
 -- The codes: 1 to 4 of document 01, and 5 and 8 of document 02 (CR 4).
@@ -10,6 +12,20 @@ codes = 1 ∷ 2 ∷ 3 ∷ 4 ∷ 5 ∷ 8 ∷ []
 -- A number is a code.
 abbrev pub is_code : ℕ → Bool
 is_code code = is_among code codes
+
+-- The number of a code.
+abbrev pub code_no : Code → ℕ
+code_no Ibm = 1
+code_no Whole32 = 2
+code_no Whole16 = 3
+code_no Gain = 4
+code_no Ieee = 5
+code_no Whole8 = 8
+
+-- The code of a number: the one with that number, or none, where the number is no code.
+abbrev pub CodeOf : ℕ → Option Code → Type 0
+CodeOf n (Some code) = code_no code ≡ n
+CodeOf n None = is_code n ≡ false
 
 -- The bytes of a sample: code 3 has two, code 8 has one, the others have four.
 abbrev pub sample_bytes : ℕ → ℕ

@@ -2,6 +2,7 @@
 pub mod Format
 pub mod Codes
 pub mod Value
+pub mod Written
 pub mod Words
 pub mod Nearest
 pub mod Steps

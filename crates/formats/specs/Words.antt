@@ -1,5 +1,5 @@
 -- The word of a value under each code, as the number of its bytes.
-use Rattle.std.specs.Prelude.{ℕ, ◌+◌, ◌-◌, ◌*◌, ◌/◌, ◌^◌, ◌≡◌, Bool, not, ◌||◌, ltb, eqb, ℤ, nat_abs}
+use Rattle.std.specs.Prelude.{ℕ, ◌+◌, ◌-◌, ◌*◌, ◌/◌, ◌^◌, ◌≡◌, Bool, not, ◌||◌, ltb, eqb, Option, Some, None, ℤ, nat_abs}
 use Rattle.numbers.specs.Walk.{pick}
 use Rattle.numbers.specs.First.{first}
 use Rattle.numbers.specs.TwosComplement.{bits_of}
@@ -9,9 +9,7 @@ use Rattle.formats.specs.Codes.{ibm_format, whole_format, gain_format, ieee_form
 use Rattle.formats.specs.Value.{characteristic, fraction, ibm_value}
 use Rattle.formats.specs.declared.Format.{Format}
 use Rattle.formats.specs.declared.Placed.{Placed}
-use Rattle.formats.specs.declared.Placed.TheVariants.{At, Nowhere}
-use Rattle.formats.specs.declared.Written.{Written}
-use Rattle.formats.specs.declared.Written.TheVariants.{Word, Refused}
+use Rattle.formats.specs.Written.{Written, Word, Refused}
 
 -- ## IBM and IEEE
 
@@ -21,9 +19,9 @@ abbrev pub float_bits : ℕ → ℕ → Bool → ℕ → ℕ → ℕ
 float_bits w y s c f = pick s (2 ^ (w - 1)) 0 + (c * 2 ^ y + f)
 
 -- The word of a sign and a place, or 14 where the value is in no place of the format.
-abbrev pub float_of : ℕ → ℕ → Bool → Placed → Written
-float_of w y s (At c f) = Word (float_bits w y s c f)
-float_of w y s Nowhere = Refused 14
+abbrev pub float_of : ℕ → ℕ → Bool → Option Placed → Written
+float_of w y s (Some p) = Word (float_bits w y s p.characteristic p.fraction)
+float_of w y s None = Refused 14
 
 -- The word of a value, with the least characteristic that serves. Zero is written without a sign: 00000000.
 abbrev pub float_word : Format → ℕ → ℕ → ℤ → Written
@@ -46,9 +44,9 @@ ibm_word v = float_word ibm_format 32 24 v
 -- ## Two's complement
 
 -- The word of a sign and a place, or 14.
-abbrev pub whole_of : ℕ → Bool → Placed → Written
-whole_of w s (At c f) = Word (bits_of w (sign_magnitude s f))
-whole_of w s Nowhere = Refused 14
+abbrev pub whole_of : ℕ → Bool → Option Placed → Written
+whole_of w s (Some p) = Word (bits_of w (sign_magnitude s p.fraction))
+whole_of w s None = Refused 14
 
 -- Codes 2, 3 and 8: the number itself, if whole and of w bits.
 abbrev pub whole_word : ℕ → ℤ → Written

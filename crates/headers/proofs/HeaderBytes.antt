@@ -10,7 +10,7 @@ use lib.ListN.{length, take, drop, replicate, length-append, length-map}
 use lib.Seq.{take_at, drop_at}
 use lib.IntN.{ℤ}
 use Rattle.numbers.specs.Walk.{bytes_at}
-use Rattle.numbers.specs.declared.Check.TheVariants.{Fine}
+use Rattle.numbers.specs.Cause.{Fine}
 use Rattle.numbers.proofs.CauseLaws.{passed, then_fine}
 use Rattle.numbers.specs.Terms.{Bytes}
 use Rattle.scalars.specs.Scalar.{power_of, group_numbers, group_scalar, is_allowed, is_smallest}

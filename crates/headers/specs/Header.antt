@@ -6,8 +6,8 @@ use Rattle.numbers.specs.BigEndian.{bytes_of}
 use Rattle.numbers.specs.TwosComplement.{bits_of}
 use Rattle.numbers.specs.Places.{byte_place}
 use Rattle.numbers.specs.Cause.{refuse_if, then}
-use Rattle.numbers.specs.declared.Check.{Check}
-use Rattle.numbers.specs.declared.Check.TheVariants.{Fine}
+use Rattle.numbers.specs.Cause.{Check}
+use Rattle.numbers.specs.Cause.{Fine}
 use Rattle.scalars.specs.Scalar.{group_numbers, group_scalar, is_smallest}
 use Rattle.reel.specs.Layout.{Field, trace_widths, elevation_scalar, coordinate_scalar, field_number}
 use Rattle.reel.specs.Meaning.{trace_number, elevation_fields, coordinate_fields, Header, header_of}

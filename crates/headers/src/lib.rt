@@ -5,12 +5,13 @@
 ghost use Rattle.std.specs.Prelude.{◌≡◌, ◌++◌, ◌+◌, ◌*◌, ◌^◌, ◌≤◌, ◌<◌, length, replicate, pos, ◌*ℤ◌};
 ghost use Rattle.std.specs.Int.Signed.{mag};
 ghost use Rattle.numbers.specs.Places.{place_no, byte_no, byte_place};
+ghost use Rattle.numbers.specs.Cause.{checked};
 ghost use Rattle.scalars.specs.Parts.{Fit32};
 ghost use Rattle.reel.specs.Layout.{number16};
 ghost use Rattle.headers.specs.Header.{header_size, smallest_causes, header_judged, header_read};
 ghost use Rattle.headers.specs.Parts.{number4, number2, numbers_in, times_factor, group_bytes, elevations_copied, coordinates_copied, own_or, field_filled, groups_copied, header_copied};
 
-use numbers::{ByteNo, Check, Place};
+use numbers::{ByteNo, Cause, Place, Refusal};
 
 // ## The groups of a header
 
@@ -63,32 +64,32 @@ fn four_at(s: &[u8], at: usize) -> [i32; 7]
 // ## 13 against the scalars of a record's header
 
 // Field 69, then field 71; byte number 1 stands at the place start.
-fn check_smallest(s: &[u8], start: usize) -> Check
+fn check_smallest(s: &[u8], start: usize) -> Result<(), Refusal>
     requires { start + header_size ≤ length s.now }
-    ensures { result ≡ smallest_causes s.now start }
+    ensures { checked result ≡ smallest_causes s.now start }
 {
     if !scalars::is_smallest(seven_at(s, start + 40), scalar_at(s, start + 68)) {
-        return Check::Refused {
-            number: 13,
+        return Err(Refusal {
+            cause: Cause::RecordNumber,
             place: Place(start + 68),
-        };
+        });
     }
     if !scalars::is_smallest(four_at(s, start + 72), scalar_at(s, start + 70)) {
-        return Check::Refused {
-            number: 13,
+        return Err(Refusal {
+            cause: Cause::RecordNumber,
             place: Place(start + 70),
-        };
+        });
     }
-    Check::Fine
+    Ok(())
 }
 
 // 13 against the scalars of a header that stands whole from a place on.
-pub fn judge_header(s: &[u8], start: Place) -> Check
-    ensures { result ≡ header_judged s.now (place_no start) }
+pub fn judge_header(s: &[u8], start: Place) -> Result<(), Refusal>
+    ensures { checked result ≡ header_judged s.now (place_no start) }
 {
     let p = start.0;
     if !slices::are_within(s.len(), 180, 1, p) {
-        return Check::Fine;
+        return Ok(());
     }
     check_smallest(s, p)
 }
@@ -113,7 +114,7 @@ fn put_numbers(reel: &[u8], at: usize, k: usize, factor: i32, out: &mut [u8])
     let mut left = k;
     while 0 < left {
         let e = o + 4;
-        slices::put32(
+        slices::put(
             numbers::bits32(times(number_at(reel, p), factor)),
             &mut out[o..e],
         );
@@ -130,7 +131,7 @@ fn put_elevations(reel: &[u8], at: usize, out: &mut [u8])
 {
     let scale = scalars::scale_of(seven_at(reel, at + 40), scalar_at(reel, at + 68));
     put_numbers(reel, at + 40, 7, scale.factor, &mut out[0..28]);
-    slices::put16(numbers::bits16(scale.scalar), &mut out[28..30]);
+    slices::put(numbers::bits16(scale.scalar), &mut out[28..30]);
 }
 
 // The scalar of its coordinates, and the coordinates.
@@ -139,7 +140,7 @@ fn put_coordinates(reel: &[u8], at: usize, out: &mut [u8])
     ensures { out.new ≡ coordinates_copied reel.now at }
 {
     let scale = scalars::scale_of(four_at(reel, at + 72), scalar_at(reel, at + 70));
-    slices::put16(numbers::bits16(scale.scalar), &mut out[0..2]);
+    slices::put(numbers::bits16(scale.scalar), &mut out[0..2]);
     put_numbers(reel, at + 72, 4, scale.factor, &mut out[2..18]);
 }
 
@@ -158,7 +159,7 @@ fn own_at(reel: &[u8], own: u16, at: usize, b: ByteNo) -> u16
     requires { (1 ≤ byte_no b) × (at + byte_no b ≤ length reel.now) }
     ensures { result ≡ own_or own (number16 reel.now (byte_place at (byte_no b))) }
 {
-    let v = slices::number16_at(reel, places::field_at(Place(at), b));
+    let v = slices::number_at::<u16>(reel, places::field_at(Place(at), b));
     if v == 0 {
         return own;
     }
@@ -172,7 +173,7 @@ fn fill_field(reel: &[u8], own: u16, at: usize, b: ByteNo, out: &mut [u8])
 {
     let v = own_at(reel, own, at, b);
     let p = places::field_at(Place(0), b).0;
-    slices::put16(v, &mut out[p..p + 2]);
+    slices::put(v, &mut out[p..p + 2]);
 }
 
 // The same, with N and the interval filled in.

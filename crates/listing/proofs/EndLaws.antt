@@ -1,30 +1,28 @@
--- The ways in which listing a record's cards ends, and taking a listing back. Assumes nothing.
+-- How listing a record's cards ends where it is taken, and taking a listing back. Assumes nothing.
 use mathlib.Core.Path.{◌≡◌, sym, ap, ap₂, ◌∙◌}
 use mathlib.Core.List.{List, [], ◌∷◌, ◌++◌}
 use mathlib.Core.Bool.{not}
-use Prim.Native.Nat.{ℕ, ◌≤◌, ◌<◌}
+use Prim.Native.Nat.{ℕ, ◌≤◌}
 use native.Mathlib.Omega.{arith}
-use borrow.Author.Tests.{lt-ltb, le-ltb, eqb-true, not-false}
+use borrow.Author.Tests.{le-ltb, eqb-true, not-false}
 use lib.Dec.{eqb}
 use lib.ListN.{length, drop}
 use Rattle.numbers.specs.Walk.{bytes_at}
 use Rattle.numbers.specs.Cause.{refuse_if}
 use Rattle.numbers.specs.Outcome.{taken, Outcome}
-use Rattle.numbers.specs.declared.Place.{Place}
-use Rattle.numbers.specs.declared.Check.TheVariants as check
+use Rattle.numbers.specs.Cause as check
 use Rattle.numbers.proofs.CauseLaws.{passed, then_fine}
 use Rattle.reel.specs.Layout.{card_bytes}
 use Rattle.record.specs.Form.{field_head, binary_place, held_samples, held_count, form_causes}
 use Rattle.record.specs.Held.{held_by_in}
 use Rattle.record.specs.Answer.{outcome}
-use Rattle.record.specs.declared.Answer.TheVariants as answer
 use Rattle.record.specs.Kind.{tag04}
 use Rattle.record.proofs.FormLaws.{held_length, place_front}
 use Rattle.record.proofs.JudgedLaws.{Own}
 use Rattle.listing.specs.Listing.{listing_length, listing_of, with_text, listing_causes}
 use Rattle.listing.specs.Calls.{listed, list_outcome, take_end, take_causes}
 use Rattle.listing.specs.Parts.{text_by, take_by}
-use Rattle.listing.specs.declared.Listed.TheVariants.{Taken, Refused}
+use Rattle.std.specs.Prelude.{Ok}
 
 -- A valid record has all its card bytes.
 pub long : (r : List ℕ) → form_causes r ≡ check.Fine → binary_place ≤ length r
@@ -40,35 +38,19 @@ listing_size listing f =
 -- ## Listing
 
 module _ (t r out : List ℕ) where
-  pub list_refused : (number : ℕ) (place : Place) → form_causes r ≡ check.Refused number place → listed (Refused number place) out ≡ list_outcome t r out
-  list_refused number place e = rw e
-
-  pub list_short : form_causes r ≡ check.Fine → length out < listing_length → listed (Refused 10 (record { 0 = listing_length })) out ≡ list_outcome t r out
-  list_short f l = rw (f, lt-ltb (length out) listing_length l)
-
   pub list_taken : form_causes r ≡ check.Fine → listing_length ≤ length out → (ys : List ℕ) → ys ≡ listing_of t (bytes_at r field_head card_bytes)
-      → listed (Taken listing_length) (ys ++ drop listing_length out) ≡ list_outcome t r out
+      → listed (Ok listing_length) (ys ++ drop listing_length out) ≡ list_outcome t r out
   unfolding held_by_in
   list_taken f l ys e = rw (f, le-ltb (length out) listing_length l, e)
 
 -- ## Taking back
 
-module _ (b r listing out : List ℕ) where
-  pub take_refused : (number : ℕ) (place : Place) → form_causes r ≡ check.Refused number place → outcome (answer.Refused number place) out ≡ take_by b r listing out
-  take_refused number place e = rw e
-
-  module _ {n t : ℕ} (o : Own r (form_causes r) n t) where
-    pub take_unlike : (number : ℕ) (place : Place) → listing_causes listing ≡ check.Refused number place → outcome (answer.Refused number place) out ≡ take_by b r listing out
-    take_unlike number place e = rw (o.fine, e)
-
-    pub take_short : listing_causes listing ≡ check.Fine → length out < length r → outcome (answer.Refused 10 (record { 0 = length r })) out ≡ take_by b r listing out
-    take_short f l = rw (o.fine, f, lt-ltb (length out) (length r) l)
-
-    pub take_taken : listing_causes listing ≡ check.Fine → length r ≤ length out → (ys : List ℕ) → ys ≡ with_text r (text_by b listing)
-        → outcome (answer.Taken t n (length r)) (ys ++ drop (length r) out) ≡ take_by b r listing out
-    take_taken f l ys e =
-        let fine : take_causes r listing (length out) ≡ check.Fine = rw (o.fine, f, le-ltb (length out) (length r) l) in
-        sym (ap (take_end r (text_by b listing) out) fine ∙ ap₂ (λ (x y : ℕ). made x y (with_text r (text_by b listing))) o.t_is o.n_is ∙ ap (made t n) (sym e))
-      where
-        made : ℕ → ℕ → List ℕ → Outcome
-        made x y l = record { said = taken (x ∷ y ∷ length r ∷ []); bytes = l ++ drop (length r) out }
+module _ (b r listing out : List ℕ) {n t : ℕ} (o : Own r (form_causes r) n t) where
+  pub take_taken : listing_causes listing ≡ check.Fine → length r ≤ length out → (ys : List ℕ) → ys ≡ with_text r (text_by b listing)
+      → outcome (Ok (record { traces = t; samples = n; length = length r })) (ys ++ drop (length r) out) ≡ take_by b r listing out
+  take_taken f l ys e =
+      let fine : take_causes r listing (length out) ≡ check.Fine = rw (o.fine, f, le-ltb (length out) (length r) l) in
+      sym (ap (take_end r (text_by b listing) out) fine ∙ ap₂ (λ (x y : ℕ). made x y (with_text r (text_by b listing))) o.t_is o.n_is ∙ ap (made t n) (sym e))
+    where
+      made : ℕ → ℕ → List ℕ → Outcome
+      made x y l = record { said = taken (x ∷ y ∷ length r ∷ []); bytes = l ++ drop (length r) out }

@@ -1,4 +1,7 @@
--- The lengths of a listing and of its text, and the table of card bytes that the way back uses. Assumes nothing.
+-- The lengths of a listing and of its text, what a loop over its parts has written, and the table of card bytes that the way back uses. Assumes
+-- nothing.
+use Rattle.std.proofs.Common.{add-one, suc-mul, zero-mul, rules, replicate, length-take, ltb, Bool, true, false}
+use borrow.Rule.Slice.PartMut.{put_mid}
 use mathlib.Core.Path.{◌≡◌, refl, sym, ap, ap₂, ◌∙◌}
 use mathlib.Core.List.{List, [], ◌∷◌, ◌++◌, map, append-nil}
 use Prim.Native.Nat.{ℕ, zero, suc, ◌+◌, ◌-◌, ◌*◌, ◌≤◌, ◌<◌}
@@ -8,19 +11,20 @@ use borrow.Author.Tests.{eq-eqb, ne_eqb}
 use lib.Dec.{eqb}
 use lib.ListN.{length, get_or, set, take, drop, length-append, length-map, length-drop}
 use lib.Seq.{take_all}
-use Rattle.numbers.specs.Walk.{walk, flat, bytes_at, overwritten}
+use Rattle.numbers.specs.Walk.{pick, walk, flat, bytes_at, overwritten}
 use Rattle.numbers.specs.First.{first}
 use Rattle.numbers.specs.Terms.{All, Bytes}
-use Rattle.numbers.proofs.WalkLaws.{cons_eq, walk_same, walk_at, map_walk, flat_length, size_bytes, bytes_part}
+use Rattle.numbers.proofs.WalkLaws.{cons_eq, walk_same, walk_at, map_walk, flat_length, flat_none, size_bytes, bytes_part}
 use Rattle.numbers.proofs.AllLaws.{map_same}
 use Rattle.numbers.proofs.ByteLaws.{bytes_at_lem}
 use Rattle.numbers.proofs.FirstLaws.{found}
-use Rattle.numbers.proofs.Filling.{Filling, start}
+use Rattle.numbers.proofs.Filling.{Filling, start, again, left, finish, close, part_put}
+use Rattle.numbers.proofs.Filling as Filling
 use Rattle.reel.specs.Layout.{card_bytes}
 use Rattle.reel.specs.Meaning.{blank}
 use Rattle.record.specs.Form.{field_head, binary_place}
 use Rattle.code_page.specs.Page.{char_of, code_in, inverse}
-use Rattle.listing.specs.Listing.{card_count, card_length, line_length, listing_length, card_line, listing_of, card_byte, card_of, text_of, with_text}
+use Rattle.listing.specs.Listing.{card_count, card_length, line_length, listing_length, line_feed, card_line, listing_of, card_byte, card_of, text_of, with_text}
 use Rattle.listing.specs.Parts.{entry_of, closing, part_by, parts_by, text_by}
 
 -- ## Lengths
@@ -72,11 +76,57 @@ text_parts r text h n =
     let at : field_head + length text ≡ binary_place = omega arith in
     ap₂ (λ (x y : List ℕ). x ++ (text ++ y)) front (ap (λ (p : ℕ). drop p r) at ∙ behind)
 
--- Nothing of the parts is written: all are left.
-pub parts_begun : (table : List ℕ) (from size : ℕ) (s out : List ℕ) → card_length + length (closing size) ≡ size → length out ≡ card_count * size
-    → Filling (parts_by table from size s) out 0 (flat (map (part_by table size s) (walk (λ p. p) from card_count 0)))
-unfolding parts_by
-parts_begun table from size s out h n = start (parts_by table from size s) out (n ∙ sym (size_parts table from size s h))
+-- ## Part by part
+
+-- What has room for 80 bytes and what closes them is closed by line feeds in all that stands behind the 80.
+pub feeds : (size : ℕ) → card_length + length (closing size) ≡ size → replicate (size - card_length) line_feed ≡ closing size
+feeds size h = let e : size - card_length ≡ length (closing size) = omega arith in rw e (some (ltb card_length size))
+  where
+    some : (b : Bool) → replicate (length (pick b (line_feed ∷ []) [])) line_feed ≡ pick b (line_feed ∷ []) []
+    some true = refl
+    some false = refl
+
+-- The last part lent, up to the end of the slice: as it comes back, the slice is what it was to become.
+pub close_all : {all out : List ℕ} {o : ℕ} (new : List ℕ) {ys : List ℕ} → Filling all out o new → ys ≡ new → put_mid o (length out - o) out ys ≡ all
+close_all {all} {out} {o} new w is =
+    let n : o + length new ≡ length out = left w in
+    close new (length out) w (omega arith) (omega arith) is
+
+-- As many bytes as are lent.
+pub size_lent : (o n : ℕ) (out : List ℕ) → o + n ≤ length out → length (take (o + n - o) (drop o out)) ≡ n
+size_lent o n out h = simp (length-take, length-drop) (omega arith)
+
+-- A part is within 40 of them.
+pub part_within : (i w : ℕ) → i < card_count → i * w + w ≤ card_count * w
+part_within i w l = search rules
+
+-- One part more.
+turn : (i w : ℕ) → i * w + w ≡ (i + 1) * w
+turn i w = rw (add-one, suc-mul) (omega arith)
+
+module _ (table : List ℕ) (from size : ℕ) (s : List ℕ) where
+  -- The first i of 40 parts are written.
+  abbrev pub PartsPut : List ℕ → ℕ → Type 0
+  PartsPut out i =
+      Filling (parts_by table from size s) out (i * size) (flat (map (part_by table size s) (walk (λ p. p) from (card_count - i) (i * from))))
+
+  module _ (out : List ℕ) (h : card_length + length (closing size) ≡ size) where
+    -- None is, and all are left.
+    pub parts_begun : length out ≡ card_count * size → PartsPut out 0
+    unfolding parts_by
+    parts_begun n = rw (zero-mul size, zero-mul from) (start (parts_by table from size s) out (n ∙ sym (size_parts table from size s h)))
+
+    -- The next is lent, and comes back as it is to be.
+    pub parts_more : (i : ℕ) {ys : List ℕ} → i < card_count → PartsPut out i → ys ≡ part_by table size s (i * from)
+        → PartsPut (put_mid (i * size) (i * size + size - i * size) out ys) (i + 1)
+    parts_more i l w is =
+        let k : card_count - i - 1 ≡ card_count - (i + 1) = omega arith in
+        let put = part_put (part_by table size s) (λ p. p) from size (size_part table size s h) (card_count - i) (i * from) (i * size) (i * size + size) (omega arith) refl w is in
+        again (Filling.from put (turn i size)) (ap₂ (λ (x y : ℕ). flat (map (part_by table size s) (walk (λ p. p) from x y))) k (turn i from))
+
+    -- All 40 are.
+    pub parts_done : (i : ℕ) → card_count ≤ i → PartsPut out i → out ≡ parts_by table from size s
+    parts_done i e w = finish w (flat_none (part_by table size s) (λ p. p) from (card_count - i) (i * from) (omega arith))
 
 -- ## The table of card bytes
 

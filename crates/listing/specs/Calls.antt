@@ -1,26 +1,25 @@
 -- The complete outcome of listing a record's cards, and of taking a corrected listing back, by a table.
-use Rattle.std.specs.Prelude.{ℕ, List, [], ◌∷◌, ◌++◌, ltb, length, drop}
-use Rattle.numbers.specs.Cause.{refuse_if, then}
+use Rattle.std.specs.Prelude.{ℕ, List, [], ◌∷◌, ◌++◌, ltb, length, drop, Result, Ok, Err}
+use Rattle.numbers.specs.Cause.{refuse_if, then, number_of}
 use Rattle.numbers.specs.Outcome.{Said, taken, refused, Outcome}
 use Rattle.numbers.specs.Places.{place_no}
-use Rattle.numbers.specs.declared.Check.{Check}
-use Rattle.numbers.specs.declared.Check.TheVariants as check
+use Rattle.numbers.specs.Cause.{Check}
+use Rattle.numbers.specs.Cause as check
 use Rattle.record.specs.Form.{held_samples, held_count, form_causes}
 use Rattle.record.specs.Held.{held_by}
 use Rattle.listing.specs.Listing.{listing_length, listing_of, text_of, with_text, listing_causes}
-use Rattle.listing.specs.declared.Listed.{Listed}
-use Rattle.listing.specs.declared.Listed.TheVariants.{Taken, Refused}
+use Rattle.numbers.specs.declared.Refusal.{Refusal}
 
 -- ## Listing
 
 -- The papers' number and values for each case of the answer: taken with the listing's length; refused with the number and what stands
 -- beside it.
-abbrev pub said_by : Listed → Said
-said_by (Taken l) = taken (l ∷ [])
-said_by (Refused number place) = refused number (place_no place)
+abbrev pub said_by : Result ℕ Refusal → Said
+said_by (Ok l) = taken (l ∷ [])
+said_by (Err r) = refused (number_of r.cause) (place_no r.place)
 
 -- What the call says and leaves in its output.
-abbrev pub listed : Listed → List ℕ → Outcome
+abbrev pub listed : Result ℕ Refusal → List ℕ → Outcome
 listed r out = record { said = said_by r; bytes = out }
 
 -- The record front to back by 12 and 13; then 10: the output is too short.

@@ -4,7 +4,7 @@
 use Rattle.std.specs.Prelude.{ℕ, List, [], ◌∷◌, ◌++◌, map, not, eqb, length, get_or}
 use Rattle.numbers.specs.Walk.{walk, flat, bytes_at, overwritten}
 use Rattle.numbers.specs.Cause.{refuse_if, then, first_of}
-use Rattle.numbers.specs.declared.Check.{Check}
+use Rattle.numbers.specs.Cause.{Check}
 use Rattle.reel.specs.Meaning.{blank}
 use Rattle.record.specs.Form.{field_head}
 use Rattle.code_page.specs.Page.{char_of, code_in}

@@ -9,7 +9,7 @@ use lib.ListN.{length, get_or}
 use Rattle.numbers.specs.Cause.{refuse_if}
 use Rattle.numbers.specs.Iff.{Iff}
 use Rattle.numbers.specs.Terms.{at_place}
-use Rattle.numbers.specs.declared.Check.TheVariants.{Fine, Refused}
+use Rattle.numbers.specs.Cause.{Fine, Refused}
 use Rattle.numbers.proofs.RowLaws.{Tests, refused_where, row_where, then_row, then_first, then_second, fine_then, refused_then, holds_then, row_then, test_same, test_room, not_enough, too_short, walk_fine, walk_holds, walk_refused, walk_row}
 use Rattle.record.specs.Form.{form_causes}
 use Rattle.demands.proofs.FormRefusals.{exact_form, no_form_cause}

@@ -13,8 +13,8 @@ use Rattle.numbers.specs.BigEndian.{number}
 use Rattle.numbers.specs.TwosComplement.{signed_of}
 use Rattle.numbers.specs.Cause.{refuse_if}
 use Rattle.numbers.specs.Terms.{All, Bytes}
-use Rattle.numbers.specs.declared.Check.{Check}
-use Rattle.numbers.specs.declared.Check.TheVariants.{Fine}
+use Rattle.numbers.specs.Cause.{Check}
+use Rattle.numbers.specs.Cause.{Fine}
 use Rattle.numbers.proofs.WalkLaws.{cons_eq, all_take, all_drop, bytes_part, size_bytes}
 use Rattle.numbers.proofs.AllLaws.{all_append}
 use Rattle.numbers.proofs.CauseLaws.{then_fine}

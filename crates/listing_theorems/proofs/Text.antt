@@ -8,7 +8,7 @@ use lib.ListN.{length, get_or, drop, length-map}
 use lib.Seq.{take_all}
 use Rattle.numbers.specs.Walk.{walk, flat, bytes_at}
 use Rattle.numbers.specs.Terms.{All, Bytes}
-use Rattle.numbers.specs.declared.Check.TheVariants.{Fine}
+use Rattle.numbers.specs.Cause.{Fine}
 use Rattle.numbers.proofs.WalkLaws.{cons_eq, at_zero, at_suc, walk_same, walk_at, map_walk, all_take, all_drop, all_at, split, size_bytes, bytes_part}
 use Rattle.numbers.proofs.ByteLaws.{bytes_append, bytes_at_lem}
 use Rattle.numbers.proofs.AllLaws.{all_map, all_flat}

@@ -31,8 +31,8 @@ use Rattle.numbers.specs.Walk.{pick, bytes_at}
 use Rattle.numbers.specs.Outcome.{Said, taken, refused}
 use Rattle.numbers.specs.Iff.{Iff}
 use Rattle.numbers.specs.Terms.{Bytes}
-use Rattle.numbers.specs.declared.Check.{Check}
-use Rattle.numbers.specs.declared.Check.TheVariants.{Fine}
+use Rattle.numbers.specs.Cause.{Check}
+use Rattle.numbers.specs.Cause.{Fine}
 use Rattle.numbers.proofs.CauseLaws.{then_fine, at_most}
 use Rattle.numbers.proofs.ByteLaws.{byte_at_lem as below}
 use Rattle.numbers.proofs.Filling.{size_over}

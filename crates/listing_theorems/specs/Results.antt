@@ -2,7 +2,7 @@
 use Rattle.std.specs.Prelude.{◌≡◌, List, ℕ, ◌+◌, ◌*◌, ◌≤◌, ◌<◌, eqb, length, get_or, take, drop}
 use Rattle.numbers.specs.Walk.{pick}
 use Rattle.numbers.specs.Terms.{Bytes}
-use Rattle.numbers.specs.declared.Check.TheVariants.{Fine}
+use Rattle.numbers.specs.Cause.{Fine}
 use Rattle.record.specs.Form.{held_samples, held_count, form_causes}
 use Rattle.record.specs.Held.{held_by}
 use Rattle.code_page.specs.Page.{char_of, code_in}

@@ -20,8 +20,8 @@
 #![tactic(auto)]
 
 use cases::Stop;
-use listing::Listed;
-use record::Answer;
+use numbers::Refusal;
+use record::Taken;
 use std::io;
 use std::io::Read;
 
@@ -47,25 +47,27 @@ impl TryFrom<u8> for Call {
 }
 
 // Prints the line of a record whose cards are listed.
-fn print_listed(rt: &impl Print, answer: Listed, out: &[u8]) -> io::Result<()> {
+fn print_listed(rt: &impl Print, answer: Result<usize, Refusal>, out: &[u8]) -> io::Result<()> {
     match answer {
-        Listed::Taken { length } => println!(rt; "taken {length} {}", digests::digest(out)),
-        Listed::Refused { number, place } => cases::print_refused(rt, number, place, out),
+        Ok(length) => println!(rt; "taken {length} {}", digests::digest(out)),
+        Err(refusal) => cases::print_refused(rt, refusal, out),
     }
 }
 
 // Prints the line of a listing that is taken back.
-fn print_taken(rt: &impl Print, answer: Answer, out: &[u8]) -> io::Result<()> {
+fn print_taken(rt: &impl Print, answer: Result<Taken, Refusal>, out: &[u8]) -> io::Result<()> {
     match answer {
-        Answer::Taken {
-            traces,
-            samples,
-            length,
-        } => println!(rt;
+        Ok(
+            Taken {
+                traces,
+                samples,
+                length,
+            },
+        ) => println!(rt;
             "taken {traces} {samples} {length} {}",
             digests::digest(out)
         ),
-        Answer::Refused { number, place } => cases::print_refused(rt, number, place, out),
+        Err(refusal) => cases::print_refused(rt, refusal, out),
     }
 }
 

@@ -4,45 +4,34 @@ use mathlib.Core.Path.{◌≡◌, refl, sym, ap, ◌∙◌, subst}
 use mathlib.Core.Logic.{⊎_elim}
 use mathlib.Core.List.{List, [], ◌∷◌}
 use mathlib.Core.Bool.{Bool, true, false, ◌&&◌}
-use Prim.Native.Nat.{ℕ, zero, suc, ◌+◌, ◌%◌, ◌≤◌, ◌<◌}
+use Prim.Native.Nat.{ℕ, zero, suc, ◌+◌, ◌≤◌, ◌<◌}
 use native.Mathlib.Nat.{eq-or-lt_of_le}
 use native.Mathlib.Omega.{arith}
-use borrow.Author.Tests.{leb-true, eqb-true, lt-leb, lt-ltb, le-ltb, ne_eqb}
+use borrow.Author.Tests.{leb-true, eqb-true, lt-leb, lt-ltb, le-ltb}
 use lib.Dec.{leb, ltb, eqb}
 use Rattle.numbers.specs.Walk.{pick}
 use Rattle.numbers.proofs.SignLaws.{below_or}
 use Rattle.reel.specs.Layout.{Field, binary_widths, binary_fields, trace_widths, trace_fields}
-use Rattle.look_up.specs.LookUp.{Found, found, none, field_in, is_none}
+use Rattle.look_up.specs.LookUp.{Found, found, none, field_in, header_fields}
 use Rattle.numbers.proofs.BoolLaws.{and_true}
 use Rattle.look_up.specs.Parts.{in_row, width_of, the_field}
 
 -- ## A test of each field
 
--- a field of two or four bytes that begins at lo or behind it and ends before hi
+-- a field of two bytes or more that begins at lo or behind it and ends before hi
 pub record Lies (lo hi b w : ℕ) : Type 0 where
   pub low : lo ≤ b
   pub high : b + w ≤ hi
   pub least : 2 ≤ w
-  pub most : w ≤ 4
-  pub even : w % 2 ≡ 0
 
 abbrev lies_in : ℕ → ℕ → Field → Bool
-lies_in lo hi f =
-    leb lo f.begins && (leb (f.begins + f.width) hi && (leb 2 f.width && (leb f.width 4 && eqb (f.width % 2) 0)))
+lies_in lo hi f = leb lo f.begins && (leb (f.begins + f.width) hi && leb 2 f.width)
 
 lies_true : (lo hi : ℕ) (f : Field) → lies_in lo hi f ≡ true → Lies lo hi f.begins f.width
 lies_true lo hi f e =
     let p = and_true (leb lo f.begins) _ e in
     let q = and_true (leb (f.begins + f.width) hi) _ p.1 in
-    let r = and_true (leb 2 f.width) _ q.1 in
-    let s = and_true (leb f.width 4) _ r.1 in
-    record {
-      low = leb-true _ _ p.0;
-      high = leb-true _ _ q.0;
-      least = leb-true _ _ r.0;
-      most = leb-true _ _ s.0;
-      even = eqb-true _ _ s.1;
-    }
+    record { low = leb-true _ _ p.0; high = leb-true _ _ q.0; least = leb-true _ _ q.1 }
 
 abbrev each_lies : ℕ → ℕ → List Field → Bool
 each_lies lo hi [] = true
@@ -71,7 +60,7 @@ found_at lo hi (f ∷ fs) e b =
 pub record Told (lo hi b : ℕ) (x : Found) : Type 0 where
   pub is : 0 < width_of x → x ≡ found (the_field b (width_of x))
   pub lies : 0 < width_of x → Lies lo hi b (width_of x)
-  pub nowhere : is_none x ≡ eqb (width_of x) 0
+  pub missing : width_of x ≡ 0 → x ≡ none
 
 told : (lo hi b : ℕ) (x : Found) → FoundAt lo hi b x → Told lo hi b x
 unfolding FoundAt
@@ -79,12 +68,12 @@ told lo hi b (found f) p =
     record {
       is = λ h. ap (λ (n : ℕ). found (the_field n f.width)) p.0;
       lies = λ h. p.1;
-      nowhere = sym (ne_eqb f.width 0 (λ z. some z p.1.least));
+      missing = λ z. absurd (some z p.1.least);
     }
   where
     some : {w : ℕ} → w ≡ 0 → 2 ≤ w → ⊥
     some z h = omega arith
-told lo hi b none p = record { is = λ h. absurd (empty h); lies = λ h. absurd (empty h); nowhere = refl }
+told lo hi b none p = record { is = λ h. absurd (empty h); lies = λ h. absurd (empty h); missing = λ z. refl }
   where
     empty : 0 < 0 → ⊥
     empty h = omega arith
@@ -178,3 +167,21 @@ trace_width = rows 1 180 trace_fields trace_row trace_told trace_rows before beh
     behind : (b : ℕ) → 181 ≤ b → trace_row b ≡ 0
     behind b h =
         rw (le-ltb b 29 (omega arith), le-ltb b 37 (omega arith), le-ltb b 69 (omega arith), le-ltb b 73 (omega arith), le-ltb b 89 (omega arith), le-ltb b 181 h)
+
+-- ## Either header
+
+-- what begins at b in the header that a trace number means
+pub told_in : (k b : ℕ) → Told 1 3261 b (field_in b (header_fields k))
+told_in k b = go (eqb k 0)
+  where
+    wider : {lo hi : ℕ} {x : Found} → 1 ≤ lo → hi ≤ 3261 → Told lo hi b x → Told 1 3261 b x
+    wider h l t =
+        record {
+          is = t.is;
+          lies = λ p. let y = t.lies p in record { low = omega (arith, y.low); high = omega (arith, y.high); least = y.least };
+          missing = t.missing;
+        }
+
+    go : (t : Bool) → Told 1 3261 b (field_in b (pick t binary_fields trace_fields))
+    go true = wider (omega arith) (omega arith) (binary_told b)
+    go false = wider (omega arith) (omega arith) (trace_told b)

@@ -1,17 +1,15 @@
 -- Looking up one header field: it takes a reel, a trace number (0 means the binary header, 1 the first trace) and a byte number.
-use Rattle.std.specs.Prelude.{ℕ, ◌+◌, ◌-◌, ◌*◌, List, [], ◌∷◌, Bool, true, false, eqb, ltb, ℤ, pos}
+use Rattle.std.specs.Prelude.{ℕ, ◌+◌, ◌-◌, ◌*◌, List, [], ◌∷◌, Bool, true, false, eqb, ltb, ℤ, pos, Result, Ok, Err}
 use Rattle.numbers.specs.Walk.{pick}
 use Rattle.numbers.specs.Places.{place_no, byte_no}
-use Rattle.numbers.specs.Cause.{refuse_if, then, first_of}
+use Rattle.numbers.specs.Cause.{refuse_if, then, first_of, number_of}
 use Rattle.numbers.specs.Outcome.{Said, taken, refused}
 use Rattle.numbers.specs.declared.ByteNo.{ByteNo}
-use Rattle.numbers.specs.declared.Check.{Check}
-use Rattle.numbers.specs.declared.Check.TheVariants.{Fine, Refused}
+use Rattle.numbers.specs.declared.Refusal.{Refusal}
+use Rattle.numbers.specs.Cause.{Check, Fine, Refused}
 use Rattle.reel.specs.Layout.{Field, first_trace, binary_fields, trace_fields, field_number, samples_of, interval_of, stride_of, traces_of}
 use Rattle.reel.specs.Meaning.{trace_number}
 use Rattle.reel.specs.Causes.{causes_of}
-use Rattle.look_up.specs.declared.Answer.{Answer}
-use Rattle.look_up.specs.declared.Answer.TheVariants as answer
 
 -- ## The field
 
@@ -78,6 +76,6 @@ look_up_outcome s k b = number_said (look_up_causes s k b) (found_number s k (fi
 
 -- Document 01's number and values for each case of the answer: taken with the signed number; or refused with the number and what stands
 -- beside it, and then the looked-up number is 0.
-abbrev pub looked_up : Answer → NumberOutcome
-looked_up (answer.Taken z) = record { said = taken []; value = z }
-looked_up (answer.Refused number place) = record { said = refused number (place_no place); value = pos 0 }
+abbrev pub looked_up : Result ℤ Refusal → NumberOutcome
+looked_up (Ok z) = record { said = taken []; value = z }
+looked_up (Err r) = record { said = refused (number_of r.cause) (place_no r.place); value = pos 0 }

@@ -14,15 +14,15 @@ use Rattle.numbers.specs.Walk.{walk, sum, bytes_at}
 use Rattle.numbers.specs.Cause.{refuse_if, then}
 use Rattle.numbers.specs.Outcome.{Said, taken, Outcome}
 use Rattle.numbers.specs.Terms.{Bytes}
-use Rattle.numbers.specs.declared.Check.{Check}
-use Rattle.numbers.specs.declared.Check.TheVariants.{Fine}
+use Rattle.numbers.specs.Cause.{Check}
+use Rattle.numbers.specs.Cause.{Fine}
 use Rattle.numbers.proofs.CauseLaws.{passed, then_fine, at_most}
 use Rattle.numbers.proofs.WalkLaws.{cons_eq, walk_each, walk_same, map_walk}
 use Rattle.formats.specs.Codes.{is_code, sample_bytes, word_length}
 use Rattle.formats.specs.Value.{exact_value}
 use Rattle.formats.specs.Words.{word_of}
 use Rattle.formats.specs.Nearest.{nearest_value, changes, differs}
-use Rattle.formats.specs.declared.Written.{Written}
+use Rattle.formats.specs.Written.{Written}
 use Rattle.format_theorems.proofs.NearestTheorems.{nearest_means}
 use Rattle.reel.specs.Layout.{first_trace, trace_header, stride, interval_of, samples_of, code_of, traces_of}
 use Rattle.reel.specs.Meaning.{Trace, trace_meaning, Meaning, meaning_by, meaning_of}

@@ -7,7 +7,7 @@ use lib.Dec.{ltb}
 use Rattle.numbers.specs.Cause.{refuse_if}
 use Rattle.numbers.specs.Iff.{Iff}
 use Rattle.numbers.specs.Terms.{Among, at_place}
-use Rattle.numbers.specs.declared.Check.TheVariants.{Refused}
+use Rattle.numbers.specs.Cause.{Refused}
 use Rattle.numbers.proofs.RowLaws.{refused_where, row_where, then_row, then_first, then_second, fine_then, refused_then, row_then, test_room, not_enough, too_short}
 use Rattle.record.specs.Form.{held_samples, form_causes}
 use Rattle.write_reel.specs.Reel.{reel_length}

@@ -40,9 +40,9 @@ use lib.IntN.{ℤ}
 use Rattle.numbers.specs.Outcome.{Said, taken, refused, Outcome}
 use Rattle.numbers.specs.Iff.{Iff}
 use Rattle.numbers.specs.Terms.{Among, Bytes}
-use Rattle.numbers.specs.declared.Check.{Check}
+use Rattle.numbers.specs.Cause.{Check}
 use Rattle.numbers.specs.Cause.{refuse_if, then}
-use Rattle.numbers.specs.declared.Check.TheVariants.{Fine, Refused}
+use Rattle.numbers.specs.Cause.{Fine, Refused}
 use Rattle.numbers.proofs.WalkLaws.{cons_eq}
 use Rattle.numbers.proofs.SaidLaws.{says_refused, says_fine, says_either, refused_by, taken_by, keeps_rest}
 use Rattle.formats.specs.Codes.{is_code, sample_bytes}

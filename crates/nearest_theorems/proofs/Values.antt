@@ -13,8 +13,8 @@ use Rattle.formats.specs.Codes.{is_code, sample_bytes, format_of}
 use Rattle.formats.specs.Value.{value_in, is_bad, exact_value}
 use Rattle.formats.specs.Words.{word_of}
 use Rattle.formats.specs.Nearest.{nearest_value, changes}
-use Rattle.formats.specs.declared.Written.{Written}
-use Rattle.formats.specs.declared.Written.TheVariants.{Word, Refused}
+use Rattle.formats.specs.Written.{Written}
+use Rattle.formats.specs.Written.{Word, Refused}
 use Rattle.formats.proofs.DifferLaws.{same_differs}
 use Rattle.formats.proofs.NearestLaws.{nearest_in_lem, nearest_self, nearest_other, code_rounds}
 use Rattle.format_theorems.proofs.WordTheorems.{word_sound, word_complete, word_in_format}

@@ -15,8 +15,8 @@ use Rattle.numbers.proofs.WalkLaws.{flat_size, all_both}
 use Rattle.formats.specs.Codes.{is_code, sample_bytes, word_length}
 use Rattle.formats.specs.Value.{is_bad, word_number}
 use Rattle.formats.specs.Words.{word_of, word_bits}
-use Rattle.formats.specs.declared.Written.{Written}
-use Rattle.formats.specs.declared.Written.TheVariants.{Word, Refused}
+use Rattle.formats.specs.Written.{Written}
+use Rattle.formats.specs.Written.{Word, Refused}
 use Rattle.formats.proofs.CodeLaws.{word_there}
 use Rattle.format_theorems.proofs.WordTheorems.{word_sound}
 use Rattle.reel.specs.Layout.{first_trace, trace_header, stride}

@@ -4,12 +4,12 @@ use Rattle.std.specs.Prelude.{◌≡◌, List, [], ◌∷◌, ◌++◌, ℕ, ◌
 use Rattle.numbers.specs.Walk.{walk, sum, bytes_at}
 use Rattle.numbers.specs.Outcome.{taken}
 use Rattle.numbers.specs.Terms.{Bytes}
-use Rattle.numbers.specs.declared.Check.TheVariants.{Fine}
+use Rattle.numbers.specs.Cause.{Fine}
 use Rattle.formats.specs.Codes.{sample_bytes, word_length}
 use Rattle.formats.specs.Value.{word_number}
 use Rattle.formats.specs.Words.{word_of}
 use Rattle.formats.specs.Nearest.{nearest_value, differs}
-use Rattle.formats.specs.declared.Written.TheVariants.{Word}
+use Rattle.formats.specs.Written.{Word}
 use Rattle.format_theorems.specs.Nearness.{NearestOf}
 use Rattle.reel.specs.Layout.{code_of, samples_of, traces_of}
 use Rattle.reel.specs.Causes.{causes_of}

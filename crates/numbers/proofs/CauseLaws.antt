@@ -1,13 +1,12 @@
 -- The first cause, found a step at a time, and what follows where there is none.
 -- Assumes nothing.
-use Rattle.std.proofs.Common.{◌≡◌, ℕ, zero, suc, ◌+◌, ◌-◌, ◌<◌, ◌≤◌, Bool, true, false, ltb, List, [], ◌∷◌, sym, refl, ap, ◌∙◌, not-suc-le-zero, arith, ltb-false}
+use Rattle.std.proofs.Common.{◌≡◌, ℕ, zero, suc, ◌+◌, ◌-◌, ◌*◌, ◌<◌, ◌≤◌, Bool, true, false, ltb, List, [], ◌∷◌, sym, refl, ap, ◌∙◌, not-suc-le-zero, arith, ltb-false}
 use Rattle.numbers.specs.Terms.{All}
 use Rattle.numbers.specs.Walk.{walk}
 use Rattle.numbers.specs.Cause.{refuse_if, then, first_of}
 use Rattle.numbers.specs.declared.Place.{Place}
-use Rattle.numbers.specs.declared.Check.{Check}
-use Rattle.numbers.specs.declared.Check.TheVariants.{Fine, Refused}
-use Rattle.numbers.proofs.WalkLaws.{walk_more, all_walk}
+use Rattle.numbers.specs.Cause.{Check, Fine, Refused}
+use Rattle.numbers.proofs.WalkLaws.{walk_more, all_walk, at_zero, times_more}
 
 -- ## A step at a time
 
@@ -47,6 +46,40 @@ module _ (f : ℕ → Check) (w k at : ℕ) where
   pub first_stop : {number : ℕ} {place : Place} → 0 < k → f at ≡ Refused number place
       → first_of (walk f w k at) ≡ Refused number place
   first_stop h e = step h ∙ ap (λ x. then x (first_of (walk f w (k - 1) (at + w)))) e
+
+-- ## A walk by index
+
+-- None of the first i checks of a walk of n refuses, so that its answer is that of the rest.
+abbrev pub NoneBefore : (ℕ → Check) → ℕ → ℕ → ℕ → ℕ → Type 0
+NoneBefore f w n at i = first_of (walk f w n at) ≡ first_of (walk f w (n - i) (at + i * w))
+
+module _ (f : ℕ → Check) (w n at : ℕ) where
+  pub none_yet : NoneBefore f w n at 0
+  none_yet =
+      let e : at + 0 * w ≡ at = at_zero at w in
+      let z : n - 0 ≡ n = omega arith in
+      rw (e, z) refl
+
+  turn : (i : ℕ) → i < n → first_of (walk f w (n - i) (at + i * w)) ≡ then (f (at + i * w)) (first_of (walk f w (n - (i + 1)) (at + (i + 1) * w)))
+  turn i h =
+      let k : n - i - 1 ≡ n - (i + 1) = omega arith in
+      let o : i + 1 - 1 ≡ i = omega arith in
+      let m : (i + 1) * w ≡ w + i * w = times_more (i + 1) w (omega arith) ∙ ap (λ (k : ℕ). w + k * w) o in
+      let p : at + i * w + w ≡ at + (i + 1) * w = omega (arith, m) in
+      rw (walk_more f w (n - i) (at + i * w) (omega arith), k, p) refl
+
+  -- The check at the index finds nothing.
+  pub none_more : (i : ℕ) → i < n → NoneBefore f w n at i → f (at + i * w) ≡ Fine → NoneBefore f w n at (i + 1)
+  none_more i h q e = q ∙ turn i h ∙ ap (λ x. then x (first_of (walk f w (n - (i + 1)) (at + (i + 1) * w)))) e
+
+  -- It refuses, and that is the answer.
+  pub none_stop : (i : ℕ) {number : ℕ} {place : Place} → i < n → NoneBefore f w n at i → f (at + i * w) ≡ Refused number place
+      → Refused number place ≡ first_of (walk f w n at)
+  none_stop i h q e = sym (q ∙ turn i h ∙ ap (λ x. then x (first_of (walk f w (n - (i + 1)) (at + (i + 1) * w)))) e)
+
+  -- None of all n refuses.
+  pub none_left : (i : ℕ) → n ≤ i → NoneBefore f w n at i → Fine ≡ first_of (walk f w n at)
+  none_left i h q = first_none f w (n - i) (at + i * w) (omega arith) ∙ sym q
 
 -- ## Where there is no cause
 

@@ -1,6 +1,7 @@
 -- The laws that every crate uses, each stated once, over the width or the index.
 pub mod BoolLaws
 pub mod WalkLaws
+pub mod LowFirst
 pub mod AllLaws
 pub mod CauseLaws
 pub mod RowLaws

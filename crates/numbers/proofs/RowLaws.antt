@@ -7,8 +7,7 @@ use Rattle.numbers.specs.Cause.{refuse_if, then, first_of}
 use Rattle.numbers.specs.Places.{place_no}
 use Rattle.numbers.specs.Iff.{Iff}
 use Rattle.numbers.specs.Terms.{Between, ZeroOr, at_place}
-use Rattle.numbers.specs.declared.Check.{Check}
-use Rattle.numbers.specs.declared.Check.TheVariants.{Fine, Refused}
+use Rattle.numbers.specs.Cause.{Check, Fine, Refused}
 use Rattle.numbers.proofs.BoolLaws.{and_true, and_both}
 use Rattle.numbers.proofs.WalkLaws.{at_zero, at_suc}
 use Rattle.numbers.proofs.CauseLaws.{not_fine, then_fine}

@@ -1,9 +1,12 @@
 -- Laws of walks, of lists joined, and of the bytes of a list by offset.
 -- Assumes nothing.
-use Rattle.std.proofs.Common.{◌≡◌, ℕ, zero, suc, ◌+◌, ◌-◌, ◌*◌, ◌<◌, ◌≤◌, List, [], ◌∷◌, ◌++◌, map, length, get_or, take, drop, sym, refl, ap, ◌∙◌, append-nil, not-suc-le-zero, add-zero, suc-mul, zero-add, zero-mul, add-one, arith, length-append, drop_of_length-le, drop-cons, take_at, drop_at, eq-eqb}
+use Rattle.std.proofs.Common.{◌≡◌, ℕ, zero, suc, ◌+◌, ◌-◌, ◌*◌, ◌<◌, ◌≤◌, List, [], ◌∷◌, ◌++◌, map, length, get_or, take, drop, sym, refl, ap, ◌∙◌, append-nil, not-suc-le-zero, add-zero, suc-mul, zero-add, zero-mul, add-one, arith, length-append, drop_of_length-le, drop-cons, take_at, drop_at, eq-eqb, replicate, ⊎_elim}
+use borrow.Author.Tests.{ne_eqb}
+use lib.ListN.{get_or-eq_default}
 use lib.Seq.{sets, sets-eq}
 use Rattle.numbers.specs.Walk.{walk, flat, sum, bytes_at, copy_of}
 use Rattle.numbers.specs.Terms.{All}
+use Rattle.numbers.proofs.SignLaws.{below_or}
 
 less_one : (k : ℕ) → suc k - 1 ≡ k
 less_one k = omega arith
@@ -237,6 +240,29 @@ six_bytes s at =
 pub copied : (src out : List ℕ) {ys : List ℕ} → ys ≡ copy_of src out → length out ≡ length src → ys ≡ src
 unfolding copy_of
 copied src out p e = p ∙ rw (eq-eqb (length out) (length src) e)
+
+-- a slice of another length is left as it was
+pub left_alone : (src out : List ℕ) → (length out ≡ length src → ⊥) → out ≡ copy_of src out
+unfolding copy_of
+left_alone src out n = rw (ne_eqb (length out) (length src) n)
+
+-- the bytes by offset, 0 for each past the end: those that are there, and zeros behind them
+pub bytes_padded : (s : List ℕ) (at k z : ℕ) → k ≤ length s - at + z → bytes_at s at k ≡ take k (drop at s ++ replicate z 0)
+unfolding bytes_at
+bytes_padded s at k z h = go k at z h
+  where
+    zeros : (k at z : ℕ) → length s ≤ at → k ≤ z → walk (λ a. get_or s a 0) 1 k at ≡ take k (replicate z 0)
+    zeros zero at z e h = refl
+    zeros (suc k) at zero e h = absurd (not-suc-le-zero h)
+    zeros (suc k) at (suc z) e h = cons_eq (get_or-eq_default s 0 e) (zeros k (at + 1) z (omega arith) (omega arith))
+
+    go : (k at z : ℕ) → k ≤ length s - at + z → walk (λ a. get_or s a 0) 1 k at ≡ take k (drop at s ++ replicate z 0)
+    go zero at z h = refl
+    go (suc k) at z h =
+        ⊎_elim
+        (λ (i : at < length s). rw (drop_next s at i) (ap (λ (l : List ℕ). get_or s at 0 ∷ l) (go k (at + 1) z (omega arith))))
+        (λ (e : length s ≤ at). rw (drop_of_length-le s e) (zeros (suc k) at z e (omega arith)))
+        (below_or at (length s))
 
 -- values stored one by one in a slice as long as they are
 pub stored_copy : (vs out : List ℕ) → length out ≡ length vs → sets out 0 vs ≡ copy_of vs out

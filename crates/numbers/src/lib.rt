@@ -1,8 +1,10 @@
 // What every layer uses: the types of places, byte numbers and checks, numbers of bytes in either order, two's complement.
 #![tactic(auto)]
 
-ghost use Rattle.std.specs.Prelude.{◌≡◌, ◌^◌, ◌≤◌, [], ◌∷◌, reverse, unsigned_abs};
+ghost use Rattle.std.specs.Prelude.{◌≡◌, ◌^◌, ◌≤◌, [], ◌∷◌, unsigned_abs, ℕ, ℤ, length, ◌*◌, ◌-◌};
 ghost use Rattle.numbers.specs.BigEndian.{number, bytes_of};
+ghost use Rattle.std.proofs.Common.{rules};
+ghost use Rattle.numbers.specs.Cause.{number_of};
 ghost use Rattle.numbers.specs.TwosComplement.{signed_of, bits_of};
 
 // A byte number, document 01's own term: the standard's, counted from 1.
@@ -11,24 +13,196 @@ pub struct ByteNo(pub u32);
 
 // A place, document 01's own term: an offset in the input, counted from 0. A length is the place
 // behind the last byte.
-#[derive(Clone, Copy)]
+#[derive(Clone, Copy, Debug, PartialEq, Eq)]
 pub struct Place(pub usize);
 
-// What a check finds: nothing against the input, or the first cause against it by its number, with
-// the place that stands beside it in the table, which is a length for numbers 1 and 10.
-#[derive(Clone, Copy)]
-pub enum Check {
-    Fine,
-    Refused { number: u8, place: Place },
+// The causes of a refusal, in the order of their numbers. A reel's: it is shorter than its headers; its format code, N or interval is outside
+// its limits; bytes stand behind the last whole trace; it has more than 100,000 traces; a trace's own N or interval is neither 0 nor the
+// reel's; the first byte of a gain word isn't 00. An output's: it is too short. A target code's: it is none. A record's: its form is wrong; it
+// holds a number no record has; a sample doesn't fit the target code. Of looking up: no such trace, no such field. A listing's: its length or a
+// line. A reel's again: a scalar that isn't allowed, an infinity or a not-a-number, the end of a trailer. A box's: its lengths, its rules.
+#[derive(Clone, Copy, Debug, PartialEq, Eq)]
+pub enum Cause {
+    ShortReel,
+    FormatCode,
+    SampleCount,
+    Interval,
+    BytesLeft,
+    TooManyTraces,
+    TraceSamples,
+    TraceInterval,
+    GainWord,
+    ShortOutput,
+    TargetCode,
+    RecordForm,
+    RecordNumber,
+    Unfit,
+    NoTrace,
+    NoField,
+    Listing,
+    Scalar,
+    NotFinite,
+    Trailer,
+    BoxLengths,
+    BoxRule,
 }
 
-// Where a byte number stands in the input.
-#[derive(Clone, Copy)]
-pub enum Located {
-    At(Place),
-    Nowhere,
+impl Cause {
+    // The number of the cause in the table of refusals.
+    pub fn number(self) -> u8
+        ensures { result ≡ number_of self }
+    {
+        match self {
+            Cause::ShortReel => 1,
+            Cause::FormatCode => 2,
+            Cause::SampleCount => 3,
+            Cause::Interval => 4,
+            Cause::BytesLeft => 5,
+            Cause::TooManyTraces => 6,
+            Cause::TraceSamples => 7,
+            Cause::TraceInterval => 8,
+            Cause::GainWord => 9,
+            Cause::ShortOutput => 10,
+            Cause::TargetCode => 11,
+            Cause::RecordForm => 12,
+            Cause::RecordNumber => 13,
+            Cause::Unfit => 14,
+            Cause::NoTrace => 15,
+            Cause::NoField => 16,
+            Cause::Listing => 17,
+            Cause::Scalar => 18,
+            Cause::NotFinite => 19,
+            Cause::Trailer => 20,
+            Cause::BoxLengths => 21,
+            Cause::BoxRule => 22,
+        }
+    }
 }
 
+// A refusal: the first cause against what was lent, with the place that stands beside it in the table, which is a length for short reels and
+// outputs, and for a listing of another length.
+#[derive(Clone, Copy, Debug, PartialEq, Eq)]
+pub struct Refusal {
+    pub cause: Cause,
+    pub place: Place,
+}
+
+// A number of two or of four bytes: its bytes, of which the first stands highest, and its bits in two's complement.
+pub trait Number: Copy {
+    type Signed: Copy;
+
+    ghost value: { Self → ℕ };
+
+    ghost integer: { Self.Signed → ℤ };
+
+    ghost SIZE: { ℕ };
+
+    // Its bytes.
+    const SIZE: usize;
+
+    // The number of as many bytes.
+    fn of_bytes(bytes: &[u8]) -> Self
+        requires { length bytes.now ≡ SIZE }
+        ensures { value result ≡ number bytes.now };
+
+    // Stores the number's bytes.
+    fn put(self, out: &mut [u8])
+        requires { length out.old ≡ SIZE }
+        ensures { out.new ≡ bytes_of SIZE (value self) };
+
+    // The signed number of these bits.
+    fn signed(self) -> Self::Signed
+        ensures { integer result ≡ signed_of (8 * SIZE) (value self) };
+
+    // The bits of a signed number.
+    fn of_signed(z: Self::Signed) -> Self
+        ensures { value result ≡ bits_of (8 * SIZE) (integer z) };
+
+    // The magnitude of the signed number of these bits, by subtraction from zero.
+    fn magnitude(self) -> Self
+        ensures is { value result ≡ unsigned_abs (signed_of (8 * SIZE) (value self)) }
+        ensures most { value result ≤ 2 ^ (8 * SIZE - 1) };
+
+    ghost short: { SIZE ≤ 8 };
+}
+
+impl Number for u16 {
+    type Signed = i16;
+
+    ghost SIZE = { 2 };
+
+    const SIZE: usize = 2;
+
+    ghost value = { λ n. n };
+
+    ghost integer = { λ z. z };
+
+    fn of_bytes(bytes: &[u8]) -> u16 {
+        u16::from_be_bytes([bytes[0], bytes[1]])
+    }
+
+    fn put(self, out: &mut [u8]) {
+        let bytes = self.to_be_bytes();
+        out[0] = bytes[0];
+        out[1] = bytes[1];
+    }
+
+    fn signed(self) -> i16 {
+        self.cast_signed()
+    }
+
+    fn of_signed(z: i16) -> u16 {
+        z.cast_unsigned()
+    }
+
+    ghost short = { Prim.search rules };
+
+    fn magnitude(self) -> u16 {
+        if 0x8000 <= self {
+            0u16.wrapping_sub(self)
+        } else {
+            self
+        }
+    }
+}
+
+impl Number for u32 {
+    type Signed = i32;
+
+    ghost SIZE = { 4 };
+
+    const SIZE: usize = 4;
+
+    ghost value = { λ n. n };
+
+    ghost integer = { λ z. z };
+
+    fn of_bytes(bytes: &[u8]) -> u32 {
+        u32::from_be_bytes([bytes[0], bytes[1], bytes[2], bytes[3]])
+    }
+
+    fn put(self, out: &mut [u8]) {
+        out.copy_from_slice(&self.to_be_bytes());
+    }
+
+    fn signed(self) -> i32 {
+        self.cast_signed()
+    }
+
+    fn of_signed(z: i32) -> u32 {
+        z.cast_unsigned()
+    }
+
+    ghost short = { Prim.search rules };
+
+    fn magnitude(self) -> u32 {
+        if 0x8000_0000 <= self {
+            0u32.wrapping_sub(self)
+        } else {
+            self
+        }
+    }
+}
 // The number of two bytes, the first of which stands highest.
 pub fn be16(a: u8, b: u8) -> u16
     ensures { result ≡ number (a ∷ b ∷ []) }
@@ -50,13 +224,6 @@ pub fn le32(a: u8, b: u8, c: u8, d: u8) -> u32
     a as u32 + b as u32 * 0x100 + c as u32 * 0x1_0000 + d as u32 * 0x100_0000
 }
 
-// The number of eight bytes, the first lowest. As two halves the compiler makes one fetch of it, of bytes that stand together.
-pub fn le64(a: u8, b: u8, c: u8, d: u8, e: u8, f: u8, g: u8, h: u8) -> u64
-    ensures { result ≡ number (h ∷ g ∷ f ∷ e ∷ d ∷ c ∷ b ∷ a ∷ []) }
-{
-    le32(a, b, c, d) as u64 + le32(e, f, g, h) as u64 * 0x1_0000_0000
-}
-
 // The two bytes of a number.
 pub fn bytes16(n: u16) -> [u8; 2]
     ensures { result ≡ bytes_of 2 n }
@@ -73,22 +240,6 @@ pub fn bytes32(n: u32) -> [u8; 4]
         (n / 0x1_0000 % 256) as u8,
         (n / 256 % 256) as u8,
         (n % 256) as u8,
-    ]
-}
-
-// The eight bytes of a number, the lowest first.
-pub fn le_bytes64(x: u64) -> [u8; 8]
-    ensures { result ≡ reverse (bytes_of 8 x) }
-{
-    [
-        (x % 256) as u8,
-        (x / 256 % 256) as u8,
-        (x / 0x1_0000 % 256) as u8,
-        (x / 0x100_0000 % 256) as u8,
-        (x / 0x1_0000_0000 % 256) as u8,
-        (x / 0x100_0000_0000 % 256) as u8,
-        (x / 0x1_0000_0000_0000 % 256) as u8,
-        (x / 0x100_0000_0000_0000 % 256) as u8,
     ]
 }
 

@@ -12,7 +12,7 @@ use lib.Seq.{length-take-le, get_or-take, get_or-append-add}
 use Rattle.numbers.specs.Walk.{flat, bytes_at}
 use Rattle.numbers.specs.BigEndian.{number}
 use Rattle.numbers.specs.Terms.{Between}
-use Rattle.numbers.specs.declared.Check.TheVariants.{Fine}
+use Rattle.numbers.specs.Cause.{Fine}
 use Rattle.numbers.proofs.WalkLaws.{walk_same}
 use Rattle.fields.specs.Fields.{each}
 use Rattle.fields.proofs.EachLaws.{run_none}

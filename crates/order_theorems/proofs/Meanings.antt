@@ -12,7 +12,7 @@ use lib.Seq.{length-take-le}
 use Rattle.numbers.specs.Walk.{flat}
 use Rattle.numbers.specs.Terms.{All, Bytes}
 use Rattle.numbers.specs.TwosComplement.{signed_of}
-use Rattle.numbers.specs.declared.Check.TheVariants.{Fine}
+use Rattle.numbers.specs.Cause.{Fine}
 use Rattle.numbers.proofs.CauseLaws.{then_fine, passed}
 use Rattle.numbers.proofs.WalkLaws.{map_walk, split, flat_size, flat_inj}
 use Rattle.fields.specs.Fields.{each}

@@ -7,8 +7,8 @@ use native.Mathlib.Omega.{arith}
 use Rattle.numbers.specs.Terms.{Among}
 use Rattle.numbers.specs.Places.{place_no}
 use Rattle.numbers.specs.declared.Place.{Place}
-use Rattle.numbers.specs.declared.Check.{Check}
-use Rattle.numbers.specs.declared.Check.TheVariants.{Fine, Refused}
+use Rattle.numbers.specs.Cause.{Check}
+use Rattle.numbers.specs.Cause.{Fine, Refused}
 use Rattle.record.specs.Form.{form_causes}
 use Rattle.demands.specs.Tables.{FormRow}
 use Rattle.demands.proofs.FormRefusals.{exact_form, no_form_cause}

@@ -39,7 +39,7 @@ use lib.ListN.{length, take, length-append}
 use Rattle.numbers.specs.Iff.{Iff}
 use Rattle.numbers.specs.Terms.{All, Among, Bytes}
 use Rattle.numbers.specs.Outcome.{taken}
-use Rattle.numbers.specs.declared.Check.TheVariants.{Fine}
+use Rattle.numbers.specs.Cause.{Fine}
 use Rattle.formats.specs.Codes.{ibm_format, ieee_format}
 use Rattle.formats.specs.Words.{ibm_word, is_normal, word_of}
 use Rattle.formats.specs.Value.{ibm_value, word_number}

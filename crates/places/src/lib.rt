@@ -4,23 +4,17 @@
 ghost use Rattle.std.specs.Prelude.{◌≡◌};
 ghost use Rattle.numbers.specs.Places.{located, field_place};
 
-use numbers::{ByteNo, Located, Place};
+use numbers::{ByteNo, Place};
 
 // The one conversion, where byte number 1 stands at the place start: at 0 for the byte numbers of
-// the binary header, at the trace's first byte for those of a trace header.
-pub fn place_of(start: Place, b: ByteNo) -> Located
+// the binary header, at the trace's first byte for those of a trace header. Byte number 0 stands nowhere, nor
+// does one whose place would be no number of 64 bits.
+pub fn place_of(start: Place, b: ByteNo) -> Option<Place>
     ensures { result ≡ located start b }
 {
-    let from = start.0;
-    let n = b.0;
-    if n < 1 {
-        return Located::Nowhere;
-    }
-    let past = (n - 1) as usize;
-    if 0xffff_ffff_ffff_ffff - past < from {
-        return Located::Nowhere;
-    }
-    Located::At(Place(from + past))
+    let past = b.0.checked_sub(1)?;
+    let at = start.0.checked_add(past as usize)?;
+    Some(Place(at))
 }
 
 // The place of a field of a header whose byte number 1 stands at the place start. A byte number that
@@ -28,9 +22,5 @@ pub fn place_of(start: Place, b: ByteNo) -> Located
 pub fn field_at(start: Place, b: ByteNo) -> Place
     ensures { result ≡ field_place start b }
 {
-    let found = place_of(start, b);
-    let Located::At(p) = found else {
-        return Place(0xffff_ffff_ffff_ffff);
-    };
-    p
+    place_of(start, b).unwrap_or(Place(usize::MAX))
 }

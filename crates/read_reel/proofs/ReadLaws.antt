@@ -10,7 +10,7 @@ use lib.ListN.{length, drop}
 use Rattle.numbers.specs.Terms.{Bytes}
 use Rattle.numbers.specs.Outcome.{taken, Outcome}
 use Rattle.numbers.specs.declared.Place.{Place}
-use Rattle.numbers.specs.declared.Check.TheVariants as check
+use Rattle.numbers.specs.Cause as check
 use Rattle.reel.specs.Layout.{first_trace, samples_of, interval_of, code_of, stride, stride_in, stride_by, traces_by}
 use Rattle.formats.specs.Codes.{sample_bytes, is_code}
 use Rattle.reel.specs.Causes.{most_samples, most_traces, causes_by}

@@ -13,8 +13,8 @@ use Rattle.numbers.specs.Places.{byte_place}
 use Rattle.numbers.specs.BigEndian.{number}
 use Rattle.numbers.specs.TwosComplement.{signed_of}
 use Rattle.numbers.specs.Cause.{refuse_if, then, first_of}
-use Rattle.numbers.specs.declared.Check.{Check}
-use Rattle.numbers.specs.declared.Check.TheVariants.{Fine}
+use Rattle.numbers.specs.Cause.{Check}
+use Rattle.numbers.specs.Cause.{Fine}
 use Rattle.numbers.proofs.WalkLaws.{walk_same}
 use Rattle.fields.specs.Fields.{each, run_from, fields_in, field_count, field_place, pair_place, fields_length, in_fields}
 use Rattle.fields.proofs.FieldsLaws.{each_like}

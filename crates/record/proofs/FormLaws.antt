@@ -6,6 +6,7 @@ use Prim.Native.Nat.{ℕ, zero, suc, ◌+◌, ◌-◌, ◌*◌, ◌≤◌, ◌<�
 use native.Mathlib.Nat.{add-zero, zero-add, zero-mul, suc-mul}
 use native.Mathlib.Numerals.{add-one}
 use native.Mathlib.Omega.{arith}
+use Rattle.std.proofs.Common.{Option, None, Some}
 use borrow.Author.Tests.{leb-true, eqb-true, ltb-false, ltb-true, not-true, not-false, lt-ltb}
 use lib.Dec.{T, leb, ltb, eqb}
 use lib.ListN.{length, get_or, get_or-eq_default}
@@ -14,8 +15,8 @@ use Rattle.numbers.specs.Places.{byte_place}
 use Rattle.numbers.specs.BigEndian.{number}
 use Rattle.numbers.specs.Cause.{refuse_if, then, first_of}
 use Rattle.numbers.specs.declared.Place.{Place}
-use Rattle.numbers.specs.declared.Check.{Check}
-use Rattle.numbers.specs.declared.Check.TheVariants.{Fine, Refused}
+use Rattle.numbers.specs.Cause.{Check}
+use Rattle.numbers.specs.Cause.{Fine, Refused}
 use Rattle.numbers.proofs.CauseLaws.{then_assoc, passed, then_fine}
 use Rattle.numbers.proofs.BoolLaws.{and_true}
 use Rattle.cards.specs.Cards.{no_zero}
@@ -29,9 +30,7 @@ use Rattle.headers.specs.Header.{smallest_causes}
 use Rattle.record.specs.Kind.{Kind, tag04}
 use Rattle.record.specs.Record.{field_samples, trace_length_in}
 use Rattle.record.specs.Form.{is_field, field_cause, card_cause, cards_causes, held_samples, held_interval, binary_causes, traces_place, header_causes, end_causes, pair_cause_in, field_form_in, is_earlier_in, share_in, samples_causes_in, trace_form_in, held_stride_in, behind_trace_in, trace_place_in, is_trace_in, held_count_in, body_causes_in, held_count, form_causes_in, form_causes, record_found, numbers_in}
-use Rattle.record.specs.declared.Judged.TheVariants as judged
-use Rattle.record.specs.declared.Target.{Target}
-use Rattle.record.specs.declared.Target.TheVariants.{None}
+use Rattle.record.specs.Judged as judged
 use Rattle.record.specs.Held.{earlier_count_in}
 use Rattle.record.specs.Parts.{pairs_by, field_by, fields_by, trace_by, form_from}
 
@@ -106,7 +105,7 @@ pairs_fine k s n at e =
     (λ f l. (then_fine (field_cause s k.tag (field_count c n f * k.width) (field_place k.width c at f)) _ (one f l)).1))
 
 -- the samples of a trace, a field at a time, whatever the target
-module _ (target : Target) (s : List ℕ) where
+module _ (target : Option ℕ) (s : List ℕ) where
   pub fields_none : (c : ℕ) → 0 < c → (n at : ℕ) → n ≤ 0 → fields_by target s c n at ≡ Fine
   unfolding fields_by
   fields_none c some n at h = ap first_of (in_none c some 6 (field_by target s) n at h)

@@ -5,10 +5,10 @@ use mathlib.Core.List.{List}
 use Prim.Native.Nat.{ℕ}
 use native.Mathlib.Omega.{arith}
 use Rattle.numbers.specs.declared.Place.{Place}
-use Rattle.numbers.specs.declared.Check.{Check}
-use Rattle.numbers.specs.declared.Check.TheVariants as check
+use Rattle.numbers.specs.Cause.{Check}
+use Rattle.numbers.specs.Cause as check
 use Rattle.record.specs.Form.{held_samples, held_count, record_found}
-use Rattle.record.specs.declared.Judged.TheVariants as judged
+use Rattle.record.specs.Judged as judged
 
 -- a record with no cause c against it, by its N and T
 pub record Own (s : List ℕ) (c : Check) (n t : ℕ) : Type 0 where

@@ -5,11 +5,10 @@ use Rattle.numbers.specs.Walk.{pick, walk, bytes_at}
 use Rattle.numbers.specs.Places.{byte_place}
 use Rattle.numbers.specs.BigEndian.{number}
 use Rattle.numbers.specs.Cause.{refuse_if, then, first_of}
-use Rattle.numbers.specs.declared.Check.{Check}
-use Rattle.numbers.specs.declared.Check.TheVariants.{Fine, Refused}
+use Rattle.numbers.specs.Cause.{Check, Fine, Refused}
 use Rattle.record.specs.declared.Numbers.{Numbers}
-use Rattle.record.specs.declared.Judged.{Judged}
-use Rattle.record.specs.declared.Judged.TheVariants as judged
+use Rattle.record.specs.Judged.{Judged}
+use Rattle.record.specs.Judged as judged
 use Rattle.fields.specs.Fields.{each, run_from, fields_length, in_fields}
 use Rattle.reel.specs.Layout.{card_bytes, number16}
 use Rattle.reel.specs.Causes.{most_samples, most_traces, most_interval, within}

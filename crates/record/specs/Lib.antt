@@ -5,3 +5,4 @@ pub mod Form
 pub mod Held
 pub mod Answer
 pub mod Parts
+pub mod Judged

@@ -11,12 +11,12 @@ use lib.ListN.{length}
 use Rattle.numbers.specs.Walk.{pick, walk}
 use Rattle.numbers.specs.Cause.{refuse_if, then, first_of}
 use Rattle.numbers.specs.Places.{byte_place}
-use Rattle.numbers.specs.declared.Check.TheVariants.{Fine}
+use Rattle.numbers.specs.Cause.{Fine}
 use Rattle.numbers.proofs.CauseLaws.{then_assoc, passed, then_fine}
 use Rattle.formats.specs.Codes.{is_code, sample_bytes}
 use Rattle.formats.specs.Value.{is_bad, word_number, exact_value}
 use Rattle.sample.specs.Reading.{bad_number, pair_taken, read_word}
-use Rattle.sample.specs.declared.Sample.TheVariants as sample
+use Rattle.sample.specs.Reading as sample
 use Rattle.numbers.proofs.SignLaws.{below_or}
 use mathlib.Core.Logic.{⊎_elim}
 use Rattle.formats.proofs.CodeLaws.{width_high}

@@ -4,13 +4,18 @@ use mathlib.Core.List.{List}
 use Prim.Native.Nat.{ℕ}
 use native.Mathlib.Omega.{arith}
 use Rattle.numbers.specs.declared.Place.{Place}
-use Rattle.numbers.specs.declared.Check.{Check}
-use Rattle.numbers.specs.declared.Check.TheVariants as check
-use Rattle.reel.specs.Layout.{samples_of, interval_of, code_of, stride_by, traces_by}
+use Rattle.numbers.specs.Cause.{Check}
+use Rattle.numbers.specs.Cause as check
+use Prim.Native.Nat.{◌≤◌}
+use lib.ListN.{length}
+use borrow.Author.Tests.{le-ltb}
+use Rattle.numbers.specs.Cause.{then, first_of}
+use Rattle.numbers.specs.Walk.{walk}
+use Rattle.reel.specs.Layout.{first_trace, samples_of, interval_of, code_of, stride_by, traces_by, whole_in, over_in}
 use Rattle.formats.specs.Codes.{sample_bytes}
-use Rattle.reel.specs.Causes.{causes_by, found_by, judged_by}
+use Rattle.reel.specs.Causes.{limit_causes_by, size_causes, trace_causes_by, behind_causes_by, causes_by, found_by, judged_by}
 use Rattle.reel.specs.declared.Layout.{Layout}
-use Rattle.reel.specs.declared.Judged.TheVariants as judged
+use Rattle.reel.specs.Judged as judged
 
 -- a reel of a layout with no cause against it, by its own numbers
 pub record Own (k : Layout) (s : List ℕ) (code n i v w t : ℕ) : Type 0 where
@@ -35,3 +40,12 @@ refused_is k s {number} {place} = go (causes_by k s)
     go : (c : Check) → found_by k s c ≡ judged.Refused number place → c ≡ check.Refused number place
     go check.Fine e = absurd (let z : ◌≡◌ {A = ℕ} 0 1 = cc in omega arith)
     go (check.Refused m p) e = cc
+
+-- the causes of a reel that has its headers: those of its own numbers, of its size, and of its traces
+pub causes_long : (k : Layout) (s : List ℕ) → first_trace ≤ length s
+    → causes_by k s
+    ≡ then (limit_causes_by k (code_of s) (samples_of s) (interval_of s))
+    (then (size_causes (length s) (stride_by k s) (whole_in (length s) (stride_by k s)) (over_in (length s) (stride_by k s)))
+    (first_of (walk (trace_causes_by k s (code_of s) (samples_of s) (interval_of s)) (stride_by k s) (whole_in (length s) (stride_by k s)) first_trace)))
+unfolding causes_by behind_causes_by
+causes_long k s h = rw (le-ltb (length s) first_trace h) refl

@@ -5,12 +5,11 @@ use Rattle.std.specs.Prelude.{ℕ, ◌+◌, ◌-◌, ◌*◌, List, [], ◌∷�
 use Rattle.numbers.specs.Walk.{walk, bytes_at}
 use Rattle.numbers.specs.Cause.{refuse_if, then, first_of}
 use Rattle.numbers.specs.Places.{byte_place}
-use Rattle.numbers.specs.declared.Check.{Check}
-use Rattle.numbers.specs.declared.Check.TheVariants.{Fine, Refused}
+use Rattle.numbers.specs.Cause.{Check, Fine, Refused}
 use Rattle.reel.specs.declared.Layout.{Layout}
 use Rattle.reel.specs.declared.Layout.TheVariants.{Plain, Eagle}
-use Rattle.reel.specs.declared.Judged.{Judged}
-use Rattle.reel.specs.declared.Judged.TheVariants as variant
+use Rattle.reel.specs.Judged.{Judged}
+use Rattle.reel.specs.Judged as variant
 use Rattle.formats.specs.Codes.{word_length, is_code, sample_bytes}
 use Rattle.scalars.specs.Scalar.{is_allowed}
 use Rattle.formats.specs.Value.{is_bad, word_number}

@@ -4,3 +4,4 @@ pub mod Causes
 pub mod Meaning
 pub mod Parts
 pub mod NotNormal
+pub mod Judged

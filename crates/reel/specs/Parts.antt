@@ -2,10 +2,9 @@
 use Rattle.std.specs.Prelude.{ℕ, List}
 use Rattle.numbers.specs.Cause.{refuse_if, then}
 use Rattle.numbers.specs.Places.{byte_place}
-use Rattle.numbers.specs.declared.Check.{Check}
-use Rattle.numbers.specs.declared.Check.TheVariants.{Fine, Refused}
-use Rattle.sample.specs.declared.Sample.{Sample}
-use Rattle.sample.specs.declared.Sample.TheVariants as sample
+use Rattle.numbers.specs.Cause.{Check, Fine, Refused}
+use Rattle.sample.specs.Reading.{Sample}
+use Rattle.sample.specs.Reading as sample
 use Rattle.reel.specs.Layout.{elevation_scalar, coordinate_scalar, number16}
 use Rattle.reel.specs.Causes.{neither, scalar_cause}
 

@@ -16,8 +16,8 @@ use lib.ListN.{length, get_or}
 use Rattle.numbers.specs.Walk.{walk, bytes_at}
 use Rattle.numbers.specs.Cause.{refuse_if, first_of}
 use Rattle.numbers.specs.Places.{byte_place}
-use Rattle.numbers.specs.declared.Check.{Check}
-use Rattle.numbers.specs.declared.Check.TheVariants.{Fine, Refused}
+use Rattle.numbers.specs.Cause.{Check}
+use Rattle.numbers.specs.Cause.{Fine, Refused}
 use Rattle.numbers.specs.Iff.{Iff}
 use Rattle.numbers.specs.Terms.{Bytes, at_place, Between, ZeroOr}
 use Rattle.numbers.proofs.RowLaws.{Tests, test_by, then_row, then_first, then_second, fine_then, refused_then, holds_then, row_then, no_row, test_between, test_either, test_room, not_enough, too_short, first_is, first_of_lem, walk_fine, walk_holds, walk_refused, walk_row, fine_none}

@@ -15,7 +15,7 @@ use lib.Signed.{mag}
 use Rattle.numbers.specs.Walk.{pick, walk, flat, bytes_at}
 use Rattle.numbers.specs.BigEndian.{bytes_of}
 use Rattle.numbers.specs.TwosComplement.{signed_of, bits_of}
-use Rattle.numbers.specs.declared.Check.TheVariants.{Fine}
+use Rattle.numbers.specs.Cause.{Fine}
 use Rattle.numbers.specs.Terms.{All, Bytes}
 use Rattle.numbers.specs.Iff.{Iff}
 use Rattle.numbers.proofs.WalkLaws.{all_at, split, cons_eq, flat_size, flat_inj, size_walk}

@@ -1,9 +1,13 @@
 -- The pair of a value: one fact for all codes. The canonical pair of ± a × 2 ^ k is ± a's odd part, with the exponent k and a's twos less the denominator's. Assumes nothing.
-use Rattle.std.proofs.Common.{◌≡◌, ℕ, zero, suc, ◌+◌, ◌*◌, ◌/◌, ◌%◌, ◌^◌, ◌<◌, ◌≤◌, Bool, true, false, eqb, pos, sym, refl, ap, ◌∙◌, mod-eq_of_lt, zero-lt-suc, mul_assoc, add_comm, zero-mul, div-le_self, arith, lit<, pow-add, ne_eqb}
+use Rattle.std.proofs.Common.{◌≡◌, ℕ, zero, suc, ◌+◌, ◌*◌, ◌/◌, ◌%◌, ◌^◌, ◌<◌, ◌≤◌, Bool, true, false, List, eqb, pos, sym, refl, ap, ◌∙◌, mod-eq_of_lt, zero-lt-suc, mul_assoc, add_comm, zero-mul, div-le_self, arith, lit<, pow-add, ne_eqb}
 use native.Mathlib.Nat.{zero-div}
 use lib.Count.{count_trailing_zeros}
 use lib.IntN.{sub_ℕ}
-use Rattle.numbers.specs.Walk.{pick}
+use Rattle.formats.proofs.CodeLaws.{Code, ibm, whole32, whole16, gain, ieee, whole8, code_is}
+use Rattle.formats.specs.Codes.{is_code, word_length}
+use Rattle.formats.specs.Value.{is_bad, word_number}
+use Rattle.numbers.specs.BigEndian.{number}
+use Rattle.numbers.specs.Walk.{pick, bytes_at}
 use Rattle.formats.specs.Codes.{denominator_power}
 use Rattle.numbers.specs.SignMagnitude.{sign_magnitude}
 use Rattle.value.proofs.Twos.{split, trailing_lt}
@@ -40,3 +44,15 @@ shifted_lt (suc n) h =
     let l : suc n < 2 ^ 32 = omega arith in
     let s = split 32 (suc n) (zero-lt-suc n) l in
     rw (mod-eq_of_lt (trailing_lt 32 (suc n) (zero-lt-suc n) l)) (omega (arith, div-le_self (suc n) (2 ^ count_trailing_zeros 32 (suc n)), s.odd, s.shifted))
+
+-- whether a word has no value is told by its four bytes: under a code of fewer, each word has one
+pub bad_by_four : (code : ℕ) (w : List ℕ) → is_code code ≡ true → is_bad code (number (bytes_at w 0 word_length)) ≡ is_bad code (word_number code w)
+bad_by_four code w h = go code (code_is code h)
+  where
+    go : (k : ℕ) → Code k → is_bad k (number (bytes_at w 0 word_length)) ≡ is_bad k (word_number k w)
+    go k ibm = refl
+    go k whole32 = refl
+    go k whole16 = refl
+    go k gain = refl
+    go k ieee = refl
+    go k whole8 = refl

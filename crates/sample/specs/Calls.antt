@@ -1,32 +1,31 @@
 -- The single-sample calls: the complete outcome of each.
-use Rattle.std.specs.Prelude.{ℕ, ◌-◌, List, [], ◌∷◌, ◌++◌, replicate}
+use Rattle.std.specs.Prelude.{ℕ, ◌-◌, List, [], ◌∷◌, ◌++◌, replicate, Bool, Result, Ok, Err}
 use Rattle.numbers.specs.BigEndian.{bytes_of}
 use Rattle.numbers.specs.Places.{place_no}
 use Rattle.numbers.specs.Outcome.{Said, taken, refused, Outcome}
 use Rattle.formats.specs.Codes.{sample_bytes, word_length}
 use Rattle.value.specs.Pair.{pair_length, pair_bytes, pair_in}
 use Rattle.value.specs.Writing.{write_pair}
-use Rattle.formats.specs.declared.Written.{Written}
-use Rattle.formats.specs.declared.Written.TheVariants as written
-use Rattle.sample.specs.Reading.{not_normal, read_word}
-use Rattle.sample.specs.declared.Sample.{Sample}
-use Rattle.sample.specs.declared.Sample.TheVariants as sample
-use Rattle.sample.specs.declared.Answer.{Answer}
-use Rattle.sample.specs.declared.Answer.TheVariants as answer
-use Rattle.sample.specs.declared.WordAnswer.{WordAnswer}
-use Rattle.sample.specs.declared.WordAnswer.TheVariants as word
+use Rattle.numbers.specs.Walk.{pick}
+use Rattle.numbers.specs.Cause.{number_of}
+use Rattle.numbers.specs.declared.Cause.{Cause}
+use Rattle.numbers.specs.declared.Refusal.{Refusal}
+use Rattle.formats.specs.Written.{Written}
+use Rattle.formats.specs.Written as written
+use Rattle.sample.specs.Reading.{Sample, not_normal, read_word}
+use Rattle.sample.specs.Reading as sample
 use Rattle.sample.specs.declared.WordRead.{WordRead}
 use Rattle.sample.specs.declared.PairWritten.{PairWritten}
 
 -- Document 01's number and place for each case of the answer of writing a pair.
-abbrev pub said_by : Answer → Said
-said_by answer.Taken = taken []
-said_by (answer.Refused number place) = refused number (place_no place)
+abbrev pub said_by : Result (Unit {0}) Refusal → Said
+said_by (Ok v) = taken []
+said_by (Err r) = refused (number_of r.cause) (place_no r.place)
 
 -- The same of reading a word, which is taken with one value, document 02's 1 or 0.
-abbrev pub word_said : WordAnswer → Said
-word_said (word.Taken c) = taken (c ∷ [])
-word_said (word.Refused number place) = refused number (place_no place)
+abbrev pub word_said : Result Bool Refusal → Said
+word_said (Ok c) = taken (pick c 1 0 ∷ [])
+word_said (Err r) = refused (number_of r.cause) (place_no r.place)
 
 -- What reading a word hands out, in document 01's terms; and what writing a pair does.
 abbrev pub word_read : WordRead → Outcome
@@ -57,3 +56,8 @@ write_said code (written.Refused number) = record { said = refused number 0; byt
 -- The outcome of writing a single pair under a code.
 abbrev pub pair_outcome : ℕ → List ℕ → Outcome
 pair_outcome code b = write_said code (write_pair code (pair_in b))
+
+-- The same by what a function found: the bytes of the word, or the cause against the pair.
+abbrev pub word_found : Result (List ℕ) Cause → Outcome
+word_found (Ok w) = record { said = taken []; bytes = w }
+word_found (Err cause) = record { said = refused (number_of cause) 0; bytes = replicate word_length 0 }

@@ -1,12 +1,23 @@
 -- What reading a word gives.
-use Rattle.std.specs.Prelude.{ℕ, not, ◌&&◌, List, ℤ, ◌==◌}
+use Rattle.std.specs.Prelude.{ℕ, not, ◌&&◌, List, ℤ, ◌==◌, Result, Ok, Err}
 use Rattle.numbers.specs.Walk.{pick}
 use Rattle.formats.specs.Codes.{is_code}
 use Rattle.formats.specs.Value.{is_bad, word_number, exact_value}
 use Rattle.formats.specs.Words.{is_normal}
 use Rattle.value.specs.Pair.{pair_of}
-use Rattle.sample.specs.declared.Sample.{Sample}
-use Rattle.sample.specs.declared.Sample.TheVariants.{Taken, Refused}
+use Rattle.value.specs.declared.Pair.{Pair}
+use Rattle.numbers.specs.declared.Cause.{Cause}
+use Rattle.numbers.specs.Cause.{number_of}
+
+-- What reading a word finds: the numbers e and m of its canonical pair, or the number of the refusal.
+pub data Sample : Type 0 where
+  Taken : ℤ → ℤ → Sample
+  Refused : ℕ → Sample
+
+-- What a function that reads a word found, in the table's terms.
+abbrev pub sampled : Result Pair Cause → Sample
+sampled (Ok p) = Taken p.e p.m
+sampled (Err cause) = Refused (number_of cause)
 
 -- The canonical pair of a value, as its two numbers.
 abbrev pub pair_taken : ℤ → Sample

@@ -1,64 +1,38 @@
 // Single samples: the canonical pair of a word under a code, and the two calls.
 #![tactic(auto)]
 
-ghost use Rattle.std.specs.Prelude.{◌≡◌, ◌+◌, ◌*◌, ◌/◌, ◌%◌, ◌^◌, ◌<◌, ◌≤◌, pos, ◌==◌, unsigned_abs};
+ghost use Rattle.std.specs.Prelude.{◌≡◌, ◌+◌, ◌*◌, ◌/◌, ◌%◌, ◌^◌, ◌<◌, ◌≤◌, pos, ◌==◌};
 ghost use Rattle.std.proofs.Math.IntN.{sub_ℕ};
 ghost use Rattle.numbers.specs.Walk.{pick};
+ghost use Rattle.numbers.specs.Cause.{number_of};
 ghost use Rattle.numbers.specs.Places.{place_no};
 ghost use Rattle.numbers.specs.TwosComplement.{signed_of};
 ghost use Rattle.numbers.specs.SignMagnitude.{sign_magnitude};
-ghost use Rattle.formats.specs.Codes.{denominator_power};
+ghost use Rattle.formats.specs.Codes.{denominator_power, code_no};
 ghost use Rattle.formats.specs.Value.{fraction, ibm_value, whole_value, gain_value, ieee_exponent, ieee_fraction, ieee_value, is_bad, exact_value};
 ghost use Rattle.formats.specs.Words.{is_normal};
-ghost use Rattle.value.specs.Pair.{pair_of, pair_bytes};
-ghost use Rattle.sample.specs.Reading.{bad_number, not_normal, read_word};
-ghost use Rattle.sample.specs.Calls.{single_word, word_read, pair_written, word_outcome, pair_outcome};
+ghost use Rattle.value.specs.Pair.{pair_of};
+ghost use Rattle.sample.specs.Reading.{bad_number, not_normal, read_word, sampled};
+ghost use Rattle.sample.specs.Calls.{single_word, word_found, word_read, pair_written, word_outcome, pair_outcome};
 
-use formats::{DENOMINATOR_POWER, Written};
-use numbers::Place;
+use formats::{Code, DENOMINATOR_POWER};
+use numbers::{Cause, Number, Place, Refusal};
 use value::Pair;
 
-// What reading a word finds: the numbers e and m of its canonical pair, or the number of the refusal.
-#[derive(Clone, Copy)]
-pub enum Sample {
-    Taken { e: i16, m: i32 },
-    Refused { number: u8 },
-}
-
-// The answer of writing a single pair.
-#[derive(Clone, Copy)]
-pub enum Answer {
-    Taken,
-    Refused { number: u8, place: Place },
-}
-
-// The answer of reading a single word: taken, with 1 for an IBM word other than the normal word of its value, else 0; or refused.
-#[derive(Clone, Copy)]
-pub enum WordAnswer {
-    Taken { not_normal: u8 },
-    Refused { number: u8, place: Place },
-}
-
-// What reading a single word hands out: beside a refusal the bytes are all 00.
-#[derive(Clone, Copy)]
+// What reading a single word hands out: taken, with whether it is an IBM word other than the normal word of its value, or refused; and the
+// bytes of the pair, which beside a refusal are all 00.
+#[derive(Clone, Copy, Debug, PartialEq, Eq)]
 pub struct WordRead {
-    pub answer: WordAnswer,
+    pub answer: Result<bool, Refusal>,
     pub pair: [u8; 6],
 }
 
-// What writing a single pair hands out: beside a refusal the bytes are all 00.
-#[derive(Clone, Copy)]
+// What writing a single pair hands out: taken or refused, and the bytes of the word, which beside a refusal are all 00.
+#[derive(Clone, Copy, Debug, PartialEq, Eq)]
 pub struct PairWritten {
-    pub answer: Answer,
+    pub answer: Result<(), Refusal>,
     pub word: [u8; 4],
 }
-
-// The numbers of the causes.
-const BAD_CODE: u8 = 2;
-
-const BAD_GAIN: u8 = 9;
-
-const NOT_FINITE: u8 = 19;
 
 // The power of two that the last place of a fraction is worth beside C = 0, and beside E = 0 less one step.
 const IBM_BASE: u32 = DENOMINATOR_POWER - (4 * 64 + 24);
@@ -83,14 +57,6 @@ fn exponent(k: u32) -> i16
     k as i16 - DENOMINATOR_POWER as i16
 }
 
-// A number without its last t bits.
-fn shifted_down(a: u32, t: u32) -> u32
-    requires { t < 32 }
-    ensures { result ≡ a / 2 ^ t }
-{
-    a >> t
-}
-
 // An exponent, or 0 where the magnitude is 0: zero has the exponent 0.
 fn exponent_unless_zero(a: u32, e: i16) -> i16
     ensures { result ≡ pick (a == 0) (pos 0) e }
@@ -100,13 +66,14 @@ fn exponent_unless_zero(a: u32, e: i16) -> i16
 
 // The canonical pair of V = ± a × 2^k: the power of two in a is counted out of it. There is no branch on a: where it is 0, all its 32
 // bits are trailing zeros, and it is shifted by none of them.
+#[tactic(auto, using(crate::proofs::PairLaws::pair_any, crate::proofs::PairLaws::shifted_lt))]
 fn canonical(neg: bool, a: u32, k: u32) -> Pair
     requires { (a ≤ 2 ^ 31) × (k ≤ 2 ^ 14) }
     ensures { result ≡ pair_of (sign_magnitude neg (a * 2 ^ k)) }
 {
     let twos = u32::trailing_zeros(a);
     let e = exponent_unless_zero(a, exponent(k + twos));
-    let m = with_sign(neg, shifted_down(a, twos % 32));
+    let m = with_sign(neg, a >> (twos % 32));
     Pair { e, m }
 }
 
@@ -137,29 +104,18 @@ pub fn ibm(n: u32) -> Pair
     ibm_parts((n / 0x100_0000) as u8, n)
 }
 
-// The magnitude of a two's complement number of 16 bits, by subtraction from zero.
-fn magnitude16(n: u16) -> u16
-    ensures { (result ≡ unsigned_abs (signed_of 16 n)) × (result ≤ 2 ^ 15) }
-{
-    if 0x8000 <= n {
-        std::num::wrapping_sub_u16(0, n)
-    } else {
-        n
-    }
-}
-
 // Code 2: the pair of a 32-bit number.
 pub fn whole32(n: u32) -> Pair
     ensures { result ≡ pair_of (whole_value (signed_of 32 n)) }
 {
-    canonical(0x8000_0000 <= n, numbers::magnitude32(n), DENOMINATOR_POWER)
+    canonical(0x8000_0000 <= n, n.magnitude(), DENOMINATOR_POWER)
 }
 
 // Code 3: the pair of a 16-bit number.
 pub fn whole16(n: u16) -> Pair
     ensures { result ≡ pair_of (whole_value (signed_of 16 n)) }
 {
-    canonical(0x8000 <= n, magnitude16(n) as u32, DENOMINATOR_POWER)
+    canonical(0x8000 <= n, n.magnitude() as u32, DENOMINATOR_POWER)
 }
 
 // The 16 bits of a number of 8 bits, with its sign.
@@ -186,7 +142,7 @@ pub fn gain_number(g: u8, d: u16) -> Pair
 {
     canonical(
         0x8000 <= d,
-        magnitude16(d) as u32,
+        d.magnitude() as u32,
         DENOMINATOR_POWER - g as u32,
     )
 }
@@ -208,11 +164,15 @@ fn is_bad(code: u32, n: u32) -> bool
     false
 }
 
-// The number of the refusal of a word without a value.
-fn bad_number(code: u32) -> u8
-    ensures { result ≡ bad_number code }
+// The cause against a word without a value.
+fn bad_cause(code: u32) -> Cause
+    ensures { number_of result ≡ bad_number code }
 {
-    if code == 4 { BAD_GAIN } else { NOT_FINITE }
+    if code == 4 {
+        Cause::GainWord
+    } else {
+        Cause::NotFinite
+    }
 }
 
 // The exponent E of an IEEE single word.
@@ -251,56 +211,47 @@ pub fn ieee_number(n: u32) -> Pair
 
 // The canonical pair of a word under a code. For a word without a value, and for a number that is no code, it is the pair of what the same
 // rule gives: that of code 5 where none of the others is the code.
+#[tactic(auto, unfolding(numbers::specs::Walk::bytes_at))]
 pub fn number(code: u32, word: [u8; 4]) -> Pair
     ensures { result ≡ pair_of (exact_value code word) }
 {
-    let n = numbers::be32(word[0], word[1], word[2], word[3]);
-    match code {
-        1 => ibm(n),
-        2 => whole32(n),
-        3 => whole16(numbers::be16(word[0], word[1])),
-        4 => gain_number((n / 0x1_0000 % 256) as u8, (n % 0x1_0000) as u16),
-        8 => whole8(word[0]),
-        _ => ieee_number(n),
+    let n = u32::of_bytes(&word);
+    match Code::of(code as usize) {
+        Some(Code::Ibm) => ibm(n),
+        Some(Code::Whole32) => whole32(n),
+        Some(Code::Whole16) => whole16(u16::of_bytes(&[word[0], word[1]])),
+        Some(Code::Gain) => gain_number(word[1], u16::of_bytes(&[word[2], word[3]])),
+        Some(Code::Whole8) => whole8(word[0]),
+        Some(Code::Ieee) | None => ieee_number(n),
     }
 }
 
-// What reading a word finds under a code: only here is a word refused.
-pub fn read(code: u32, word: [u8; 4]) -> Sample
-    ensures { result ≡ read_word code word }
+// What reading a word finds under a code: only here is a word refused, by 2, 9 or 19.
+#[tactic(auto, using(crate::proofs::PairLaws::bad_by_four), unfolding(numbers::specs::Walk::bytes_at))]
+pub fn read(code: u32, word: [u8; 4]) -> Result<Pair, Cause>
+    ensures { sampled result ≡ read_word code word }
 {
     if !formats::is_code(code as usize) {
-        return Sample::Refused { number: BAD_CODE };
+        return Err(Cause::FormatCode);
     }
-    if is_bad(code, numbers::be32(word[0], word[1], word[2], word[3])) {
-        return Sample::Refused {
-            number: bad_number(code),
-        };
+    if is_bad(code, u32::of_bytes(&word)) {
+        return Err(bad_cause(code));
     }
-    let pair = number(code, word);
-    Sample::Taken {
-        e: pair.e,
-        m: pair.m,
-    }
+    Ok(number(code, word))
 }
 
-// The place beside the refusal of a single sample: 0.
-fn no_place() -> Place
-    ensures { place_no result ≡ 0 }
+// The refusal of a single sample: the place beside it is 0.
+fn refusal(cause: Cause) -> Refusal
+    ensures { (number_of result.cause ≡ number_of cause) × (place_no result.place ≡ 0) }
 {
-    Place(0)
-}
-
-// The six bytes of a pair.
-fn pair_bytes(e: i16, m: i32) -> [u8; 6]
-    ensures { result ≡ pair_bytes e m }
-{
-    let a = numbers::bytes16(numbers::bits16(e));
-    let b = numbers::bytes32(numbers::bits32(m));
-    [a[0], a[1], b[0], b[1], b[2], b[3]]
+    Refusal {
+        cause,
+        place: Place(0),
+    }
 }
 
 // Whether an IBM word is normal: for zero it is 00000000; otherwise the first hexadecimal digit of F isn't 0, unless C is 0.
+#[tactic(auto, using(formats::proofs::NormalLaws::normal_tests, formats::proofs::NormalLaws::large))]
 fn is_normal(n: u32) -> bool
     ensures { result ≡ is_normal n }
 {
@@ -314,18 +265,12 @@ fn is_normal(n: u32) -> bool
     n / 0x100_0000 % 128 == 0
 }
 
-// 1 for an IBM word other than the normal word of its value, else 0.
-fn not_normal(code: u32, word: [u8; 4]) -> u8
-    ensures { result ≡ not_normal code word }
+// Whether it is an IBM word other than the normal word of its value.
+#[tactic(auto, unfolding(numbers::specs::Walk::bytes_at))]
+fn not_normal(code: u32, word: [u8; 4]) -> bool
+    ensures { pick result 1 0 ≡ not_normal code word }
 {
-    if code != 1 {
-        return 0;
-    }
-    if is_normal(numbers::be32(word[0], word[1], word[2], word[3])) {
-        0
-    } else {
-        1
-    }
+    code == 1 && !is_normal(u32::of_bytes(&word))
 }
 
 // One sample, from its word to its canonical pair.
@@ -333,17 +278,12 @@ pub fn read_word(code: u32, word: [u8; 4]) -> WordRead
     ensures { word_read result ≡ word_outcome code word }
 {
     match read(code, word) {
-        Sample::Taken { e, m } => WordRead {
-            answer: WordAnswer::Taken {
-                not_normal: not_normal(code, word),
-            },
-            pair: pair_bytes(e, m),
+        Ok(pair) => WordRead {
+            answer: Ok(not_normal(code, word)),
+            pair: pair.to_bytes(),
         },
-        Sample::Refused { number } => WordRead {
-            answer: WordAnswer::Refused {
-                number,
-                place: no_place(),
-            },
+        Err(cause) => WordRead {
+            answer: Err(refusal(cause)),
             pair: [0; 6],
         },
     }
@@ -352,31 +292,37 @@ pub fn read_word(code: u32, word: [u8; 4]) -> WordRead
 // ## Writing
 
 // The four bytes of a word under a code: as many as a sample has, then 00.
-fn single_word(code: u32, bits: u32) -> [u8; 4]
-    ensures { result ≡ single_word code bits }
+fn single_word(code: Code, bits: u32) -> [u8; 4]
+    ensures { result ≡ single_word (code_no code) bits }
 {
-    let b = numbers::bytes32(bits);
+    let b = bits.to_be_bytes();
     match code {
-        3 => [b[2], b[3], 0, 0],
-        8 => [b[3], 0, 0, 0],
+        Code::Whole16 => [b[2], b[3], 0, 0],
+        Code::Whole8 => [b[3], 0, 0, 0],
         _ => b,
     }
+}
+
+// The four bytes of the word of a pair under a target code, or the cause against it: 11, 13 or 14.
+fn word_of(code: u32, pair: [u8; 6]) -> Result<[u8; 4], Cause>
+    ensures { word_found result ≡ pair_outcome code pair }
+{
+    let code = Code::of(code as usize).ok_or(Cause::TargetCode)?;
+    let bits = Pair::of_bytes(pair).word(code)?;
+    Ok(single_word(code, bits))
 }
 
 // One sample, from its pair to its word.
 pub fn write_pair(code: u32, pair: [u8; 6]) -> PairWritten
     ensures { pair_written result ≡ pair_outcome code pair }
 {
-    match value::write(code, value::pair_in(pair)) {
-        Written::Word { bits } => PairWritten {
-            answer: Answer::Taken,
-            word: single_word(code, bits),
+    match word_of(code, pair) {
+        Ok(word) => PairWritten {
+            answer: Ok(()),
+            word,
         },
-        Written::Refused { number } => PairWritten {
-            answer: Answer::Refused {
-                number,
-                place: no_place(),
-            },
+        Err(cause) => PairWritten {
+            answer: Err(refusal(cause)),
             word: [0; 4],
         },
     }

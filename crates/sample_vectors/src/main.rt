@@ -16,7 +16,7 @@
 ghost use Rattle.std.specs.Prelude.{◌≤◌, IfSome};
 
 use cases::Stop;
-use sample::{Answer, WordAnswer};
+use numbers::Refusal;
 use std::io;
 use std::io::Read;
 
@@ -67,15 +67,21 @@ fn request_of(line: [u8; 24]) -> Option<Request> {
     }
 }
 
-// Prints the reply to reading a word: a sample that is taken has number 0 and place 0, a refused one the count 0.
+// The number and the place of a reply, both 0 where the sample is taken.
+fn number_and_place<T: Copy>(answer: Result<T, Refusal>) -> (u8, usize) {
+    match answer {
+        Ok(_) => (0, 0),
+        Err(refusal) => (refusal.cause.number(), refusal.place.0),
+    }
+}
+
+// Prints the reply to reading a word, with its count: 1 where the word is not normal, and 0 of a refused one.
 fn print_read(rt: &impl Print, code: u32, word: [u8; 4]) -> io::Result<()> {
     let read = sample::read_word(code, word);
     let [a, b, c, d, e, f] = read.pair;
     let pair = u64::from_be_bytes([0, 0, a, b, c, d, e, f]);
-    let (number, place, count) = match read.answer {
-        WordAnswer::Taken { not_normal } => (0, 0, not_normal),
-        WordAnswer::Refused { number, place } => (number, place.0, 0),
-    };
+    let (number, place) = number_and_place(read.answer);
+    let count = u8::from(read.answer.unwrap_or(false));
     println!(rt; "{number:03} {place:016x} {pair:012x} {count}")
 }
 
@@ -83,10 +89,7 @@ fn print_read(rt: &impl Print, code: u32, word: [u8; 4]) -> io::Result<()> {
 fn print_written(rt: &impl Print, code: u32, pair: [u8; 6]) -> io::Result<()> {
     let written = sample::write_pair(code, pair);
     let word = u32::from_be_bytes(written.word);
-    let (number, place) = match written.answer {
-        Answer::Taken => (0, 0),
-        Answer::Refused { number, place } => (number, place.0),
-    };
+    let (number, place) = number_and_place(written.answer);
     println!(rt; "{number:03} {place:016x} {word:08x}---- -")
 }
 

@@ -1,5 +1,6 @@
 -- The laws of scalars.
 pub mod Fit32
+pub mod Found
 pub mod Quotients
 pub mod Powers
 pub mod Laws

@@ -6,6 +6,7 @@ use mathlib.Core.Bool.{Bool, true, false, ◌&&◌}
 use mathlib.Core.List.{List, [], ◌∷◌}
 use Prim.Native.Nat.{ℕ, zero, suc, ◌+◌, ◌-◌, ◌*◌, ◌^◌, ◌≤◌, ◌<◌, max}
 use native.Mathlib.Nat.{not-suc-le-zero, mul_assoc, one-le-pow, pow-le-pow_right, mul-le-mul_left, mul-le-mul_right, le-max_left, le-max_right, pow-suc, sub-add_cancel, zero-mul, max-eq_left, max-eq_right, eq-or-lt_of_le}
+use native.Mathlib.Numerals.{add-one}
 use native.Mathlib.Omega.{arith}
 use borrow.Author.Tests.{lt-ltb, le-ltb, le-leb, lt-leb}
 use lib.Dec.{T, leb, ltb, eqb}
@@ -44,6 +45,10 @@ power_lt (negsuc n) = omega arith
 
 pub ten_pos : (k : ℕ) → 0 < 10 ^ k
 ten_pos k = one-le-pow k 10 (omega arith)
+
+-- a number with d zeros behind it, times ten, has one more
+pub one_zero_more : (m d f : ℕ) → f ≡ m * 10 ^ d → f * 10 ≡ m * 10 ^ (d + 1)
+one_zero_more m d f e = ap (λ (x : ℕ). x * 10) e ∙ mul_assoc m (10 ^ d) 10 ∙ ap (λ (x : ℕ). m * x) (sym (pow-suc 10 d)) ∙ ap (λ (x : ℕ). m * 10 ^ x) (sym (add-one d))
 
 -- of p zeros, q can be taken off again
 pub parted : (a p q : ℕ) → q ≤ p → a * 10 ^ p ≡ a * 10 ^ (p - q) * 10 ^ q

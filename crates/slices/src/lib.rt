@@ -1,83 +1,44 @@
 // Bytes in slices: numbers at a place, copies and stores, and whether parts fit.
 #![tactic(auto)]
 
-ghost use Rattle.std.specs.Prelude.{◌≡◌, ◌+◌, ◌*◌, leb, eqb, get_or};
+ghost use Rattle.std.specs.Prelude.{◌≡◌, ◌+◌, ◌*◌, leb, eqb, length};
 ghost use Rattle.numbers.specs.Walk.{bytes_at, copy_of};
 ghost use Rattle.numbers.specs.BigEndian.{number, bytes_of};
 ghost use Rattle.numbers.specs.Places.{place_no};
 
-use numbers::Place;
+use numbers::{Number, Place};
 
-// The byte k places behind another, 0 where the slice has none there.
-fn byte_after(s: &[u8], at: usize, k: usize) -> u8
-    ensures { result ≡ get_or s.now (at + k) 0 }
-{
-    if s.len() <= at {
-        return 0;
-    }
-    if s.len() - at <= k {
-        return 0;
-    }
-    s[at + k]
-}
-
-// The number in the two bytes at a place, and in four; a byte that the slice doesn't have is 0.
-pub fn number16_at(s: &[u8], at: Place) -> u16
-    ensures { result ≡ number (bytes_at s.now (place_no at) 2) }
+// The number in the bytes at a place; a byte that the slice doesn't have is 0.
+pub fn number_at<N: Number>(s: &[u8], at: Place) -> N
+    ensures { N.value result ≡ number (bytes_at s.now (place_no at) N.SIZE) }
 {
     let p = at.0;
-    numbers::be16(byte_after(s, p, 0), byte_after(s, p, 1))
-}
-
-pub fn number32_at(s: &[u8], at: Place) -> u32
-    ensures { result ≡ number (bytes_at s.now (place_no at) 4) }
-{
-    let p = at.0;
-    numbers::be32(
-        byte_after(s, p, 0),
-        byte_after(s, p, 1),
-        byte_after(s, p, 2),
-        byte_after(s, p, 3),
-    )
+    if are_within(s.len(), N::SIZE, 1, p) {
+        return N::of_bytes(&s[p..p + N::SIZE]);
+    }
+    let mut bytes = [0u8; 8];
+    if p < s.len() {
+        bytes[..s.len() - p].copy_from_slice(&s[p..]);
+    }
+    N::of_bytes(&bytes[..N::SIZE])
 }
 
 // Copies a slice into another of the same length. One of another length is left as it was.
 pub fn copy(src: &[u8], out: &mut [u8])
     ensures { out.new ≡ copy_of src.now out.old }
 {
-    if out.len() != src.len() {
-        return;
-    }
-    let mut i = 0;
-    while i < src.len() {
-        out[i] = src[i];
-        i += 1;
+    if out.len() == src.len() {
+        out.copy_from_slice(src);
     }
 }
 
-// Stores a number in a slice of two bytes, and in one of four. A slice of another length is left as it was.
-pub fn put16(n: u16, out: &mut [u8])
-    ensures { out.new ≡ copy_of (bytes_of 2 n) out.old }
+// Stores a number in a slice of as many bytes. A slice of another length is left as it was.
+pub fn put<N: Number>(n: N, out: &mut [u8])
+    ensures { out.new ≡ copy_of (bytes_of N.SIZE (N.value n)) out.old }
 {
-    if out.len() != 2 {
-        return;
+    if out.len() == N::SIZE {
+        n.put(out);
     }
-    let b = numbers::bytes16(n);
-    out[0] = b[0];
-    out[1] = b[1];
-}
-
-pub fn put32(n: u32, out: &mut [u8])
-    ensures { out.new ≡ copy_of (bytes_of 4 n) out.old }
-{
-    if out.len() != 4 {
-        return;
-    }
-    let b = numbers::bytes32(n);
-    out[0] = b[0];
-    out[1] = b[1];
-    out[2] = b[2];
-    out[3] = b[3];
 }
 
 // Whether n parts of w bytes each, from a place on, are within so many bytes.

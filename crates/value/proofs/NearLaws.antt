@@ -16,15 +16,14 @@ use Rattle.numbers.proofs.SignLaws.{below_or}
 use Rattle.numbers.proofs.Magnitudes.{neg_signed, abs_signed, signed_zero}
 use Rattle.numbers.proofs.FirstLaws.{first_at}
 use Rattle.formats.specs.Codes.{denominator_power, whole_format}
-use Rattle.formats.specs.Format.{unit, limit, fits_at, placed_at, placed}
+use Rattle.formats.specs.Format.{unit, limit, fits_at, beside, placed_at, placed}
 use Rattle.formats.specs.Steps.{Float, Length, Lowest}
 use Rattle.formats.specs.Words.{float_bits, float_of, float_word, whole_of, whole_word, word_bits}
 use Rattle.formats.specs.Nearest.{nearest_multiple, nearest_magnitude, nearest_in, changes_in}
 use Rattle.formats.specs.declared.Format.{Format}
 use Rattle.formats.specs.declared.Placed.{Placed}
-use Rattle.formats.specs.declared.Placed.TheVariants.{At}
-use Rattle.formats.specs.declared.Written.{Written}
-use Rattle.formats.specs.declared.Written.TheVariants.{Word}
+use Rattle.formats.specs.Written.{Written, Word}
+use Rattle.std.specs.Prelude.{Option, Some}
 use Rattle.formats.proofs.FitLaws.{place, fraction_at}
 use Rattle.formats.proofs.PlacedLaws.{serves_value, placed_normal, placed_only, placed_is}
 use Rattle.formats.proofs.Powers.{parted}
@@ -32,9 +31,9 @@ use Rattle.formats.proofs.NearestLaws.{ShortDigits, step, step_fits, under_limit
 use Rattle.formats.proofs.FitLaws as fits
 use Rattle.formats.proofs.NearestSteps.{nearest_signed, magnitude_end, changes_end, magnitude_own, changes_exact, changes_rounded, rounded_few, rounded_large, magnitude_inner, magnitude_last}
 use Rattle.value.specs.Parts.{NearPlace}
-use Rattle.value.specs.Writing.{rounded_by}
+use Rattle.value.specs.Writing.{rounded_by, rounded}
 use Rattle.value.specs.declared.Rounded.{Rounded}
-use Rattle.value.specs.declared.RoundedPlace.{RoundedPlace}
+use Rattle.value.specs.declared.rounding.RoundedPlace.{RoundedPlace}
 
 -- ## How it is found
 
@@ -47,7 +46,7 @@ module _ (x : Format) (ok : ShortDigits x) (s : Bool) (o k : ℕ) (odd : o % 2 �
   most_large = omega (arith, step_fits x ok)
 
   -- the end
-  pub near_end : x.characteristics - 1 < c → (f : ℕ) → f ≡ limit x s - 1 → NearPlace x s (o * 2 ^ k) (record { c = x.characteristics - 1; f = f; changed = 1 })
+  pub near_end : x.characteristics - 1 < c → (f : ℕ) → f ≡ limit x s - 1 → NearPlace x s (o * 2 ^ k) (record { place = beside (x.characteristics - 1) f; changed = true })
   near_end h f e =
       record {
         is = ap (λ (y : ℕ). y * unit x (x.characteristics - 1)) e ∙ sym (magnitude_end x ok s o k odd n length c low h);
@@ -58,7 +57,7 @@ module _ (x : Format) (ok : ShortDigits x) (s : Bool) (o k : ℕ) (odd : o % 2 �
       }
 
   -- the value itself
-  pub near_exact : c < x.characteristics → place x c ≤ k → (f : ℕ) → f ≡ o * 2 ^ (k - place x c) → NearPlace x s (o * 2 ^ k) (record { c = c; f = f; changed = 0 })
+  pub near_exact : c < x.characteristics → place x c ≤ k → (f : ℕ) → f ≡ o * 2 ^ (k - place x c) → NearPlace x s (o * 2 ^ k) (record { place = beside c f; changed = false })
   near_exact h l f e =
       record {
         is = ap (λ (y : ℕ). y * unit x c) e ∙ sym (parted o k (place x c) l) ∙ sym (magnitude_own x ok s o k odd n length c low h l);
@@ -77,7 +76,7 @@ module _ (x : Format) (ok : ShortDigits x) (s : Bool) (o k : ℕ) (odd : o % 2 �
     large = rounded_large x ok s o k odd n length c low h f is
 
     -- beside the last characteristic, no more than the largest fraction
-    pub near_last : c ≡ x.characteristics - 1 → (g : ℕ) → g ≡ min f (limit x s - 1) → NearPlace x s (o * 2 ^ k) (record { c = c; f = g; changed = 1 })
+    pub near_last : c ≡ x.characteristics - 1 → (g : ℕ) → g ≡ min f (limit x s - 1) → NearPlace x s (o * 2 ^ k) (record { place = beside c g; changed = true })
     near_last m g e =
         record {
           is = ap (λ (y : ℕ). y * unit x c) e ∙ sym (magnitude_last x ok s o k odd n length c low h f is m);
@@ -92,7 +91,7 @@ module _ (x : Format) (ok : ShortDigits x) (s : Bool) (o k : ℕ) (odd : o % 2 �
       is_near : f * unit x c ≡ nearest_magnitude x s (o * 2 ^ k)
       is_near = sym (magnitude_inner x ok s o k odd n length c low h f is m)
 
-      pub near_next : f ≡ 2 ^ x.fraction → (g : ℕ) → g ≡ 2 ^ (x.fraction - x.digit) → NearPlace x s (o * 2 ^ k) (record { c = c + 1; f = g; changed = 1 })
+      pub near_next : f ≡ 2 ^ x.fraction → (g : ℕ) → g ≡ 2 ^ (x.fraction - x.digit) → NearPlace x s (o * 2 ^ k) (record { place = beside (c + 1) g; changed = true })
       near_next e g d =
           let up : c + 1 ≡ suc c = omega arith in
           record {
@@ -103,7 +102,7 @@ module _ (x : Format) (ok : ShortDigits x) (s : Bool) (o k : ℕ) (odd : o % 2 �
             changes = changed;
           }
 
-      pub near_inner : (f ≡ 2 ^ x.fraction → ⊥) → NearPlace x s (o * 2 ^ k) (record { c = c; f = f; changed = 1 })
+      pub near_inner : (f ≡ 2 ^ x.fraction → ⊥) → NearPlace x s (o * 2 ^ k) (record { place = beside c f; changed = true })
       near_inner e =
           record {
             is = is_near;
@@ -119,25 +118,25 @@ module _ (x : Format) (ok : ShortDigits x) (s : Bool) (o k : ℕ) (odd : o % 2 �
 -- ## Its word
 
 -- what is handed over of a word and a change
-pub as_rounded : (word : ℤ → Written) (x : Format) (v : ℤ) (b g : ℕ) → b ≡ word_bits (word (nearest_in x v)) → g ≡ changes_in x v → ◌≡◌ {A = Rounded} (record { bits = b; changed = g }) (rounded_by word x v)
-as_rounded word x v b g e d = ap₂ (λ (i j : ℕ). record { bits = i; changed = j }) e d
+pub as_rounded : (word : ℤ → Written) (x : Format) (v : ℤ) (r : Rounded) → r.bits ≡ word_bits (word (nearest_in x v)) → pick r.changed 1 0 ≡ changes_in x v → rounded r ≡ rounded_by word x v
+as_rounded word x v r e d = ap₂ (λ (i j : ℕ). record { bits = i; changed = j }) e d
 
 module _ (x : Format) (s : Bool) (a : ℕ) (some : 0 < a) (r : RoundedPlace) (near : NearPlace x s a r) where
   -- the nearest value by its place
-  pub near_value : nearest_in x (sign_magnitude s a) ≡ sign_magnitude s (r.f * unit x r.c)
+  pub near_value : nearest_in x (sign_magnitude s a) ≡ sign_magnitude s (r.place.fraction * unit x r.place.characteristic)
   near_value = nearest_signed x s a some ∙ ap (sign_magnitude s) (sym near.is)
 
   -- its sign
-  near_sign : is_negative (sign_magnitude s (r.f * unit x r.c)) ≡ (s && not (eqb r.f 0))
-  near_sign = go r.f
+  near_sign : is_negative (sign_magnitude s (r.place.fraction * unit x r.place.characteristic)) ≡ (s && not (eqb r.place.fraction 0))
+  near_sign = go r.place.fraction
     where
-      go : (f : ℕ) → is_negative (sign_magnitude s (f * unit x r.c)) ≡ (s && not (eqb f 0))
-      go zero = rw (zero-mul (unit x r.c), signed_zero s) (none s)
+      go : (f : ℕ) → is_negative (sign_magnitude s (f * unit x r.place.characteristic)) ≡ (s && not (eqb f 0))
+      go zero = rw (zero-mul (unit x r.place.characteristic), signed_zero s) (none s)
         where
           none : (s : Bool) → false ≡ (s && false)
           none true = refl
           none false = refl
-      go (suc f) = neg_signed s (suc f * unit x r.c) (mul-pos (let z : 0 < suc f = omega arith in z) (pow_pos (x.base + x.digit * r.c))) ∙ rw (ne_eqb (suc f) 0 (λ e. no e)) (all s)
+      go (suc f) = neg_signed s (suc f * unit x r.place.characteristic) (mul-pos (let z : 0 < suc f = omega arith in z) (pow_pos (x.base + x.digit * r.place.characteristic))) ∙ rw (ne_eqb (suc f) 0 (λ e. no e)) (all s)
         where
           no : suc f ≡ 0 → ⊥
           no e = omega arith
@@ -146,56 +145,78 @@ module _ (x : Format) (s : Bool) (a : ℕ) (some : 0 < a) (r : RoundedPlace) (ne
           all true = refl
           all false = refl
 
-  size : nat_abs (sign_magnitude s (r.f * unit x r.c)) ≡ r.f * unit x r.c
-  size = abs_signed s (r.f * unit x r.c)
+  size : nat_abs (sign_magnitude s (r.place.fraction * unit x r.place.characteristic)) ≡ r.place.fraction * unit x r.place.characteristic
+  size = abs_signed s (r.place.fraction * unit x r.place.characteristic)
 
-  few : x.more ≡ false → r.f < 2 ^ x.fraction
+  few : x.more ≡ false → r.place.fraction < 2 ^ x.fraction
   few even = go x.more even near.fits
     where
-      go : (m : Bool) → m ≡ false → r.f < 2 ^ x.fraction + pick (m && s) 1 0 → r.f < 2 ^ x.fraction
+      go : (m : Bool) → m ≡ false → r.place.fraction < 2 ^ x.fraction + pick (m && s) 1 0 → r.place.fraction < 2 ^ x.fraction
       go false e l = omega arith
       go true e l = let z : ◌≡◌ {A = ℕ} 0 1 = cc in omega arith
 
   -- characteristic and fraction leave the sign bit free
-  pub near_room : (w y : ℕ) → Float x w y → r.c * 2 ^ y + r.f < 2 ^ (w - 1)
+  pub near_room : (w y : ℕ) → Float x w y → r.place.characteristic * 2 ^ y + r.place.fraction < 2 ^ (w - 1)
   near_room w y t =
-      let a : r.c * 2 ^ y ≤ (x.characteristics - 1) * 2 ^ y = mul-le-mul_right (2 ^ y) (let z : r.c ≤ x.characteristics - 1 = omega (arith, near.below) in z) in
+      let a : r.place.characteristic * 2 ^ y ≤ (x.characteristics - 1) * 2 ^ y = mul-le-mul_right (2 ^ y) (let z : r.place.characteristic ≤ x.characteristics - 1 = omega (arith, near.below) in z) in
       omega (arith, a, t.room, few t.even)
 
   -- LAW. In a format of sign and magnitude it is the place of exact writing.
   pub near_float : (w y : ℕ) → x.more ≡ false → x.digit ≤ x.fraction
-      → float_word x w y (nearest_in x (sign_magnitude s a)) ≡ Word (float_bits w y (s && not (eqb r.f 0)) r.c r.f)
+      → float_word x w y (nearest_in x (sign_magnitude s a)) ≡ Word (float_bits w y (s && not (eqb r.place.fraction 0)) r.place.characteristic r.place.fraction)
   near_float w y even small =
       ap (float_word x w y) near_value
-      ∙ ap₂ (float_of w y) near_sign (placed_only x (sign_magnitude s (r.f * unit x r.c)) r.c r.f even small near.below (few even) size near.normal)
+      ∙ ap₂ (float_of w y) near_sign (placed_only x (sign_magnitude s (r.place.fraction * unit x r.place.characteristic)) r.place.characteristic r.place.fraction even small near.below (few even) size near.normal)
 
   -- LAW. With one characteristic as well.
-  pub near_first : r.c ≡ 0 → placed x (sign_magnitude s (r.f * unit x r.c)) ≡ At 0 r.f
+  pub near_first : r.place.characteristic ≡ 0 → placed x (sign_magnitude s (r.place.fraction * unit x r.place.characteristic)) ≡ Some (beside 0 r.place.fraction)
   near_first e =
       ap (placed_at x v) (first_at (fits_at x v) x.characteristics 0 0 (omega arith) (omega (arith, near.below)) here (λ i z l. absurd (none i l)))
-      ∙ rw (lt-ltb 0 x.characteristics (omega (arith, near.below))) (ap (At 0) (ap (λ (y : ℕ). y / unit x 0) size ∙ ap (λ (c : ℕ). r.f * unit x c / unit x 0) e ∙ mul-div_cancel r.f (pow_pos (x.base + x.digit * 0))))
+      ∙ rw (lt-ltb 0 x.characteristics (omega (arith, near.below))) (ap (λ (f : ℕ). Some (beside 0 f)) (ap (λ (y : ℕ). y / unit x 0) size ∙ ap (λ (c : ℕ). r.place.fraction * unit x c / unit x 0) e ∙ mul-div_cancel r.place.fraction (pow_pos (x.base + x.digit * 0))))
     where
       v : ℤ
-      v = sign_magnitude s (r.f * unit x r.c)
+      v = sign_magnitude s (r.place.fraction * unit x r.place.characteristic)
 
       none : (i : ℕ) → i < 0 → ⊥
       none i l = omega arith
 
       here : fits_at x v 0 ≡ true
-      here = subst (λ (c : ℕ). fits_at x (sign_magnitude s (r.f * unit x r.c)) c ≡ true) e (serves_value x s r.f r.c near.fits)
+      here = subst (λ (c : ℕ). fits_at x (sign_magnitude s (r.place.fraction * unit x r.place.characteristic)) c ≡ true) e (serves_value x s r.place.fraction r.place.characteristic near.fits)
 
 -- the word of a whole number of w bits
 pub near_whole : (w : ℕ) (s : Bool) (a : ℕ) → 0 < a → (r : RoundedPlace) → NearPlace (whole_format w) s a r
-    → word_bits (whole_word w (nearest_in (whole_format w) (sign_magnitude s a))) ≡ bits_of w (sign_magnitude s r.f)
+    → word_bits (whole_word w (nearest_in (whole_format w) (sign_magnitude s a))) ≡ bits_of w (sign_magnitude s r.place.fraction)
 near_whole w s a some r near =
     ap (λ (v : ℤ). word_bits (whole_word w v)) (near_value (whole_format w) s a some r near)
-    ∙ ap (λ (p : Placed). word_bits (whole_of w (is_negative v) p)) (near_first (whole_format w) s a some r near (omega (arith, near.below)))
-    ∙ ap (bits_of w) (back r.f)
+    ∙ ap (λ (p : Option Placed). word_bits (whole_of w (is_negative v) p)) (near_first (whole_format w) s a some r near (omega (arith, near.below)))
+    ∙ ap (bits_of w) (back r.place.fraction)
   where
     v : ℤ
-    v = sign_magnitude s (r.f * unit (whole_format w) r.c)
+    v = sign_magnitude s (r.place.fraction * unit (whole_format w) r.place.characteristic)
 
     -- a number other than 0 has the sign of its value
-    back : (f : ℕ) → sign_magnitude (is_negative (sign_magnitude s (f * unit (whole_format w) r.c))) f ≡ sign_magnitude s f
-    back zero = signed_zero (is_negative (sign_magnitude s (0 * unit (whole_format w) r.c))) ∙ sym (signed_zero s)
-    back (suc f) = ap (λ (b : Bool). sign_magnitude b (suc f)) (neg_signed s (suc f * unit (whole_format w) r.c) (mul-pos (let z : 0 < suc f = omega arith in z) (pow_pos (denominator_power + 1 * r.c))))
+    back : (f : ℕ) → sign_magnitude (is_negative (sign_magnitude s (f * unit (whole_format w) r.place.characteristic))) f ≡ sign_magnitude s f
+    back zero = signed_zero (is_negative (sign_magnitude s (0 * unit (whole_format w) r.place.characteristic))) ∙ sym (signed_zero s)
+    back (suc f) = ap (λ (b : Bool). sign_magnitude b (suc f)) (neg_signed s (suc f * unit (whole_format w) r.place.characteristic) (mul-pos (let z : 0 < suc f = omega arith in z) (pow_pos (denominator_power + 1 * r.place.characteristic))))
+
+-- a magnitude of 0 has no sign
+other : (f : ℕ) → eqb (suc f) 0 ≡ false
+other f = ne_eqb (suc f) 0 (λ e. no e)
+  where
+    no : suc f ≡ 0 → ⊥
+    no e = omega arith
+
+pub signed_by : (s : Bool) (f : ℕ) → sign_magnitude (s && not (eqb f 0)) f ≡ sign_magnitude s f
+signed_by true zero = refl
+signed_by true (suc f) = rw (other f)
+signed_by false f = refl
+
+pub signed_low : (s : Bool) (f : ℕ) → pick (s && not (eqb f 0)) 1 0 ≤ f
+signed_low true zero = omega arith
+signed_low true (suc f) = rw (other f) (omega arith)
+signed_low false f = omega arith
+
+pub signed_high : (s : Bool) (f n : ℕ) → 0 < n → f < n + pick s 1 0 → f < n + pick (s && not (eqb f 0)) 1 0
+signed_high true zero n p h = omega arith
+signed_high true (suc f) n p h = rw (other f) h
+signed_high false f n p h = h

@@ -1,19 +1,17 @@
--- What writing a pair gives, exactly and to the nearest, by the pair's parts. Assumes nothing.
-use Prim.Native.Nat.{ℕ, ◌*◌, ◌^◌}
+-- What writing zero gives, exactly and to the nearest. Assumes nothing.
+use Prim.Native.Nat.{ℕ}
 use mathlib.Core.Path.{◌≡◌, refl, ap, ap₂, ◌∙◌}
-use mathlib.Core.Bool.{Bool, true, false}
+use mathlib.Core.Bool.{true}
 use lib.IntN.{ℤ, pos}
 use Rattle.numbers.specs.First.{first}
-use Rattle.numbers.specs.SignMagnitude.{sign_magnitude}
 use Rattle.formats.specs.Codes.{is_code, format_of}
 use Rattle.formats.specs.Words.{word_of, word_bits}
 use Rattle.formats.specs.Nearest.{nearest_in, differs}
-use Rattle.value.specs.Writing.{write_pair, rounded_by, nearest_pair}
+use Rattle.value.specs.Writing.{Rounded, write_pair, rounded_by, nearest_pair}
 use Rattle.value.specs.Parts.{PartsOf}
 use Rattle.value.specs.declared.Pair.{Pair}
-use Rattle.value.specs.declared.Parts.TheVariants.{NotCanonical, Zero, Odd}
-use Rattle.value.specs.declared.Rounded.{Rounded}
-use Rattle.formats.specs.declared.Written.TheVariants.{Word, Refused}
+use Rattle.std.specs.Prelude.{None, Ok}
+use Rattle.formats.specs.Written.{Word}
 use Rattle.formats.proofs.CodeLaws.{Code, ibm, whole32, whole16, gain, ieee, whole8, code_is}
 use Rattle.formats.proofs.FitLaws.{zero_fits}
 use Rattle.formats.proofs.PlacedLaws.{fits_in_format}
@@ -32,43 +30,26 @@ zero_word code i = go code (code_is code i)
     go code ieee = refl
     go code whole8 = refl
 
-module _ (code : ℕ) (p : Pair) (i : is_code code ≡ true) where
-  pub not_canonical : PartsOf p NotCanonical → write_pair code p ≡ Refused 13
-  not_canonical h = rw (i, h)
-
-  pub zero_pair : PartsOf p Zero → write_pair code p ≡ Word 0
-  zero_pair h = rw (i, h.0, h.1) (zero_word code i)
-
-  pub odd_pair : (s : Bool) (o k : ℕ) → PartsOf p (Odd s o k) → write_pair code p ≡ word_of code (sign_magnitude s (o * 2 ^ k))
-  odd_pair s o k h = rw (i, h.0, h.1.value)
-
--- ## To the nearest
-
--- what is given of a pair that 11 or 13 refuses, and of zero
+-- what is given of zero
 abbrev pub nothing : Rounded
 nothing = record { bits = 0; changed = 0 }
 
-module _ (code : ℕ) (p : Pair) where
-  pub near_no_code : is_code code ≡ false → nearest_pair code p ≡ nothing
-  near_no_code i = rw i
+module _ (code : ℕ) (p : Pair) (i : is_code code ≡ true) where
+  pub zero_pair : PartsOf p (Ok None) → write_pair code p ≡ Word 0
+  zero_pair h = rw (i, h.0, h.1) (zero_word code i)
 
-  module _ (i : is_code code ≡ true) where
-    pub near_not_canonical : PartsOf p NotCanonical → nearest_pair code p ≡ nothing
-    near_not_canonical h = rw (i, h)
+  -- ## To the nearest
 
-    pub near_odd : (s : Bool) (o k : ℕ) → PartsOf p (Odd s o k) → nearest_pair code p ≡ rounded_by (word_of code) (format_of code) (sign_magnitude s (o * 2 ^ k))
-    near_odd s o k h = rw (i, h.0, h.1.value)
+  -- zero is its own nearest
+  zero_self : nearest_in (format_of code) (pos 0) ≡ pos 0
+  zero_self =
+      let ok = code_rounds code i in
+      nearest_self (format_of code) ok (pos 0) (fits_in_format (format_of code) (pos 0) 0 ok.some (zero_fits (format_of code) 0))
 
-    -- zero is its own nearest
-    zero_self : nearest_in (format_of code) (pos 0) ≡ pos 0
-    zero_self =
-        let ok = code_rounds code i in
-        nearest_self (format_of code) ok (pos 0) (fits_in_format (format_of code) (pos 0) 0 ok.some (zero_fits (format_of code) 0))
+  near_of_zero : rounded_by (word_of code) (format_of code) (pos 0) ≡ nothing
+  near_of_zero =
+      ap₂ (λ (b c : ℕ). record { bits = b; changed = c }) (ap (λ (v : ℤ). word_bits (word_of code v)) zero_self ∙ ap word_bits (zero_word code i))
+      (ap (differs (pos 0)) zero_self)
 
-    near_of_zero : rounded_by (word_of code) (format_of code) (pos 0) ≡ nothing
-    near_of_zero =
-        ap₂ (λ (b c : ℕ). record { bits = b; changed = c }) (ap (λ (v : ℤ). word_bits (word_of code v)) zero_self ∙ ap word_bits (zero_word code i))
-        (ap (differs (pos 0)) zero_self)
-
-    pub near_zero : PartsOf p Zero → nearest_pair code p ≡ nothing
-    near_zero h = rw (i, h.0) (ap (rounded_by (word_of code) (format_of code)) h.1 ∙ near_of_zero)
+  pub near_zero : PartsOf p (Ok None) → nearest_pair code p ≡ nothing
+  near_zero h = rw (i, h.0) (ap (rounded_by (word_of code) (format_of code)) h.1 ∙ near_of_zero)

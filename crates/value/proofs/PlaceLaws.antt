@@ -1,19 +1,15 @@
--- The steps by which a value is placed and its word made: the length of its magnitude in bits, the least characteristic, the fraction by one
--- shift, and the bits of two's complement. Assumes nothing.
-use mathlib.Core.Path.{◌≡◌, refl, sym, ◌∙◌, subst}
-use mathlib.Core.Logic.{⊎_elim}
+-- The steps by which a value is placed: the length of its magnitude in bits, and the fraction by one shift. Assumes nothing.
+use mathlib.Core.Path.{◌≡◌, sym, ◌∙◌, subst}
 use mathlib.Core.Bool.{Bool, true, false, ◌&&◌}
-use Prim.Native.Nat.{ℕ, zero, suc, ◌+◌, ◌-◌, ◌*◌, ◌/◌, ◌%◌, ◌^◌, ◌≤◌, ◌<◌, min}
-use native.Mathlib.Nat.{div-eq_of_lt, lt-mul-div-succ, mul-div-le, mul-le-mul_left, mul-le-mul_right, mul-suc, mul-add, mul-one, one-mul, zero-mul, pow-suc}
+use Prim.Native.Nat.{ℕ, zero, suc, ◌+◌, ◌-◌, ◌*◌, ◌%◌, ◌^◌, ◌≤◌, ◌<◌}
+use native.Mathlib.Nat.{mul-le-mul_right, one-mul, zero-mul, pow-suc}
 use native.Mathlib.Omega.{arith}
 use lib.Count.{count_leading_zeros, leading_top}
 use lib.Pow.{pow_mono}
 use Rattle.numbers.specs.Walk.{pick}
-use Rattle.numbers.specs.TwosComplement.{bits_of}
 use Rattle.numbers.specs.SignMagnitude.{sign_magnitude, is_negative}
-use Rattle.numbers.proofs.SignLaws.{below_or, double}
-use Rattle.numbers.proofs.Magnitudes.{bits_signed_neg, abs_signed, neg_signed}
-use Rattle.formats.specs.Steps.{Length, Lowest}
+use Rattle.numbers.proofs.Magnitudes.{abs_signed, neg_signed}
+use Rattle.formats.specs.Steps.{Length}
 use Rattle.formats.specs.Format.{unit}
 use Rattle.formats.specs.declared.Format.{Format}
 use Rattle.formats.proofs.Powers.{exponents}
@@ -23,35 +19,6 @@ use Rattle.value.specs.Pair.{mantissa_bits}
 use Rattle.value.proofs.Twos.{odd_shl}
 
 -- ## Steps
-
--- the least number of steps, by division
-lowest_zero : (n room d : ℕ) → n ≤ room → Lowest n room d 0
-lowest_zero n room d h = record { enough = omega arith; least = λ i l. absurd (none i l) }
-  where
-    none : (i : ℕ) → i < 0 → ⊥
-    none i l = omega arith
-
-lowest_div : (n room d : ℕ) → 0 < d → room < n → Lowest n room d ((n - room + (d - 1)) / d)
-lowest_div n room d p h =
-    let a = n - room + (d - 1) in
-    let c = a / d in
-    record {
-      enough = omega (arith, lt-mul-div-succ a p, mul-add d c 1, mul-one d);
-      least = λ i l. let k : d * suc i ≤ d * c = mul-le-mul_left d l in omega (arith, k, mul-div-le a d, mul-suc d i);
-    }
-
-pub lowest_steps : (n room d : ℕ) → 0 < d → Lowest n room d ((n - min n room + (d - 1)) / d)
-lowest_steps n room d p =
-    ⊎_elim
-    (λ (h : room < n). let e : min n room ≡ room = omega arith in rw e (lowest_div n room d p h))
-    (λ (h : n ≤ room).
-    let e : n - min n room + (d - 1) ≡ d - 1 = omega arith in
-    let l : d - 1 < d = omega arith in
-    rw (e, div-eq_of_lt l) (lowest_zero n room d h)) (below_or room n)
-
--- a number other than 0 has fewer zeros than there are bits above its first 1
-pub leading_few : (a : ℕ) → 0 < a → a < 2 ^ mantissa_bits → count_leading_zeros mantissa_bits a ≤ mantissa_bits - 1
-leading_few a some fits = omega (arith, (leading_top mantissa_bits a some fits).1)
 
 -- a power of two is not odd but for 1
 power_even : (o t : ℕ) → 0 < o → 2 ^ t ≤ 2 * o + 1 → 2 ^ t ≤ 2 * o
@@ -102,17 +69,7 @@ fraction_some x s o k c (suc f) e p = omega arith
 pub odd_sign : (s : Bool) (o k : ℕ) → o % 2 ≡ 1 → is_negative (sign_magnitude s (o * 2 ^ k)) ≡ s
 odd_sign s o k e = neg_signed s (o * 2 ^ k) (odd_shl o k e)
 
--- ## Two's complement
-
--- numbers of at most 32 bits, by sign and magnitude
-module _ (w : ℕ) (some : 0 < w) (most : w ≤ 32) where
-  pub half_le : 2 ^ (w - 1) ≤ 2 ^ 31
-  half_le = pow_mono {j = 31} (omega arith)
-
-  pub magnitude_le : (s : Bool) (q : ℕ) → q < 2 ^ (w - 1) + pick s 1 0 → q ≤ 2 ^ (w - 1)
-  magnitude_le false q l = omega arith
-  magnitude_le true q l = omega arith
-
-  pub bits_of_lem : (s : Bool) (q : ℕ) → 0 < q → q < 2 ^ (w - 1) + pick s 1 0 → (pick s (2 ^ w - q) q ≡ bits_of w (sign_magnitude s q)) × (pick s (2 ^ w - q) q < 2 ^ w)
-  bits_of_lem false q h l = (refl, omega (arith, double w some))
-  bits_of_lem true q h l = (sym (bits_signed_neg w q h), omega (arith, double w some))
+-- a magnitude other than 0 is not below its sign's bit
+pub signed_some : (s : Bool) {q : ℕ} → 0 < q → pick s 1 0 ≤ q
+signed_some true h = omega arith
+signed_some false h = omega arith

@@ -5,7 +5,7 @@ use Prim.Native.Nat.{ℕ}
 use Rattle.numbers.specs.Walk.{pick}
 use Rattle.formats.specs.Codes.{is_code}
 use Rattle.formats.specs.Words.{word_of}
-use Rattle.formats.specs.declared.Written.TheVariants.{Word, Refused}
+use Rattle.formats.specs.Written.{Word, Refused}
 use Rattle.formats.proofs.WordLaws.{no_word}
 use Rattle.value.specs.Pair.{value_of, is_canonical}
 use Rattle.value.specs.Writing.{write_pair}

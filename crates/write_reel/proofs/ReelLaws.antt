@@ -10,7 +10,7 @@ use Rattle.numbers.specs.Terms.{Bytes}
 use Rattle.numbers.specs.Walk.{pick, flat, sum, bytes_at, overwritten}
 use Rattle.numbers.specs.Places.{byte_place}
 use Rattle.numbers.specs.BigEndian.{bytes_of}
-use Rattle.numbers.specs.declared.Check.TheVariants.{Fine}
+use Rattle.numbers.specs.Cause.{Fine}
 use Rattle.numbers.proofs.CauseLaws.{passed, then_fine}
 use Rattle.numbers.proofs.WalkLaws.{size_bytes, map_walk}
 use Rattle.fields.specs.Fields.{each, pair_place}

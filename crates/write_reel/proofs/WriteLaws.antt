@@ -12,9 +12,10 @@ use Rattle.numbers.specs.Terms.{Bytes}
 use Rattle.numbers.specs.Walk.{pick}
 use Rattle.numbers.specs.Cause.{refuse_if, then}
 use Rattle.numbers.specs.Outcome.{Said, taken, refused, Outcome}
-use Rattle.numbers.specs.declared.Place.{Place}
-use Rattle.numbers.specs.declared.Check.{Check}
-use Rattle.numbers.specs.declared.Check.TheVariants as check
+use Rattle.std.proofs.Common.{Ok, Err}
+use Rattle.numbers.specs.declared.Cause.TheVariants as cause
+use Rattle.numbers.specs.Cause.{Check}
+use Rattle.numbers.specs.Cause as check
 use Rattle.numbers.proofs.CauseLaws.{passed, then_assoc, then_fine}
 use Rattle.formats.specs.Codes.{is_code, sample_bytes}
 use Rattle.reel.specs.Layout.{stride}
@@ -25,9 +26,9 @@ use Rattle.record.specs.Form.{held_samples, held_interval, held_count, traces_pl
 use Rattle.record.specs.Held.{held_by}
 use Rattle.fit.specs.Target.{target_causes}
 use Rattle.record.specs.Answer.{outcome, counted_outcome}
-use Rattle.record.specs.declared.Answer.TheVariants.{Refused}
-use Rattle.record.specs.declared.Counted.TheVariants as counted
-use Rattle.record.specs.declared.Judged.TheVariants as judged
+use Rattle.record.specs.Judged as judged
+use Rattle.numbers.specs.declared.Refusal.{Refusal}
+use Rattle.numbers.specs.Cause.{number_of}
 use Rattle.record.proofs.FormLaws.{count_most, headed, held_length}
 use Rattle.record.proofs.JudgedLaws.{Own}
 use Rattle.fit.proofs.FitLaws.{target_form}
@@ -73,12 +74,12 @@ own_judged s n t o = ap (record_found s) o.fine ∙ ap₂ (λ (x y : ℕ). judge
 
 module _ (near : Bool) (s : List ℕ) (code n t : ℕ) (out : List ℕ) (k : ℕ) (q : k ≡ reel_length code t n) where
   -- the output is too short,
-  pub short_end : length out < k → counted_outcome (counted.Refused 10 (record { 0 = k })) out ≡ copied_outcome near s code n t out
+  pub short_end : length out < k → counted_outcome (Err (record { cause = cause.ShortOutput; place = record { 0 = k } })) out ≡ copied_outcome near s code n t out
   short_end l = rw (q, lt-ltb (length out) (reel_length code t n) (subst (λ (x : ℕ). length out < x) q l))
 
   -- or holds it
   pub taken_end : (c : ℕ) (ys : List ℕ) → c ≡ traces_changed_at near s code n t 0 → ys ≡ reel_copied near s code n t → k ≤ length out
-      → counted_outcome (counted.Taken t n k c) (ys ++ drop k out) ≡ copied_outcome near s code n t out
+      → counted_outcome (Ok (record { traces = t; samples = n; length = k; count = c })) (ys ++ drop k out) ≡ copied_outcome near s code n t out
   taken_end c ys d e l = rw (q, d, e, le-ltb (length out) (reel_length code t n) (subst (λ (x : ℕ). x ≤ length out) q l))
 
 -- ## Exactly
@@ -92,8 +93,8 @@ without_count o = record { said = drop_count o.said; bytes = o.bytes }
     drop_count (refused number place) = refused number place
 
 module _ (s : List ℕ) (code : ℕ) (out : List ℕ) where
-  pub refused_end : (number : ℕ) (place : Place) → target_causes s code ≡ check.Refused number place → outcome (Refused number place) out ≡ write_outcome s code out
-  refused_end number place e = rw e
+  pub refused_end : (r : Refusal) → target_causes s code ≡ check.Refused (number_of r.cause) r.place → outcome (Err r) out ≡ write_outcome s code out
+  refused_end r e = rw e
 
   -- a record that can be written under the code is valid
   pub own_form : (n t : ℕ) → Own s (target_causes s code) n t → (is_code code ≡ true) × Own s (form_causes s) n t
@@ -140,8 +141,8 @@ module _ (s : List ℕ) (code : ℕ) (out : List ℕ) where
   abbrev too_short : Check
   too_short = refuse_if (ltb (length out) (reel_length_of s code)) 10 (reel_length_of s code)
 
-  pub nearest_call_refused : (number : ℕ) (place : Place) → before ≡ check.Refused number place → counted_outcome (counted.Refused number place) out ≡ nearest_outcome s code out
-  nearest_call_refused number place e = sym (ap (nearest_end s code out) (causes too_short ∙ ap (λ (c : Check). then c too_short) e))
+  pub nearest_call_refused : (r : Refusal) → before ≡ check.Refused (number_of r.cause) r.place → counted_outcome (Err r) out ≡ nearest_outcome s code out
+  nearest_call_refused r e = sym (ap (nearest_end s code out) (causes too_short ∙ ap (λ (c : Check). then c too_short) e))
 
   pub own_valid : (n t : ℕ) → Own s before n t → (is_code code ≡ true) × Own s (form_causes s) n t
   own_valid n t o =

@@ -4,8 +4,8 @@ use Rattle.numbers.specs.Walk.{sum}
 use Rattle.numbers.specs.Cause.{refuse_if, then}
 use Rattle.numbers.specs.Outcome.{taken, refused, Outcome}
 use Rattle.numbers.specs.Places.{place_no}
-use Rattle.numbers.specs.declared.Check.{Check}
-use Rattle.numbers.specs.declared.Check.TheVariants as check
+use Rattle.numbers.specs.Cause.{Check}
+use Rattle.numbers.specs.Cause as check
 use Rattle.formats.specs.Codes.{is_code}
 use Rattle.formats.specs.Nearest.{nearest_value, changes}
 use Rattle.reel.specs.Meaning.{Trace, Meaning}

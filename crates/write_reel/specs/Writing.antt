@@ -3,8 +3,8 @@ use Rattle.std.specs.Prelude.{ℕ, List, [], ◌∷◌, ◌++◌, length, drop, 
 use Rattle.numbers.specs.Cause.{refuse_if, then}
 use Rattle.numbers.specs.Outcome.{taken, refused, Outcome}
 use Rattle.numbers.specs.Places.{place_no}
-use Rattle.numbers.specs.declared.Check.{Check}
-use Rattle.numbers.specs.declared.Check.TheVariants as check
+use Rattle.numbers.specs.Cause.{Check}
+use Rattle.numbers.specs.Cause as check
 use Rattle.record.specs.Form.{held_samples, held_count}
 use Rattle.record.specs.Held.{held_by}
 use Rattle.fit.specs.Target.{target_causes}

@@ -13,23 +13,21 @@ ghost use Rattle.fields.specs.Fields.{fields_length};
 ghost use Rattle.record.specs.Kind.{tag04};
 ghost use Rattle.record.specs.Form.{behind_trace_in, traces_place, trace_place, form_causes, record_found, record_judged};
 ghost use Rattle.fit.specs.Target.{fit_judged};
+ghost use Rattle.record.specs.Judged.{judged, Fine};
 ghost use Rattle.record.specs.Answer.{outcome, counted_outcome};
 ghost use Rattle.write_reel.specs.Writing.{write_outcome};
 ghost use Rattle.write_reel.specs.Nearest.{nearest_outcome};
 ghost use Rattle.write_reel.specs.Copied.{zeros_for, reel_header_copied, samples_copied, samples_changed_at, fields_words, fields_changed_at, reel_trace_copied, trace_changed_at, traces_copied, traces_changed_at, reel_copied, copied_outcome};
 
-use numbers::{ByteNo, Check, Place};
-use record::{Answer, Counted, Judged};
+use numbers::{ByteNo, Cause, Place, Refusal};
+use record::{Counted, Numbers, Taken};
 
 // Bytes 00, which unassigned bytes are.
+#[tactic(auto, unfolding(crate::specs::Copied::zeros_for))]
 fn put_zeros(out: &mut [u8])
     ensures { out.new ≡ zeros_for out.old }
 {
-    let mut i = 0;
-    while i < out.len() {
-        out[i] = 0;
-        i += 1;
-    }
+    out.fill(0);
 }
 
 // A header: its assigned bytes, and behind them the unassigned.
@@ -153,7 +151,7 @@ fn put_code(code: u32, out: &mut [u8])
     ensures { out.new ≡ overwritten out.old (byte_place 0 3225) (bytes_of 2 code) }
 {
     let p = places::field_at(Place(0), ByteNo(3225)).0;
-    slices::put16(code as u16, &mut out[p..p + 2]);
+    slices::put(code as u16, &mut out[p..p + 2]);
 }
 
 // The reel of t traces of n samples, which fills out; and how many samples changed.
@@ -179,79 +177,70 @@ fn put_reel(
 }
 
 // A valid record under one of the codes, by its N and T: its reel, or 10 where the output is too short.
-fn put_checked(record: &[u8], near: bool, code: u32, n: usize, t: usize, reel: &mut [u8]) -> Counted
-    requires { (is_code code ≡ true) × (record_judged «record».now ≡ Judged.Fine n t) }
-    ensures { counted_outcome result reel.new ≡ copied_outcome near «record».now code n t reel.old }
+fn put_checked(
+    record: &[u8],
+    near: bool,
+    code: u32,
+    own: Numbers,
+    reel: &mut [u8],
+) -> Result<Counted, Refusal>
+    requires { (is_code code ≡ true) × (record_judged «record».now ≡ Fine own.samples own.traces) }
+    ensures { counted_outcome result reel.new ≡ copied_outcome near «record».now code own.samples own.traces reel.old }
 {
+    let n = own.samples;
+    let t = own.traces;
     let v = formats::width_of(code as usize);
     let w = 240 + n * v;
     let length = 3600 + t * w;
     if reel.len() < length {
-        return Counted::Refused {
-            number: 10,
+        return Err(Refusal {
+            cause: Cause::ShortOutput,
             place: Place(length),
-        };
+        });
     }
     let count = put_reel(record, near, code, v, n as u16, w, t, &mut reel[..length]);
-    Counted::Taken {
+    Ok(Counted {
         traces: t,
         samples: n,
         length,
         count,
-    }
+    })
 }
 
 // A record that can be written under the code, by its N and T.
-fn write_checked(record: &[u8], code: u32, n: usize, t: usize, reel: &mut [u8]) -> Answer
-    requires { fit_judged «record».now code ≡ Judged.Fine n t }
+fn write_checked(record: &[u8], code: u32, own: Numbers, reel: &mut [u8]) -> Result<Taken, Refusal>
+    requires { fit_judged «record».now code ≡ Fine own.samples own.traces }
     ensures { outcome result reel.new ≡ write_outcome «record».now code reel.old }
 {
-    let c = put_checked(record, false, code, n, t, reel);
-    match c {
-        Counted::Taken {
-            traces,
-            samples,
-            length,
-            count: _,
-        } => Answer::Taken {
-            traces,
-            samples,
-            length,
-        },
-        Counted::Refused { number, place } => Answer::Refused { number, place },
-    }
+    let c = put_checked(record, false, code, own, reel)?;
+    Ok(Taken {
+        traces: c.traces,
+        samples: c.samples,
+        length: c.length,
+    })
 }
 
 // Writes a record under a target code as a reel, into the front of a reel buffer.
-pub fn write_reel(record: &[u8], code: u32, reel: &mut [u8]) -> Answer
+pub fn write_reel(record: &[u8], code: u32, reel: &mut [u8]) -> Result<Taken, Refusal>
     ensures { outcome result reel.new ≡ write_outcome «record».now code reel.old }
 {
-    let c = fit::judge_fit(record, code);
-    match c {
-        Judged::Refused { number, place } => Answer::Refused { number, place },
-        Judged::Fine { samples, traces } => write_checked(record, code, samples, traces, reel),
-    }
+    let own = fit::judge_fit(record, code)?;
+    write_checked(record, code, own, reel)
 }
 
 // Whether the code is one of the codes and the record valid, by the causes 11, 12 and 13, and its N and T where none applies.
-fn judge_target_and_form(record: &[u8], code: u32) -> Judged
-    ensures { result ≡ record_found «record».now (then (refuse_if (not (is_code code)) 11 0) (form_causes «record».now)) }
+fn judge_target_and_form(record: &[u8], code: u32) -> Result<Numbers, Refusal>
+    ensures { judged result ≡ record_found «record».now (then (refuse_if (not (is_code code)) 11 0) (form_causes «record».now)) }
 {
-    let c = reel::check_code(code as usize, 11, Place(0));
-    match c {
-        Check::Refused { number, place } => Judged::Refused { number, place },
-        Check::Fine => record::judge_record(record),
-    }
+    reel::check_code(code as usize, Cause::TargetCode, Place(0))?;
+    record::judge_record(record)
 }
 
 // Writes a record under a target code as a reel, each sample as the nearest value of the code, into the front of a reel buffer, and counts
 // the samples whose value changed.
-pub fn write_nearest(record: &[u8], code: u32, reel: &mut [u8]) -> Counted
+pub fn write_nearest(record: &[u8], code: u32, reel: &mut [u8]) -> Result<Counted, Refusal>
     ensures { counted_outcome result reel.new ≡ nearest_outcome «record».now code reel.old }
 {
-    let c = judge_target_and_form(record, code);
-    match c {
-        Judged::Refused { number, place } => Counted::Refused { number, place },
-        Judged::Fine { samples, traces } => put_checked(record, true, code, samples, traces, reel),
-    }
+    let own = judge_target_and_form(record, code)?;
+    put_checked(record, true, code, own, reel)
 }

@@ -16,7 +16,7 @@ use Rattle.formats.proofs.DifferLaws.{differs_most}
 use Rattle.value.specs.Pair.{pair_length, pair_in, pair_of_bits, is_canonical, value_of}
 use Rattle.value.specs.Writing.{nearest_pair}
 use Rattle.value.specs.declared.Pair.{Pair}
-use Rattle.value.specs.declared.Rounded.{Rounded}
+use Rattle.value.specs.Writing.{Rounded}
 use Rattle.value.proofs.PairBytes.{pair_fetched}
 use Rattle.write_samples.specs.Samples.{there_and_as_long}
 use Rattle.write_samples.proofs.WordLaws.{as_given}

@@ -6,13 +6,13 @@ use native.Mathlib.Omega.{arith}
 use Rattle.numbers.specs.Walk.{walk, bytes_at}
 use Rattle.numbers.specs.BigEndian.{number}
 use Rattle.numbers.specs.Cause.{then, first_of}
-use Rattle.numbers.specs.declared.Check.TheVariants.{Fine, Refused}
+use Rattle.numbers.specs.Cause.{Fine, Refused}
 use Rattle.numbers.specs.declared.Place.{Place}
 use Rattle.numbers.proofs.CauseLaws.{first_none, first_more, first_stop, then_last}
 use Rattle.numbers.proofs.WalkLaws.{walk_more}
 use Rattle.value.specs.Writing.{write_pair}
 use Rattle.value.specs.Pair.{pair_of_bits}
-use Rattle.formats.specs.declared.Written.{Written}
+use Rattle.formats.specs.Written.{Written}
 use Rattle.value.proofs.PairBytes.{pair_fetched}
 use Rattle.write_samples.specs.Samples.{pair_refused, pair_check}
 

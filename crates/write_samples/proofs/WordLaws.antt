@@ -18,7 +18,7 @@ use Rattle.value.specs.Writing.{write_pair}
 use Rattle.formats.specs.Words.{word_bits}
 use Rattle.value.specs.Pair.{pair_length, pair_of_bits}
 use Rattle.value.specs.declared.Pair.{Pair}
-use Rattle.formats.specs.declared.Written.{Written}
+use Rattle.formats.specs.Written.{Written}
 use Rattle.formats.proofs.CodeLaws.{Code, code_is, ibm, whole32, whole16, gain, ieee, whole8}
 use Rattle.value.proofs.PairBytes.{pair_fetched}
 use Rattle.write_samples.specs.Samples.{word_bytes, written_at, pair_check, pairs_there, there_and_as_long, samples_checked, sample_words, samples_written}

@@ -5,7 +5,7 @@ use Rattle.numbers.specs.BigEndian.{bytes_of}
 use Rattle.formats.specs.Codes.{sample_bytes}
 use Rattle.value.specs.Pair.{pair_length, pair_in}
 use Rattle.value.specs.Writing.{nearest_pair}
-use Rattle.value.specs.declared.Rounded.{Rounded}
+use Rattle.value.specs.Writing.{Rounded}
 use Rattle.write_samples.specs.Samples.{there_and_as_long}
 
 -- What nearest writing makes of the pair at a place.

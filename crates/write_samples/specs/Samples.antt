@@ -3,14 +3,14 @@ use Rattle.std.specs.Prelude.{ℕ, ◌+◌, ◌*◌, Bool, not, ◌&&◌, List, 
 use Rattle.numbers.specs.Walk.{pick, walk, flat, bytes_at}
 use Rattle.numbers.specs.BigEndian.{bytes_of}
 use Rattle.numbers.specs.Cause.{refuse_if, then, first_of}
-use Rattle.numbers.specs.declared.Check.{Check}
-use Rattle.numbers.specs.declared.Check.TheVariants.{Fine, Refused}
+use Rattle.numbers.specs.Cause.{Check}
+use Rattle.numbers.specs.Cause.{Fine, Refused}
 use Rattle.formats.specs.Codes.{is_code, sample_bytes}
 use Rattle.value.specs.Writing.{write_pair}
 use Rattle.formats.specs.Words.{word_bits}
 use Rattle.value.specs.Pair.{pair_length, pair_in}
-use Rattle.formats.specs.declared.Written.{Written}
-use Rattle.formats.specs.declared.Written.TheVariants as written
+use Rattle.formats.specs.Written.{Written}
+use Rattle.formats.specs.Written as written
 
 -- What writing the pair at a place gives.
 abbrev pub written_at : List ℕ → ℕ → ℕ → Written

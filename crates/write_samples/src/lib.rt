@@ -8,13 +8,14 @@ ghost use Rattle.numbers.specs.BigEndian.{number, bytes_of};
 ghost use Rattle.numbers.specs.Cause.{first_of};
 ghost use Rattle.numbers.specs.Places.{place_no};
 ghost use Rattle.formats.specs.Codes.{is_code, sample_bytes};
-ghost use Rattle.value.specs.Writing.{write_pair, nearest_pair};
+ghost use Rattle.numbers.specs.Cause.{checked};
+ghost use Rattle.formats.specs.Written.{written};
+ghost use Rattle.value.specs.Writing.{write_pair, nearest_pair, rounded};
 ghost use Rattle.formats.specs.Words.{word_bits};
 ghost use Rattle.write_samples.specs.Samples.{pair_refused, pair_check, word_bytes, sample_words, samples_checked, samples_written};
 ghost use Rattle.write_samples.specs.Nearest.{rounded_bytes, nearest_words, pairs_changed, nearest_samples_written, nearest_samples_counted};
 
-use formats::Written;
-use numbers::{Check, Place};
+use numbers::{Cause, Place, Refusal};
 use value::{Pair, Rounded};
 
 // The bits of the exponent and of the mantissa of the pair at a place.
@@ -34,23 +35,23 @@ fn mantissa_at(record: &[u8], at: usize) -> u32
 }
 
 // The refusal of a pair at a place.
-fn refused(word: Written, at: usize) -> Check
-    ensures { result ≡ pair_refused word at }
+fn refused(word: Result<u32, Cause>, at: usize) -> Result<(), Refusal>
+    ensures { checked result ≡ pair_refused (written word) at }
 {
     match word {
-        Written::Word { bits: _ } => Check::Fine,
-        Written::Refused { number } => Check::Refused {
-            number,
+        Ok(_) => Ok(()),
+        Err(cause) => Err(Refusal {
+            cause,
             place: Place(at),
-        },
+        }),
     }
 }
 
 // What writing a pair under one of the codes gives. The tests are not of equality, which the compiler would make a switch of: so it takes each
 // out of the loop that calls this, which becomes a loop for each code. It does so for two or three tests in a row, hence the first test.
-fn word_of(code: u32, p: Pair) -> Written
+fn word_of(code: u32, p: Pair) -> Result<u32, Cause>
     requires { is_code code ≡ true }
-    ensures { result ≡ write_pair code p }
+    ensures { written result ≡ write_pair code p }
 {
     if code < 4 {
         if code < 2 {
@@ -72,28 +73,28 @@ fn word_of(code: u32, p: Pair) -> Written
 
 // The first of n pairs from start on that is refused by 13 or 14 under a code. The bits of a pair are fetched a turn early: the compiler then
 // makes one fetch of each. A pair that is refused is written once more for the number of the refusal, which the loop then needn't keep.
-fn check_pairs(record: &[u8], code: u32, n: usize, start: usize) -> Check
+fn check_pairs(record: &[u8], code: u32, n: usize, start: usize) -> Result<(), Refusal>
     requires { (is_code code ≡ true) × (start + n * 6 ≤ length «record».now) }
-    ensures { result ≡ first_of (walk (pair_check «record».now code) 6 n start) }
+    ensures { checked result ≡ first_of (walk (pair_check «record».now code) 6 n start) }
 {
     if n < 1 {
-        return Check::Fine;
+        return Ok(());
     }
     let mut at = start;
     let mut left = n - 1;
     let mut e = exponent_at(record, start);
     let mut m = mantissa_at(record, start);
     while 0 < left {
-        let word = word_of(code, value::pair_of_bits(e, m));
-        let Written::Word { bits: _ } = word else {
-            return refused(value::write(code, value::pair_of_bits(e, m)), at);
+        let word = word_of(code, Pair::of_bits(e, m));
+        let Ok(_) = word else {
+            return refused(value::write(code, Pair::of_bits(e, m)), at);
         };
         at += 6;
         e = exponent_at(record, at);
         m = mantissa_at(record, at);
         left -= 1;
     }
-    refused(value::write(code, value::pair_of_bits(e, m)), at)
+    refused(value::write(code, Pair::of_bits(e, m)), at)
 }
 
 // The word of a pair under a code that has four bytes. The pairs of a record that came through the causes 11 to 14 all have a word; for one
@@ -104,18 +105,18 @@ fn put_word(code: u32, p: Pair, out: &mut [u8])
     ensures { out.new ≡ word_bytes code (write_pair code p) }
 {
     if code < 2 {
-        slices::put32(value::bits(1, p), out);
+        slices::put(value::bits(1, p), out);
         return;
     }
     if code < 3 {
-        slices::put32(value::bits(2, p), out);
+        slices::put(value::bits(2, p), out);
         return;
     }
     if code < 5 {
-        slices::put32(value::bits(4, p), out);
+        slices::put(value::bits(4, p), out);
         return;
     }
-    slices::put32(value::bits(5, p), out);
+    slices::put(value::bits(5, p), out);
 }
 
 // The samples of a trace, words of four bytes. The bits of a pair are fetched a turn early.
@@ -133,15 +134,15 @@ fn put_words(record: &[u8], code: u32, n: usize, start: usize, out: &mut [u8])
     let mut m = mantissa_at(record, start);
     while 0 < left {
         let next = o + 4;
-        put_word(code, value::pair_of_bits(e, m), &mut out[o..next]);
+        put_word(code, Pair::of_bits(e, m), &mut out[o..next]);
         at += 6;
         e = exponent_at(record, at);
         m = mantissa_at(record, at);
         o = next;
         left -= 1;
     }
-    let bits = value::bits(code, value::pair_of_bits(e, m));
-    slices::put32(bits, &mut out[o..o + 4]);
+    let bits = value::bits(code, Pair::of_bits(e, m));
+    slices::put(bits, &mut out[o..o + 4]);
 }
 
 // The bits of the word of a pair under a code that has two bytes or one, 0 where there is none.
@@ -185,7 +186,7 @@ fn put_shorts(record: &[u8], code: u32, n: usize, start: usize, out: &mut [u8])
     let mut m = mantissa_at(record, start);
     while 0 < left {
         let next = o + v;
-        let bits = short_bits(code, value::pair_of_bits(e, m));
+        let bits = short_bits(code, Pair::of_bits(e, m));
         put_short(code, bits, &mut out[o..next]);
         at += 6;
         e = exponent_at(record, at);
@@ -193,7 +194,7 @@ fn put_shorts(record: &[u8], code: u32, n: usize, start: usize, out: &mut [u8])
         o = next;
         left -= 1;
     }
-    let last = value::bits(code, value::pair_of_bits(e, m));
+    let last = value::bits(code, Pair::of_bits(e, m));
     put_short(code, last, &mut out[o..o + v]);
 }
 
@@ -231,21 +232,21 @@ fn are_as_long(bytes: usize, room: usize, code: u32, n: usize, start: usize) -> 
 
 // Whether a trace's samples can be written under a code: 11 where the code is none; 12 where n pairs from a place on aren't all there;
 // else the cause 13 or 14 against the first pair that has one.
-pub fn check_samples(record: &[u8], code: u32, n: usize, start: Place) -> Check
-    ensures { result ≡ samples_checked «record».now code n (place_no start) }
+pub fn check_samples(record: &[u8], code: u32, n: usize, start: Place) -> Result<(), Refusal>
+    ensures { checked result ≡ samples_checked «record».now code n (place_no start) }
 {
     let at = start.0;
     if !formats::is_code(code as usize) {
-        return Check::Refused {
-            number: 11,
+        return Err(Refusal {
+            cause: Cause::TargetCode,
             place: Place(0),
-        };
+        });
     }
     if !slices::are_within(record.len(), n, 6, at) {
-        return Check::Refused {
-            number: 12,
+        return Err(Refusal {
+            cause: Cause::RecordForm,
             place: start,
-        };
+        });
     }
     check_pairs(record, code, n, at)
 }
@@ -267,14 +268,14 @@ pub fn write_samples(record: &[u8], code: u32, n: usize, start: Place, out: &mut
 // The bytes of a word as nearest writing gives it, and 1 where it has another value.
 fn put_rounded(code: u32, word: Rounded, out: &mut [u8]) -> u32
     requires { (is_code code ≡ true) × (length out.old ≡ sample_bytes code) }
-    ensures { (result ≡ word.changed) × (out.new ≡ rounded_bytes code word) }
+    ensures { (result ≡ (rounded word).changed) × (out.new ≡ rounded_bytes code (rounded word)) }
 {
     if formats::width_of(code as usize) < 4 {
         put_short(code, word.bits, out);
-        return word.changed;
+        return word.changed as u32;
     }
-    slices::put32(word.bits, out);
-    word.changed
+    slices::put(word.bits, out);
+    word.changed as u32
 }
 
 // The word of the nearest value to a pair's under one of the codes. The tests are as they are in `word_of`, and for the same reason.
@@ -317,14 +318,14 @@ fn put_nearest(record: &[u8], code: u32, n: usize, start: usize, out: &mut [u8])
     let mut m = mantissa_at(record, start);
     while 0 < left {
         let next = o + v;
-        count += put_nearest_word(code, value::pair_of_bits(e, m), &mut out[o..next]) as usize;
+        count += put_nearest_word(code, Pair::of_bits(e, m), &mut out[o..next]) as usize;
         at += 6;
         e = exponent_at(record, at);
         m = mantissa_at(record, at);
         o = next;
         left -= 1;
     }
-    let last = value::nearest(code, value::pair_of_bits(e, m));
+    let last = value::nearest(code, Pair::of_bits(e, m));
     count + put_rounded(code, last, &mut out[o..o + v]) as usize
 }
 

@@ -19,7 +19,7 @@
 #![tactic(auto)]
 
 use cases::Stop;
-use record::{Answer, Counted};
+use record::{Counted, Taken};
 use std::io;
 use std::io::Read;
 
@@ -44,13 +44,9 @@ impl TryFrom<u8> for Way {
 
 // The digest of the record that reading a written reel gives, and the count of its words that are not normal.
 fn read_again(reel: &[u8], again: &mut [u8]) -> Option<(u64, usize)> {
-    match read_reel::read_reel(reel, again) {
-        Counted::Taken { length, count, .. } => Some((
-            digests::digest(again.get(..length)?),
-            count,
-        )),
-        Counted::Refused { .. } => None,
-    }
+    let read = read_reel::read_reel(reel, again).ok()?;
+    let record = again.get(..read.length)?;
+    Some((digests::digest(record), read.count))
 }
 
 // Prints the end of the line of a record that is written: the digest of the output, and what reading the reel again gives.
@@ -73,27 +69,31 @@ fn write(
 ) -> io::Result<()> {
     match way {
         Way::Exact => match write_reel::write_reel(record, code, out) {
-            Answer::Taken {
-                traces,
-                samples,
-                length,
-            } => {
+            Ok(
+                Taken {
+                    traces,
+                    samples,
+                    length,
+                },
+            ) => {
                 print!(rt; "taken {traces} {samples} {length}")?;
                 print_reel(rt, length, out, again)
             }
-            Answer::Refused { number, place } => cases::print_refused(rt, number, place, out),
+            Err(refusal) => cases::print_refused(rt, refusal, out),
         },
         Way::Nearest => match write_reel::write_nearest(record, code, out) {
-            Counted::Taken {
-                traces,
-                samples,
-                length,
-                count,
-            } => {
+            Ok(
+                Counted {
+                    traces,
+                    samples,
+                    length,
+                    count,
+                },
+            ) => {
                 print!(rt; "taken {traces} {samples} {length} {count}")?;
                 print_reel(rt, length, out, again)
             }
-            Counted::Refused { number, place } => cases::print_refused(rt, number, place, out),
+            Err(refusal) => cases::print_refused(rt, refusal, out),
         },
     }
 }

@@ -6,7 +6,7 @@ use Rattle.record.proofs.FormLaws.{headed}
 use Rattle.record.specs.Form.{form_causes}
 use Rattle.record.specs.Parts.{form_from}
 use Rattle.reel.specs.Causes.{most_traces}
-use Rattle.numbers.specs.declared.Check.TheVariants.{Fine}
+use Rattle.numbers.specs.Cause.{Fine}
 use lib.ListN.{length}
 use Prim.Native.Nat.{ℕ, ◌-◌, ◌≤◌}
 use mathlib.Core.Path.{◌≡◌, sym, ap, ◌∙◌}

@@ -4,7 +4,7 @@ use Rattle.compare.specs.Parts.{is_fine, same_bytes}
 use Rattle.record.proofs.FormLaws.{is_more, trace_form, form_room}
 use Rattle.record.specs.Kind.{tag04}
 use Rattle.record.specs.Form.{trace_form_in, held_stride_in, behind_trace_in}
-use Rattle.numbers.specs.declared.Check.TheVariants.{Fine}
+use Rattle.numbers.specs.Cause.{Fine}
 use borrow.Author.Tests.{le-leb, lt-leb}
 use lib.ListN.{length, take, drop}
 use mathlib.Core.Bool.{true}

@@ -7,9 +7,9 @@ use Prim.Native.Nat.{◌-◌}
 use mathlib.Core.Path.{◌≡◌}
 use Rattle.fit.proofs.check_body.Given as goal
 
-abbrev pub invariant-loop-c : goal.invariant-loop-c
-invariant-loop-c l =
+abbrev pub invariant-traces : goal.invariant-traces
+invariant-traces l =
     then (form_from l.«record» l.n l.i most_traces 0 traces_place) (fit_from l.«record» l.code l.n most_traces traces_place) ≡ then (form_from l.«record» l.n l.i (most_traces - l.t) l.t l.at) (fit_from l.«record» l.code l.n (most_traces - l.t) l.at)
 
-abbrev pub decreases-loop-c : goal.decreases-loop-c
-decreases-loop-c l = most_traces - l.t
+abbrev pub decreases-traces : goal.decreases-traces
+decreases-traces l = most_traces - l.t

@@ -1,18 +1,15 @@
 -- `fit::judge_fit` meets its contract. Assumes nothing.
+use Rattle.std.proofs.Common.{sym, ap, ◌∙◌}
 use Rattle.fit.proofs.FitLaws.{target_form}
 use Rattle.record.proofs.FormLaws.{numbers_held}
 use Rattle.record.specs.Form.{record_found}
+use Rattle.record.specs.Judged.{Fine}
 use Rattle.record.specs.declared.Numbers.{Numbers}
-use Rattle.record.specs.declared.Judged.TheVariants as judged
-use mathlib.Core.Path.{sym, ap, ◌∙◌}
 use Rattle.fit.proofs.judge_fit.Goals as goal
 
-pub returns-in-Refused : goal.returns-in-Refused
-returns-in-Refused c = ap (record_found c.args.«record».now) (sym c.in-Refused.is ∙ c.check_causes-c.ensures)
-
-pub returns-in-Fine : goal.returns-in-Fine
-returns-in-Fine c =
+pub returns : goal.returns
+returns c =
     let a = c.args in
     let s = a.«record».now in
-    let fine = sym c.check_causes-c.ensures ∙ c.in-Fine.is in
-    ap (λ (n : Numbers). judged.Fine n.samples n.traces) c.numbers_in-held.ensures ∙ numbers_held s (target_form s a.code fine) ∙ ap (record_found s) (sym fine)
+    let fine = sym c.in_ok-check_causes.ensures in
+    ap (λ (n : Numbers). Fine n.samples n.traces) c.numbers_in.ensures ∙ numbers_held s (target_form s a.code fine) ∙ ap (record_found s) (sym fine)

@@ -21,13 +21,13 @@ place c =
 pub overflow_add-p : goal.overflow_add-p
 overflow_add-p c = let p = c.requires in omega (arith, place c, p.0, p.1, p.2, c.well_formed.0)
 
-pub slice_bounds-put16-end : goal.slice_bounds-put16-end
-slice_bounds-put16-end c = let p = c.requires in omega (arith, place c, p.0, p.1)
+pub slice_bounds-put-end : goal.slice_bounds-put-end
+slice_bounds-put-end c = let p = c.requires in omega (arith, place c, p.0, p.1)
 
 pub returns : goal.returns
 returns c =
     let f = (goal.at.returns c).After-field_at-p in
     let l = f.args.out.now in
     let p = place_no f.field_at-p.result in
-    over l (bytes_of 2 f.own_at-v.result) p (p + 2) refl (copied _ _ c.put16.ensures (c.put16-arg-1.given.2 ∙ omega arith))
+    over l (bytes_of 2 f.own_at-v.result) p (p + 2) refl (copied _ _ c.put.ensures (c.put-arg-1.given.2 ∙ omega arith))
     ∙ ap₂ (λ (x v : ℕ). overwritten l x (bytes_of 2 v)) (place f) f.own_at-v.ensures

@@ -1,7 +1,7 @@
 -- `headers::judge_header` meets its contract. Assumes nothing.
 use Rattle.headers.specs.Header.{header_size, smallest_causes, header_judged, is_header}
 use Rattle.numbers.specs.Walk.{pick}
-use Rattle.numbers.specs.declared.Check.TheVariants.{Fine}
+use Rattle.numbers.specs.Cause.{Fine}
 use mathlib.Core.Bool.{Bool, true, false}
 use Prim.Native.Nat.{◌+◌}
 use lib.ListN.{length}

@@ -60,6 +60,6 @@ returns c =
     let z : g.scale_of-scale.result.scalar ≡ group_scalar (coordinates_at s at) = ap (λ (y : Scale). y.scalar) (scale g) in
     let f : SFits w16 g.scale_of-scale.result.scalar = sfits_of {w = w16} c.struct_told-1.given.1.0.1 in
     let n : c.bits16.result ≡ bits_of 16 (group_scalar (coordinates_at s at)) = (rw (to_z-of_z f) at c.bits16.ensures) ∙ ap (bits_of 16) z in
-    let e₁ = copied _ _ c.put16.ensures c.put16-arg-1.given.2 ∙ ap (bytes_of 2) n in
+    let e₁ = copied _ _ c.put.ensures c.put-arg-1.given.2 ∙ ap (bytes_of 2) n in
     let e₂ = c.put_numbers.ensures ∙ ap (λ (y : ℤ). group_bytes (times_factor y ns)) (factor (goal.at.returns c).After-struct_told-2-1) ∙ ap group_bytes (factor_is ns x (fits g)) in
     in_turn 2 16 st.args.out.now st.requires.1 refl e₁ e₂

@@ -56,5 +56,5 @@ returns c =
     let f : SFits w16 g.scale_of-scale.result.scalar = sfits_of {w = w16} c.struct_told-2-1.given.1.0.1 in
     let n : c.bits16.result ≡ bits_of 16 (group_scalar (elevations_at s at)) = (rw (to_z-of_z f) at c.bits16.ensures) ∙ ap (bits_of 16) z in
     let e₁ = c.put_numbers.ensures ∙ ap (λ (y : ℤ). group_bytes (times_factor y ns)) (factor told) ∙ ap group_bytes (factor_is ns x (fits g)) in
-    let e₂ = copied _ _ c.put16.ensures c.put16-arg-1.given.2 ∙ ap (bytes_of 2) n in
+    let e₂ = copied _ _ c.put.ensures c.put-arg-1.given.2 ∙ ap (bytes_of 2) n in
     in_turn 28 2 st.args.out.now st.requires.1 (size_held x ns 7 (size_in s 7 (at + 40))) e₁ e₂

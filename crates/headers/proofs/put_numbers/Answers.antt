@@ -43,8 +43,8 @@ times-requires c =
     let a = c.args in
     rw (number_is (goal.at.times-requires c).After-number_at) (fit_more a.reel.now (to_z w32 (of_z w32 a.factor)) l.left l.p c.loop-left-test.true l.invariant.3).0
 
-pub slice_bounds-put32-end : goal.slice_bounds-put32-end
-slice_bounds-put32-end c = let l = c.loop-left in omega (arith, l.invariant.1, l.invariant.2, c.loop-left-test.true)
+pub slice_bounds-put-end : goal.slice_bounds-put-end
+slice_bounds-put-end c = let l = c.loop-left in omega (arith, l.invariant.1, l.invariant.2, c.loop-left-test.true)
 
 pub overflow_add-p : goal.overflow_add-p
 overflow_add-p c = omega (arith, c.loop-left.invariant.0, c.loop-left-test.true)
@@ -58,7 +58,7 @@ loop-left-preserved c =
     let z = to_z w32 (of_z w32 a.factor) in
     let product : to_z w32 (of_z w32 c.times.result) ≡ number4 r l.p *ℤ z =
     to_z-of_z {w = w32} (sfits_of c.times.type_inv) ∙ c.times.ensures ∙ ap (λ (n : ℤ). n *ℤ z) (number_is (goal.at.loop-left-preserved c).After-number_at) in
-    let e = copied _ _ c.put32.ensures (omega (arith, c.put32-arg-1.given.2)) ∙ ap (bytes_of 4) (c.bits32.ensures ∙ ap (bits_of 32) product) in
+    let e = copied _ _ c.put.ensures (omega (arith, c.put-arg-1.given.2)) ∙ ap (bytes_of 4) (c.bits32.ensures ∙ ap (bits_of 32) product) in
     let f = part_put (stored z) (number4 r) 4 4 (λ x. refl) l.left l.p l.o (l.o + 4) t.loop-left-test.true refl l.invariant.4 e in
     (omega (arith, l.invariant.0, t.loop-left-test.true), f.size ∙ sym l.invariant.4.size ∙ l.invariant.1, omega (arith, l.invariant.2, t.loop-left-test.true), (fit_more r z l.left l.p t.loop-left-test.true l.invariant.3).1, f)
 

@@ -5,22 +5,17 @@ use Rattle.listing.specs.Calls.{take_causes, take_end}
 use Rattle.listing.specs.Parts.{take_by}
 use Rattle.listing.proofs.ListingLaws.{blanked, text_by_lem}
 use Rattle.numbers.proofs.ByteLaws.{all_bytes}
-use lib.ListN.{length, get_or, set}
-use Prim.Native.Nat.{ℕ}
-use mathlib.Core.List.{List}
-use mathlib.Core.Path.{ap, ap₂, ◌∙◌}
-use native.Mathlib.Omega.{arith}
+use Rattle.std.proofs.Common.{ℕ, List, length, get_or, set, ap, ap₂, ◌∙◌, arith}
 use Rattle.listing.proofs.take_cards.Goals as goal
 
 pub returns : goal.returns
 returns c =
-    let s = c in
-    let a = s.args in
+    let a = c.args in
     let r = a.«record».now in
     let l = a.listing.now in
     let out = a.out.now in
-    let made = c in
-    let bytes = made.card_bytes-bytes.ensures ∙ ap₂ (λ (x t : List ℕ). set x (get_or t 0 0) 0x40) made.codes.ensures made.characters-table.ensures ∙ blanked latin (latin_one_to_one.character 0 (omega arith)) in
+    let bytes =
+    c.card_bytes-bytes.ensures ∙ ap₂ (λ (x t : List ℕ). set x (get_or t 0 0) 0x40) c.codes.ensures c.characters.ensures ∙ blanked latin (latin_one_to_one.character 0 (omega arith)) in
     c.take_by.ensures
     ∙ ap (λ (b : List ℕ). take_by b r l out) bytes
-    ∙ ap (λ (x : List ℕ). take_end r x out (take_causes r l (length out))) (text_by_lem latin l (all_bytes l (λ i. omega (arith, c.shared_slice_known-2-1.given i))))
+    ∙ ap (λ (x : List ℕ). take_end r x out (take_causes r l (length out))) (text_by_lem latin l (all_bytes l (λ i. omega (arith, c.type_inv.listing i))))

@@ -7,4 +7,4 @@ use Rattle.record.proofs.pair_at.Goals as goal
 pub returns : goal.returns
 returns c =
     let a = c.args in
-    c.pair_in.ensures ∙ ap pair_in (sym (six_bytes a.«record».now a.at))
+    c.of_bytes.ensures ∙ ap pair_in (sym (six_bytes a.«record».now a.at))

@@ -35,14 +35,14 @@ room c =
     let a = c.args in
     leb-true (a.at.0 + (3 + 180)) (length a.«record».now) (sym c.ends_within.ensures ∙ c.if-not-ends_within.false)
 
-pub returns-then-number16_at-n : goal.returns-then-number16_at-n
-returns-then-number16_at-n c =
-    let b = (goal.at.returns-then-number16_at-n c).Else-not-ends_within in
+pub returns-then-number_at-n : goal.returns-then-number_at-n
+returns-then-number_at-n c =
+    let b = (goal.at.returns-then-number_at-n c).Else-not-ends_within in
     let a = b.args in
     let s = a.«record».now in
     let e : a.at.0 + 184 ≡ a.at.0 + 183 + 1 = omega arith in
-    let is = c.number16_at.ensures ∙ ap (number16 s) e in
-    rw (lt-ltb 6000 a.n b.if-n-le6000.false, le-leb a.n 8000 b.if-n-gt8000.false, ne_eqb (number16 s (a.at.0 + 183 + 1)) (a.n * 6) (λ q. c.if-number16_at-n.true (is ∙ q)))
+    let is = c.number_at.ensures ∙ ap (number16 s) e in
+    rw (lt-ltb 6000 a.n b.if-n-le6000.false, le-leb a.n 8000 b.if-n-gt8000.false, ne_eqb (number16 s (a.at.0 + 183 + 1)) (a.n * 6) (λ q. c.if-number_at-n.true (is ∙ q)))
 
 pub returns : goal.returns
 returns c =
@@ -50,8 +50,8 @@ returns c =
     let a = b.args in
     let s = a.«record».now in
     let e : a.at.0 + 184 ≡ a.at.0 + 183 + 1 = omega arith in
-    let is = c.number16_at.ensures ∙ ap (number16 s) e in
-    rw (lt-ltb 6000 a.n b.if-n-le6000.false, le-leb a.n 8000 b.if-n-gt8000.false, eq-eqb (number16 s (a.at.0 + 183 + 1)) (a.n * 6) (sym is ∙ c.if-number16_at-n.false))
+    let is = c.number_at.ensures ∙ ap (number16 s) e in
+    rw (lt-ltb 6000 a.n b.if-n-le6000.false, le-leb a.n 8000 b.if-n-gt8000.false, eq-eqb (number16 s (a.at.0 + 183 + 1)) (a.n * 6) (sym is ∙ c.if-number_at-n.false))
 
 pub overflow_add-p : goal.overflow_add-p
 overflow_add-p c = omega (arith, room (goal.at.overflow_add-p c).Else-not-ends_within)

@@ -1,72 +1,50 @@
 -- `reel_box::check_run` meets its contract. Assumes nothing.
-use Rattle.reel_box.proofs.BoxLaws.{run_none, run_next, run_stop}
+use Rattle.std.proofs.Common.{◌≡◌, ◌+◌, ◌-◌, ◌*◌, ◌^◌, ◌≤◌, ◌<◌, length, rules, refl, sym, ap, ◌∙◌, arith, mul-le-mul_left, mul-le-mul_right, suc-mul}
+use Rattle.numbers.specs.Cause.{checked, number_of, Refused}
+use Rattle.numbers.proofs.CauseLaws.{then_stop, then_next}
+use Rattle.numbers.proofs.WalkLaws.{at_zero}
 use Rattle.reel_box.specs.Box.{run_rules}
-use Rattle.numbers.proofs.WalkLaws.{times_more}
-use lib.ListN.{length}
-use Prim.Native.Nat.{◌+◌, ◌-◌, ◌*◌, ◌^◌, ◌≤◌, ◌<◌}
-use native.Mathlib.Nat.{mul-le-mul_left}
-use mathlib.Core.Path.{refl, sym, ap, ◌∙◌}
-use native.Mathlib.Omega.{arith}
-use borrow.Author.Rules.{rules}
-use Rattle.reel_box.proofs.check_run.Goals.{In-loop-left}
+use Rattle.reel_box.proofs.BoxLaws.{run_turn, run_none}
+use Rattle.reel_box.proofs.StepLaws.{wide}
 use Rattle.reel_box.proofs.check_run.Goals as goal
 
-pub loop-left-init : goal.loop-left-init
-loop-left-init c = (refl, c.requires.1, omega arith)
+pub check_trace-requires : goal.check_trace-requires
+check_trace-requires c =
+    let a = c.args in
+    let o = a.own in
+    let w : 240 ≤ o.stride = omega (arith, o.stride_is, wide o.layout o.samples o.width) in
+    let few = mul-le-mul_left o.traces w in
+    let room = mul-le-mul_right o.stride c.loop-i-test.true in
+    let all : length a.s.now < 2 ^ 64 = search rules in
+    (omega (arith, room, suc-mul c.loop-i.i o.stride, c.requires), omega (arith, few, c.requires, all, c.loop-i-test.true))
 
--- a trace lies within the slice, and is not too far on
-room : (c : In-loop-left)
-    → let h = c in let s = c in
-    (h.loop-left.at + s.args.w ≤ length s.args.s.now) × (h.loop-left.i < 2 ^ 63) × (240 ≤ s.args.w)
-room c =
-    let h = c in
-    let s = c in
-    let few : s.args.t * 240 ≤ s.args.t * s.args.w = mul-le-mul_left s.args.t s.requires.0 in
-    let all : length s.args.s.now < 2 ^ 64 = search rules in
-    (omega (arith, times_more h.loop-left.left s.args.w c.loop-left-test.true, h.loop-left.invariant.1), omega (arith, few, all, s.requires.1, h.loop-left.invariant.2, c.loop-left-test.true), s.requires.0)
+pub loop-i-init : goal.loop-i-init
+loop-i-init c =
+    let o = c.args.own in
+    let z : o.traces - 0 ≡ o.traces = omega arith in
+    rw (z, at_zero c.args.start o.stride) refl
 
-pub returns-in_default : goal.returns-in_default
-returns-in_default c =
-    let k = c in
-    let h = c in
-    let a = h.args in
-    let e = c.in_default.is in
-    e ∙ sym (h.loop-left.invariant.0 ∙ run_stop a.s.now a.w h.loop-left.left h.loop-left.at h.loop-left.i h.loop-left.expected k.loop-left-test.true (sym k.check_trace-c.ensures ∙ e))
+pub returns-in_err-check_trace : goal.returns-in_err-check_trace
+returns-in_err-check_trace c =
+    let a = c.args in
+    let o = a.own in
+    let l = c.loop-i in
+    let r = c.in_err-check_trace.field-0.0 in
+    let q : checked c.from_residual.result ≡ Refused (number_of r.cause) r.place = search rules in
+    q ∙ c.in_err-check_trace.ensures ∙ then_stop _ _ (sym c.in_err-check_trace.ensures)
+    ∙ sym (l.invariant ∙ run_turn a.s.now o.stride o.traces a.start l.i l.expected c.loop-i-test.true)
 
-pub loop-left-preserved : goal.loop-left-preserved
-loop-left-preserved c =
-    let k = c in
-    let h = c in
-    let l = h.loop-left in
-    let a = h.args in
-    let p = k.loop-left-test.true in (
-      l.invariant.0
-          ∙ run_next a.s.now a.w l.left l.at l.i l.expected p (sym k.check_trace-c.ensures ∙ c.in-Fine.is)
-          ∙ ap (run_rules a.s.now a.w (l.left - 1) (l.at + a.w) (l.i + 1)) (sym c.next_of-expected.ensures),
-      omega (arith, times_more l.left a.w p, l.invariant.1),
-      omega (arith, l.invariant.2, p),
-    )
+pub loop-i-preserved : goal.loop-i-preserved
+loop-i-preserved c =
+    let a = c.args in
+    let o = a.own in
+    let l = c.loop-i in
+    l.invariant ∙ run_turn a.s.now o.stride o.traces a.start l.i l.expected c.loop-i-test.true ∙ sym (then_next _ _ (sym c.in_ok-check_trace.ensures))
+    ∙ ap (run_rules a.s.now o.stride (o.traces - (l.i + 1)) (a.start + (l.i + 1) * o.stride) (l.i + 1 + 1)) (sym c.next_of-expected.ensures)
 
 pub returns : goal.returns
 returns c =
-    let l = c.loop-left in
     let a = c.args in
-    run_none a.s.now a.w l.left l.at l.i l.expected c.loop-left-test.false ∙ sym l.invariant.0
-
-pub check_trace-c-requires : goal.check_trace-c-requires
-check_trace-c-requires c = let r = room (goal.at.check_trace-c-requires c).In-loop-left in (omega (arith, r.0, r.2), r.1)
-
-pub next_of-expected-requires : goal.next_of-expected-requires
-next_of-expected-requires c = let r = room (goal.at.next_of-expected-requires c).In-loop-left in (search rules, omega (arith, r.0, r.2))
-
-pub overflow_add-at : goal.overflow_add-at
-overflow_add-at c = omega (arith, (room (goal.at.overflow_add-at c).In-loop-left).0)
-
-pub overflow_sub-left : goal.overflow_sub-left
-overflow_sub-left c = omega (arith, c.loop-left-test.true)
-
-pub overflow_add-i : goal.overflow_add-i
-overflow_add-i c = omega (arith, (room (goal.at.overflow_add-i c).In-loop-left).1)
-
-pub loop-left-smaller : goal.loop-left-smaller
-loop-left-smaller c = omega (arith, c.loop-left-test.true)
+    let o = a.own in
+    let l = c.loop-i in
+    run_none a.s.now o.stride (o.traces - l.i) (a.start + l.i * o.stride) (l.i + 1) l.expected (omega (arith, c.loop-i-test.false)) ∙ sym l.invariant

@@ -1,22 +1,21 @@
 -- `write_reel::judge_target_and_form` meets its contract. Assumes nothing.
-use Rattle.numbers.specs.Cause.{then}
-use Rattle.numbers.specs.declared.Check.{Check}
+use Rattle.std.proofs.Common.{◌≡◌, sym, ap, ◌∙◌, rules, List, ℕ}
+use Rattle.numbers.specs.Cause.{Check, then, number_of}
 use Rattle.record.specs.Form.{form_causes, record_found}
-use Rattle.record.specs.declared.Judged.{Judged}
-use mathlib.Core.List.{List}
-use mathlib.Core.Path.{sym, ap, ◌∙◌}
-use Prim.Native.Nat.{ℕ}
+use Rattle.record.specs.Judged.{Judged, judged, Refused}
 use Rattle.write_reel.proofs.judge_target_and_form.Goals as goal
 
 -- what is found behind a check of the code
 behind : List ℕ → Check → Judged
 behind s c = record_found s (then c (form_causes s))
 
-pub returns-in-Refused : goal.returns-in-Refused
+pub returns-in_err-check_code : goal.returns-in_err-check_code
 unfolding behind
-returns-in-Refused c = ap (behind c.args.«record».now) (sym c.in-Refused.is ∙ c.check_code-c.ensures)
+returns-in_err-check_code c =
+    let e = c.in_err-check_code.field-0.0 in
+    let q : judged c.from_residual.result ≡ Refused (number_of e.cause) e.place = search rules in
+    q ∙ ap (behind c.args.«record».now) c.in_err-check_code.ensures
 
-pub returns-in-Fine : goal.returns-in-Fine
+pub returns : goal.returns
 unfolding behind
-returns-in-Fine c =
-    c.judge_record.ensures ∙ ap (behind c.args.«record».now) (sym c.in-Fine.is ∙ c.check_code-c.ensures)
+returns c = c.judge_record.ensures ∙ ap (behind c.args.«record».now) c.in_ok-check_code.ensures

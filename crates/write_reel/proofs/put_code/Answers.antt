@@ -22,8 +22,8 @@ overflow_cast-code c = omega (arith, code_limits c.args.code c.requires.0)
 pub overflow_add-p : goal.overflow_add-p
 overflow_add-p c = omega (arith, place (goal.at.overflow_add-p c).After-field_at-p)
 
-pub slice_bounds-put16-end : goal.slice_bounds-put16-end
-slice_bounds-put16-end c = omega (arith, place c, c.requires.1)
+pub slice_bounds-put-end : goal.slice_bounds-put-end
+slice_bounds-put-end c = omega (arith, place c, c.requires.1)
 
 pub returns : goal.returns
 returns c =
@@ -31,5 +31,5 @@ returns c =
     let a = f.args in
     let new = bytes_of 2 a.code in
     let p = place_no f.field_at-p.result in
-    over a.out.now new p (p + 2) refl (copied _ _ c.put16.ensures (c.put16-arg-1.given.2 ∙ omega arith))
+    over a.out.now new p (p + 2) refl (copied _ _ c.put.ensures (c.put-arg-1.given.2 ∙ omega arith))
     ∙ ap (λ (x : ℕ). overwritten a.out.now x new) (place f)

@@ -1,20 +1,14 @@
 -- `write_reel::write_reel` meets its contract. Assumes nothing.
+use Rattle.std.proofs.Common.{◌≡◌, sym, ◌∙◌, ap, rules, Err}
 use Rattle.fit.specs.Target.{target_causes}
 use Rattle.record.proofs.JudgedLaws.{refused_is}
+use Rattle.record.specs.Answer.{outcome}
 use Rattle.write_reel.proofs.WriteLaws.{refused_end}
-use mathlib.Core.Path.{sym, ◌∙◌}
 use Rattle.write_reel.proofs.write_reel.Goals as goal
 
-pub write_checked-requires : goal.write_checked-requires
-write_checked-requires c = sym c.judge_fit-c.ensures ∙ c.in-Fine.is
-
-pub returns-in-Refused : goal.returns-in-Refused
-returns-in-Refused c =
+pub returns-in_err-own : goal.returns-in_err-own
+returns-in_err-own c =
     let a = c.args in
-    refused_end a.«record».now a.code a.reel.now _ _ (refused_is a.«record».now (target_causes a.«record».now a.code) (sym c.judge_fit-c.ensures ∙ c.in-Refused.is))
-
-pub shape_of-reel : goal.shape_of-reel
-shape_of-reel c = c.reel-1.given
-
-pub returns-in-Fine : goal.returns-in-Fine
-returns-in-Fine c = c.write_checked.ensures
+    let r = c.in_err-own.field-0.0 in
+    let q : outcome c.from_residual.result a.reel.now ≡ outcome (Err r) a.reel.now = search rules in
+    q ∙ refused_end a.«record».now a.code a.reel.now r (refused_is a.«record».now (target_causes a.«record».now a.code) (sym c.in_err-own.ensures))

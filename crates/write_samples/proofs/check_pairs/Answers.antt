@@ -5,6 +5,7 @@ use Rattle.numbers.proofs.WalkLaws.{times_more}
 use Rattle.numbers.specs.Cause.{first_of}
 use Rattle.numbers.specs.Walk.{walk}
 use Rattle.write_samples.specs.Samples.{pair_refused, pair_check}
+use Rattle.formats.specs.Written.{written}
 use Prim.Native.Nat.{ℕ, ◌+◌, ◌-◌}
 use mathlib.Core.Path.{◌≡◌, sym, ap, ◌∙◌}
 use native.Mathlib.Omega.{arith}
@@ -39,20 +40,20 @@ word_of-word-requires c = c.requires.0
 -- what writing the pair that has been fetched gives
 cause : (c : After-word_of-word)
     → let a = c.args in
-    pair_refused c.word_of-word.result c.loop-left.at ≡ pair_check a.«record».now a.code c.loop-left.at
+    pair_refused (written c.word_of-word.result) c.loop-left.at ≡ pair_check a.«record».now a.code c.loop-left.at
 cause c =
     let a = c.args in
     let l = c.loop-left in
-    pair_cause a.«record».now a.code l.at l.e l.m c.pair_of_bits.result c.word_of-word.result c.word_of-word.ensures c.pair_of_bits.ensures l.invariant.2 l.invariant.3
+    pair_cause a.«record».now a.code l.at l.e l.m c.of_bits.result (written c.word_of-word.result) c.word_of-word.ensures c.of_bits.ensures l.invariant.2 l.invariant.3
 
 pub returns-in_default : goal.returns-in_default
 returns-in_default c =
     let w = (goal.at.returns-in_default c).After-word_of-word in
     let a = w.args in
     let l = w.loop-left in
-    let p = c.pair_of_bits-in_default in
-    c.refused.ensures ∙ pair_cause a.«record».now a.code l.at l.e l.m p.result c.write.result c.write.ensures p.ensures l.invariant.2 l.invariant.3
-    ∙ pairs_stop a.«record».now a.code l.left l.at (sym (cause w) ∙ ap (λ x. pair_refused x l.at) c.in_default.is) ∙ sym l.invariant.0
+    let p = c.of_bits-in_default in
+    c.refused.ensures ∙ pair_cause a.«record».now a.code l.at l.e l.m p.result (written c.write.result) c.write.ensures p.ensures l.invariant.2 l.invariant.3
+    ∙ pairs_stop a.«record».now a.code l.left l.at (sym (cause w) ∙ ap (λ x. pair_refused (written x) l.at) c.in_default.is) ∙ sym l.invariant.0
 
 pub overflow_add-at : goal.overflow_add-at
 overflow_add-at c =
@@ -81,7 +82,7 @@ loop-left-preserved c =
     let a = w.args in
     let l = w.loop-left in
     let some = w.loop-left-test.true in (
-      l.invariant.0 ∙ pairs_more a.«record».now a.code l.left l.at some (sym (cause w) ∙ ap (λ x. pair_refused x l.at) c.in-Word.is),
+      l.invariant.0 ∙ pairs_more a.«record».now a.code l.left l.at some (sym (cause w) ∙ ap (λ x. pair_refused (written x) l.at) c.in-Ok.is),
       omega (arith, times_more l.left 6 some, l.invariant.1),
       c.exponent_at-e-in-loop-left.ensures,
       c.mantissa_at-m-in-loop-left.ensures,
@@ -91,6 +92,6 @@ pub returns : goal.returns
 returns c =
     let a = c.args in
     let l = c.loop-left in
-    let p = c.pair_of_bits-2 in
-    c.refused-2.ensures ∙ pair_cause a.«record».now a.code l.at l.e l.m p.result c.write-2.result c.write-2.ensures p.ensures l.invariant.2 l.invariant.3
+    let p = c.of_bits-2 in
+    c.refused-2.ensures ∙ pair_cause a.«record».now a.code l.at l.e l.m p.result (written c.write-2.result) c.write-2.ensures p.ensures l.invariant.2 l.invariant.3
     ∙ sym (l.invariant.0 ∙ pairs_last a.«record».now a.code l.left l.at c.loop-left-test.false)

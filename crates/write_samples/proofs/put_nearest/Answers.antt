@@ -1,10 +1,11 @@
 -- `write_samples::put_nearest` meets its contract. Assumes nothing.
 use Rattle.write_samples.proofs.NearestLaws.{changed_most, size_rounded, size_nearest, fetched_nearest, rounded_by_lem, words_none, changed_none, changed_more}
 use Rattle.write_samples.specs.Nearest.{nearest_at, rounded_bytes, nearest_words, pairs_changed}
+use Rattle.value.specs.Writing.{rounded}
 use Rattle.numbers.proofs.Filling.{start as begin, finish, again, next_put, last_put}
 use Rattle.numbers.proofs.WalkLaws.{times_more}
 use Rattle.formats.specs.Codes.{sample_bytes}
-use Rattle.value.specs.declared.Rounded.{Rounded}
+use Rattle.value.specs.Writing.{Rounded}
 use lib.ListN.{length}
 use Prim.Native.Nat.{ℕ, ◌+◌, ◌-◌, ◌*◌, ◌≤◌}
 use mathlib.Core.Path.{◌≡◌, refl, sym, ap, ◌∙◌}
@@ -63,7 +64,7 @@ word : (c : After-put_nearest_word) → let l = c.loop-left in let a = c.args in
 word c =
     let l = c.loop-left in
     let a = c.args in
-    let p = c.pair_of_bits in
+    let p = c.of_bits in
     let e = fetched_nearest a.«record».now a.code l.at l.e l.m p.result p.ensures l.invariant.4 l.invariant.5 in
     let t = c.put_nearest_word.ensures in
     (t.0 ∙ ap (λ (w : Rounded). w.changed) e, omega (arith, t.0, changed_most a.code p.result), t.1 ∙ ap (rounded_bytes a.code) e)
@@ -74,10 +75,10 @@ last : (c : After-put_rounded) → let l = c.loop-left in let a = c.args in
 last c =
     let l = c.loop-left in
     let a = c.args in
-    let p = c.pair_of_bits-2 in
+    let p = c.of_bits-2 in
     let n = c.nearest-last in
     let e = fetched_nearest a.«record».now a.code l.at l.e l.m p.result p.ensures l.invariant.4 l.invariant.5 in
-    let t = rounded_by_lem a.code a.code p.result n.result refl n.ensures c.put_rounded.ensures in
+    let t = rounded_by_lem a.code a.code p.result (rounded n.result) refl n.ensures c.put_rounded.ensures in
     (t.0 ∙ ap (λ (w : Rounded). w.changed) e, omega (arith, t.0, changed_most a.code p.result), t.1 ∙ ap (rounded_bytes a.code) e)
 
 pub put_nearest_word-requires : goal.put_nearest_word-requires

@@ -3,7 +3,7 @@ use Rattle.write_samples.proofs.WordLaws.{code_limits}
 use Rattle.write_samples.proofs.NearestLaws.{rounded_by_lem}
 use Rattle.formats.specs.Codes.{sample_bytes}
 use Rattle.value.specs.Writing.{nearest_pair}
-use Rattle.value.specs.declared.Rounded.{Rounded}
+use Rattle.value.specs.Writing.{Rounded}
 use Rattle.write_samples.specs.Nearest.{rounded_bytes}
 use lib.ListN.{length}
 use mathlib.Core.List.{List}

@@ -21,21 +21,21 @@ pub returns-then-code-lt2 : goal.returns-then-code-lt2
 returns-then-code-lt2 c =
     let t = c in
     let b = (goal.at.returns-then-code-lt2 c).Start in
-    by 1 b _ (omega (arith, (code_limits b.args.code b.requires.0).0, t.if-code-lt2.true)) c.bits.ensures c.put32.ensures
+    by 1 b _ (omega (arith, (code_limits b.args.code b.requires.0).0, t.if-code-lt2.true)) c.bits.ensures c.put.ensures
 
 pub returns-then-code-lt3 : goal.returns-then-code-lt3
 returns-then-code-lt3 c =
     let t = c in
-    by 2 (goal.at.returns-then-code-lt3 c).Start _ (omega (arith, t.if-code-lt3.true, t.if-code-lt2.false)) c.bits-then-code-lt3.ensures c.put32-then-code-lt3.ensures
+    by 2 (goal.at.returns-then-code-lt3 c).Start _ (omega (arith, t.if-code-lt3.true, t.if-code-lt2.false)) c.bits-then-code-lt3.ensures c.put-then-code-lt3.ensures
 
 pub returns-then-code-lt5 : goal.returns-then-code-lt5
 returns-then-code-lt5 c =
     let t = c in
     let b = (goal.at.returns-then-code-lt5 c).Start in
-    by 4 b _ (omega (arith, t.if-code-lt5.true, t.if-code-lt3.false, (long_code b.args.code b.requires.0 b.requires.1).0)) c.bits-then-code-lt5.ensures c.put32-then-code-lt5.ensures
+    by 4 b _ (omega (arith, t.if-code-lt5.true, t.if-code-lt3.false, (long_code b.args.code b.requires.0 b.requires.1).0)) c.bits-then-code-lt5.ensures c.put-then-code-lt5.ensures
 
 pub returns : goal.returns
 returns c =
     let t = c in
     let b = (goal.at.returns c).Start in
-    by 5 b _ (omega (arith, t.if-code-lt5.false, (long_code b.args.code b.requires.0 b.requires.1).1)) c.bits-2.ensures c.put32-2.ensures
+    by 5 b _ (omega (arith, t.if-code-lt5.false, (long_code b.args.code b.requires.0 b.requires.1).1)) c.bits-2.ensures c.put-2.ensures

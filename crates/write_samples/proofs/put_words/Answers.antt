@@ -79,7 +79,7 @@ loop-left-preserved c =
     let b = (goal.at.loop-left-preserved c).Start in
     let s = b.args.«record».now in
     let some = c.loop-left-test.true in
-    let p = c.pair_of_bits in
+    let p = c.of_bits in
     let new = c.put_word.ensures ∙ fetched_bytes s b.args.code l.at l.e l.m p.result p.ensures l.invariant.3 l.invariant.4 in
     let k = b.args.code in
     let f = next_put (word_bytes k) (written_at s k) 6 (sample_bytes k) (size_written s k) l.left l.at l.o (l.o + 4) some (ap (λ (v : ℕ). l.o + v) (sym b.requires.1)) l.invariant.5 new in (
@@ -94,8 +94,8 @@ loop-left-preserved c =
 pub overflow_add-o : goal.overflow_add-o
 overflow_add-o c = omega (arith, c.loop-left.invariant.1, c.loop-left.invariant.2)
 
-pub slice_bounds-put32-end : goal.slice_bounds-put32-end
-slice_bounds-put32-end c = omega (arith, c.loop-left.invariant.1, c.loop-left.invariant.2)
+pub slice_bounds-put-end : goal.slice_bounds-put-end
+slice_bounds-put-end c = omega (arith, c.loop-left.invariant.1, c.loop-left.invariant.2)
 
 pub returns : goal.returns
 unfolding sample_words
@@ -104,9 +104,9 @@ returns c =
     let b = (goal.at.returns c).Start in
     let s = b.args.«record».now in
     let k = b.args.code in
-    let p = c.pair_of_bits-2 in
+    let p = c.of_bits-2 in
     let bits = c.bits-bits in
-    let stored = bits_stored k bits.result _ b.requires.1 (c.put32-arg-1.given.2 ∙ omega arith) c.put32.ensures in
+    let stored = bits_stored k bits.result _ b.requires.1 (c.put-arg-1.given.2 ∙ omega arith) c.put.ensures in
     let new = fetched_stored s k l.at l.e l.m p.result bits.result stored bits.ensures p.ensures l.invariant.3 l.invariant.4 in
     last_put (word_bytes k) (written_at s k) 6 (sample_bytes k) (size_written s k) l.left l.at l.o (l.o + 4) c.loop-left-test.false (ap (λ (v : ℕ). l.o + v) (sym b.requires.1)) l.invariant.5 new
 

@@ -1,9 +1,0 @@
--- `sample::whole32` meets its contract. Assumes nothing.
-use Rattle.numbers.proofs.Magnitudes.{signed_mul, signed_word}
-use Rattle.std.proofs.Common.{◌^◌, leb}
-use Rattle.sample.proofs.whole32.Goals as goal
-
-pub returns : goal.returns
-returns c =
-    let n = c.args.n in
-    rw (signed_word 32 n c.ranges.n.fits, signed_mul (leb (2 ^ 31) n), ← c.magnitude32.ensures.0) c.canonical.ensures
