@@ -57,6 +57,7 @@ pub fn read_part<R: Read>(input: &mut R, part: &mut [u8]) -> Result<(), Stop>
 }
 
 // As much of the front of a buffer as a case asks for. What asks for more than the buffer has is no case.
+// No clause says what a write through it leaves in the buffer: the library's clause on what a Result lends takes no slice, and no caller asks.
 pub fn front(buffer: &mut [u8], size: usize) -> Result<&mut [u8], Stop>
     ensures front { IfOk result (λ part. part.now ≡ take size buffer.entry.now) }
     ensures fits { IsOk result ↔ (size ≤ length buffer.entry.now) }
