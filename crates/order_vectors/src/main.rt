@@ -15,15 +15,10 @@
 // All numbers are decimal. A case that is cut short, or longer than 100,000, is answered by `bad case`, and is the last.
 #![tactic(auto)]
 
-use compare::Answer;
+use compare::RefusedRecord;
 use std::cmp::Ordering;
 use std::io;
 use std::io::Read;
-
-// One space and a number.
-fn print_item(rt: &impl Print, n: u64) -> io::Result<()> {
-    print!(rt; " {n}")
-}
 
 // The line of two records that are taken.
 fn print_order(rt: &impl Print, order: Ordering) -> io::Result<()> {
@@ -35,23 +30,18 @@ fn print_order(rt: &impl Print, order: Ordering) -> io::Result<()> {
 }
 
 // The line of a record that is refused.
-fn print_refused(rt: &impl Print, which: u8, number: u8, place: usize) -> io::Result<()> {
-    print!(rt; "refused")?;
-    print_item(rt, which as u64)?;
-    print_item(rt, number as u64)?;
-    print_item(rt, place as u64)?;
-    println!(rt)
+fn print_refused(rt: &impl Print, refused: RefusedRecord) -> io::Result<()> {
+    let which = refused.which.number();
+    let number = refused.refusal.cause.number();
+    let place = refused.refusal.place.0;
+    println!(rt; "refused {which} {number} {place}")
 }
 
 // The line of a case.
 fn run(rt: &impl Print, first: &[u8], second: &[u8]) -> io::Result<()> {
     match compare::compare_records(first, second) {
-        Answer::Ordered(order) => print_order(rt, order),
-        Answer::Refused {
-            which,
-            number,
-            place,
-        } => print_refused(rt, which, number, place.0),
+        Ok(order) => print_order(rt, order),
+        Err(refused) => print_refused(rt, refused),
     }
 }
 
@@ -61,26 +51,7 @@ fn refuse_case(rt: &impl Print) -> io::Result<bool> {
     Ok(false)
 }
 
-// Reads the records of a case and runs it, and says whether to go on.
-fn run_sized(
-    rt: &impl Print,
-    input: &mut impl Read,
-    first: &mut [u8],
-    second: &mut [u8],
-) -> io::Result<bool> {
-    let n = inputs::read_full(input, first)?;
-    if n < first.len() {
-        return refuse_case(rt);
-    }
-    let m = inputs::read_full(input, second)?;
-    if m < second.len() {
-        return refuse_case(rt);
-    }
-    run(rt, first, second)?;
-    Ok(true)
-}
-
-// The same with buffers of which it uses the front, as much as the case asks for.
+// Reads the records of a case into the front of two buffers and runs it, and says whether to go on.
 fn run_records(
     rt: &impl Print,
     input: &mut impl Read,
@@ -89,18 +60,20 @@ fn run_records(
     first: &mut [u8],
     second: &mut [u8],
 ) -> io::Result<bool> {
-    if first.len() < first_size {
+    let Some(first) = first.get_mut(..first_size) else {
+        return refuse_case(rt);
+    };
+    let Some(second) = second.get_mut(..second_size) else {
+        return refuse_case(rt);
+    };
+    if inputs::read_full(input, first)? < first.len() {
         return refuse_case(rt);
     }
-    if second.len() < second_size {
+    if inputs::read_full(input, second)? < second.len() {
         return refuse_case(rt);
     }
-    run_sized(
-        rt,
-        input,
-        &mut first[..first_size],
-        &mut second[..second_size],
-    )
+    run(rt, first, second)?;
+    Ok(true)
 }
 
 // Reads a case and runs it, and says whether to go on: not past the end of the input.
@@ -113,8 +86,8 @@ fn run_case(rt: &impl Print, input: &mut impl Read) -> io::Result<bool> {
         return run_records(
             rt,
             input,
-            numbers::be32(head[0], head[1], head[2], head[3]) as usize,
-            numbers::be32(head[4], head[5], head[6], head[7]) as usize,
+            u32::from_be_bytes([head[0], head[1], head[2], head[3]]) as usize,
+            u32::from_be_bytes([head[4], head[5], head[6], head[7]]) as usize,
             &mut first,
             &mut second,
         );
