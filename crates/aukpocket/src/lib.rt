@@ -5,7 +5,7 @@
 ghost use Rattle.std.specs.Prelude.{◌≡◌, map};
 ghost use Rattle.numbers.specs.Places.{place_no};
 ghost use Rattle.numbers.specs.BigEndian.{number, bytes_of};
-ghost use Rattle.numbers.specs.Cause.{number_of};
+ghost use Rattle.numbers.specs.Cause.{cause_no};
 ghost use Rattle.numbers.specs.Outcome.{refused};
 ghost use Rattle.cards.specs.Cards.{blank};
 ghost use Rattle.sample.specs.Calls as single;
@@ -84,7 +84,7 @@ const NONE_COUNTED: u64 = 0;
 
 // What a refused call on a whole reel or record answers, in numbers.
 fn refused_answer(refusal: Refusal) -> ReelAnswer
-    ensures { result ≡ refused_answer (number_of refusal.cause) (place_no refusal.place) }
+    ensures { result ≡ refused_answer (cause_no refusal.cause) (place_no refusal.place) }
 {
     ReelAnswer {
         number: refusal.cause.number() as u64,
@@ -289,7 +289,7 @@ pub extern "C" fn aukpocket_check_box(reels: &[u8], lengths: &[u64]) -> BoxAnswe
 
 // A refused single sample, in numbers.
 fn refused_sample(refusal: Refusal) -> SampleAnswer
-    ensures { handed result ≡ sample_answer (refused (number_of refusal.cause) (place_no refusal.place)) }
+    ensures { handed result ≡ sample_answer (refused (cause_no refusal.cause) (place_no refusal.place)) }
 {
     SampleAnswer {
         number: refusal.cause.number() as u64,

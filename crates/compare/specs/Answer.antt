@@ -1,7 +1,7 @@
 -- What comparing two records says: "12 and 13 apply, the first record's before the second's; the answer says which" (document 02, CR 9).
 use Rattle.std.specs.Prelude.{ℕ, List, Result, Ok, Err}
 use Rattle.numbers.specs.Places.{place_no}
-use Rattle.numbers.specs.Cause.{Check, number_of}
+use Rattle.numbers.specs.Cause.{Check, cause_no}
 use Rattle.numbers.specs.Cause as check
 use Rattle.record.specs.Form.{form_causes}
 use Rattle.std.specs.declared.cmp.Ordering.{Ordering}
@@ -23,7 +23,7 @@ which_number Second = 2
 -- The paper's values for each case of the answer.
 abbrev pub compare_said : Result Ordering RefusedRecord → Compared
 compare_said (Ok o) = ordered o
-compare_said (Err r) = refused (which_number r.which) (number_of r.refusal.cause) (place_no r.refusal.place)
+compare_said (Err r) = refused (which_number r.which) (cause_no r.refusal.cause) (place_no r.refusal.place)
 
 -- What is said where judging the second record finds this, and no cause applies to the first;
 abbrev pub second_found : List ℕ → List ℕ → Check → Compared

@@ -2,7 +2,7 @@
 #![tactic(auto)]
 
 ghost use Rattle.std.specs.Prelude.{◌≡◌, true, ◌-◌};
-ghost use Rattle.numbers.specs.Cause.{checked, number_of, then, Refused};
+ghost use Rattle.numbers.specs.Cause.{checked, cause_no, then, Refused};
 ghost use Rattle.formats.specs.Codes.{is_code};
 ghost use Rattle.reel.specs.Causes.{most_traces};
 ghost use Rattle.record.specs.Form.{traces_place};
@@ -23,7 +23,7 @@ fn check_later(
     at: usize,
     found: Refusal,
 ) -> Result<(), Refusal>
-    ensures { checked result ≡ then (form_from «record».now n i (most_traces - t) t at) (Refused (number_of found.cause) found.place) }
+    ensures { checked result ≡ then (form_from «record».now n i (most_traces - t) t at) (Refused (cause_no found.cause) found.place) }
 {
     record::check_rest(record, n, i, t, Place(at))?;
     Err(found)

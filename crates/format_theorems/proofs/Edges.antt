@@ -9,7 +9,7 @@ use Rattle.numbers.specs.First.{first}
 use Rattle.formats.specs.Codes.{denominator_power}
 use Rattle.formats.specs.Value.{whole_value, value_in, is_word}
 use Rattle.formats.specs.Words.{word_of}
-use Rattle.formats.specs.declared.Written.TheVariants.{Word, Refused}
+use Rattle.formats.specs.Written.{Word, Refused}
 
 -- THEOREM. Under code 5, 3F800000 is 1, C1200000 is -10, and both 00000000 and 80000000 are zero.
 pub ieee_numbers : (value_in 5 0x3F80_0000 ≡ whole_value (pos 1)) × (value_in 5 0xC120_0000 ≡ whole_value (neg_ℤ (pos 10))) × (value_in 5 0 ≡ pos 0) × (value_in 5 0x8000_0000 ≡ pos 0)

@@ -20,8 +20,9 @@ use Rattle.formats.specs.Format.{Value, unit, placed}
 use Rattle.formats.specs.Codes.{denominator_power, bias, ieee_format}
 use Rattle.formats.specs.Value.{ieee_sign, ieee_exponent, ieee_fraction, is_finite, significand, ieee_power, ieee_value}
 use Rattle.formats.specs.Words.{float_bits, float_of, float_word}
-use Rattle.formats.specs.declared.Placed.TheVariants.{At}
-use Rattle.formats.specs.declared.Written.TheVariants.{Word}
+use Rattle.formats.specs.Format.{beside}
+use Rattle.std.specs.Prelude.{Some}
+use Rattle.formats.specs.Written.{Word}
 use Rattle.numbers.proofs.Magnitudes.{neg_signed, abs_signed, signed_back}
 use Rattle.formats.proofs.PlacedLaws.{Place, placed_normal, placed_only}
 use Rattle.formats.proofs.FitLaws.{placed_zero}
@@ -211,7 +212,7 @@ module _ (x y : ℕ) (two : 1 < x) (near : bias x + y ≤ denominator_power + 1)
       }
 
   -- and its place is that of its fields
-  ieee_place : (n : ℕ) → is_finite x y n ≡ true → placed (ieee_format x y) (ieee_value x y n) ≡ At (ieee_exponent x y n - 1) (significand x y n)
+  ieee_place : (n : ℕ) → is_finite x y n ≡ true → placed (ieee_format x y) (ieee_value x y n) ≡ Some (beside (ieee_exponent x y n - 1) (significand x y n))
   ieee_place n h =
       placed_only (ieee_format x y) (ieee_value x y n) (ieee_exponent x y n - 1) (significand x y n) refl (omega arith) (char_lt n h) (significand_lt n)
       (ap nat_abs (value_at n) ∙ abs_signed (ieee_sign x y n) (significand x y n * unit (ieee_format x y) (ieee_exponent x y n - 1)))

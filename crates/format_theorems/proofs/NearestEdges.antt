@@ -10,7 +10,7 @@ use Rattle.formats.specs.Codes.{denominator_power, format_of}
 use Rattle.formats.specs.Value.{whole_value}
 use Rattle.formats.specs.Words.{word_of}
 use Rattle.formats.specs.Nearest.{range_end, nearest_value, changes}
-use Rattle.formats.specs.declared.Written.TheVariants.{Word}
+use Rattle.formats.specs.Written.{Word}
 use Rattle.format_theorems.specs.Nearness.{halves}
 
 -- ## The ends of the range

@@ -38,7 +38,7 @@ use Rattle.formats.specs.Codes.{denominator_power, is_code, ibm_format, whole_fo
 use Rattle.formats.specs.Value.{sign_bit, characteristic, fraction, gain_of, gain_number, ieee_sign, ieee_exponent, significand, ieee_power, value_in, is_word}
 use Rattle.formats.specs.Words.{word_of}
 use Rattle.formats.specs.Nearest.{reaching, range_end, nearest_value, distance, changes}
-use Rattle.formats.specs.declared.Written.TheVariants.{Word}
+use Rattle.formats.specs.Written.{Word}
 use Rattle.formats.proofs.PlacedLaws.{value_in_format}
 use Rattle.formats.proofs.NormalLaws.{abs_value}
 use Rattle.formats.proofs.CodeLaws.{Code, ibm, whole32, whole16, gain, ieee, whole8, code_is}

@@ -20,8 +20,9 @@ use Rattle.formats.specs.Format.{unit, placed}
 use Rattle.formats.specs.Codes.{ibm_format}
 use Rattle.formats.specs.Value.{sign_bit, characteristic, fraction, ibm_value}
 use Rattle.formats.specs.Words.{float_bits, float_of, first_digit, is_normal, ibm_word, Writes}
-use Rattle.formats.specs.declared.Placed.TheVariants.{At}
-use Rattle.formats.specs.declared.Written.TheVariants.{Word}
+use Rattle.formats.specs.Format.{beside}
+use Rattle.std.specs.Prelude.{Some}
+use Rattle.formats.specs.Written.{Word}
 use Rattle.formats.proofs.PlacedLaws.{Place, placed_normal, placed_only, place_zero, value_in_format}
 use Rattle.formats.proofs.WordLaws.{float_is, float_some}
 use Rattle.formats.proofs.NormalLaws.{abs_value, zero_fraction, large, normal_tests}
@@ -103,7 +104,7 @@ pub normal_again : (n : ℕ) → n < 2 ^ 32 → is_normal n ≡ true → ibm_wor
 normal_again n h t =
     ap (float_of 32 24 (is_negative (ibm_value n))) at ∙ ap (λ (b : Bool). Word (float_bits 32 24 b (characteristic n) (fraction n))) (sign_is n t) ∙ ap (λ (k : ℕ). Word k) (bits_parts n h)
   where
-    at : placed ibm_format (ibm_value n) ≡ At (characteristic n) (fraction n)
+    at : placed ibm_format (ibm_value n) ≡ Some (beside (characteristic n) (fraction n))
     at = placed_only ibm_format (ibm_value n) (characteristic n) (fraction n) refl (omega arith) (omega arith) (omega arith) (abs_value n) (normal_or n t)
 
 -- the word of a value's place is normal

@@ -23,8 +23,8 @@ use Rattle.formats.specs.Codes.{denominator_power, is_code, ibm_format, whole_fo
 use Rattle.formats.specs.Value.{whole_value, gain_value, gain_of, value_in, is_word}
 use Rattle.formats.specs.Words.{whole_of, whole_word, gain_fits, gain_word, word_of, Writes}
 use Rattle.formats.specs.declared.Placed.{Placed}
-use Rattle.formats.specs.declared.Placed.TheVariants.{At, Nowhere}
-use Rattle.formats.specs.declared.Written.TheVariants.{Word, Refused}
+use Rattle.std.specs.Prelude.{Option, Some, None}
+use Rattle.formats.specs.Written.{Word, Refused}
 use Rattle.formats.proofs.PlacedLaws.{no_zero_one, Place, served, value_in_format, placed_is, placed_some}
 use Rattle.formats.proofs.WordLaws.{float_some}
 use Rattle.formats.proofs.CodeLaws.{Code, ibm, whole32, whole16, gain, ieee, whole8, code_is}
@@ -38,9 +38,11 @@ use Rattle.format_theorems.proofs.NormalWords.{normal_written}
 whole_is : (w : ℕ) (v : ℤ) (n : ℕ) → whole_word w v ≡ Word n → (c f : ℕ) × Place (whole_format w) v c f × (n ≡ bits_of w (sign_magnitude (is_negative v) f))
 whole_is w v n h = go (placed (whole_format w) v) refl h
   where
-    go : (r : Placed) → placed (whole_format w) v ≡ r → whole_of w (is_negative v) r ≡ Word n → (c f : ℕ) × Place (whole_format w) v c f × (n ≡ bits_of w (sign_magnitude (is_negative v) f))
-    go (At c f) e q = let i : n ≡ bits_of w (sign_magnitude (is_negative v) f) = cc in (c, f, placed_is (whole_format w) v c f e, i)
-    go Nowhere e q = let z : ◌≡◌ {A = ℕ} 0 1 = cc in absurd (no_zero_one z)
+    go : (r : Option Placed) → placed (whole_format w) v ≡ r → whole_of w (is_negative v) r ≡ Word n → (c f : ℕ) × Place (whole_format w) v c f × (n ≡ bits_of w (sign_magnitude (is_negative v) f))
+    go (Some p) e q =
+        let i : n ≡ bits_of w (sign_magnitude (is_negative v) p.fraction) = cc in
+        (p.characteristic, p.fraction, placed_is (whole_format w) v p.characteristic p.fraction e, i)
+    go None e q = let z : ◌≡◌ {A = ℕ} 0 1 = cc in absurd (no_zero_one z)
 
 -- it has the value
 whole_says : (w : ℕ) (v : ℤ) (n : ℕ) → 0 < w → whole_word w v ≡ Word n → (n < 2 ^ w) × (whole_value (signed_of w n) ≡ v)

@@ -1,23 +1,21 @@
 -- The groups of a header in their bytes. Each byte is below 256 where a law says so; nothing else is assumed.
 use mathlib.Core.Path.{◌≡◌, refl, sym, ap, ◌∙◌, subst}
-use mathlib.Core.List.{List, [], ◌∷◌, ◌++◌, map}
-use Prim.Native.Nat.{ℕ, zero, suc, ◌+◌, ◌-◌, ◌*◌, ◌^◌, ◌<◌}
-use native.Mathlib.Nat.{not-suc-le-zero}
+use mathlib.Core.List.{List, [], ◌∷◌, map}
+use Prim.Native.Nat.{ℕ, zero, suc, ◌+◌, ◌*◌, ◌^◌}
 use native.Mathlib.Omega.{arith}
-use lib.ListN.{length, replicate, length-map, length-append}
+use lib.ListN.{length, length-map, length-append}
 use lib.IntN.{ℤ, pos, ◌*ℤ◌}
-use lib.Signed.{mag}
-use Rattle.numbers.specs.Walk.{walk, flat, bytes_at}
+use Rattle.numbers.specs.Walk.{bytes_at}
 use Rattle.numbers.specs.BigEndian.{number, bytes_of}
 use Rattle.numbers.specs.TwosComplement.{bits_of}
 use Rattle.numbers.specs.Terms.{All, Bytes}
 use Rattle.numbers.proofs.WalkLaws.{size_walk, flat_size}
 use Rattle.numbers.proofs.ByteLaws.{number_at_lem}
 use Rattle.numbers.proofs.SignLaws.{mag_signed}
-use Rattle.scalars.specs.Scalar.{power_of, scaled_values, smallest, group_numbers, group_scalar, scale_of, is_smallest, same_number}
+use Rattle.scalars.specs.Scalar.{power_of, scaled_values, group_numbers, group_scalar, scale_of}
 use Rattle.scalars.specs.Parts.{Fit32}
 use Rattle.scalars.proofs.Powers.{power_lt, smallest_lt, group_scaled}
-use Rattle.scalars.proofs.Laws.{fit_held, length_held, scaled_padded, scalar_padded, smallest_padded}
+use Rattle.scalars.proofs.Laws.{fit_held, length_held}
 use Rattle.reel.specs.Layout.{trace_widths, trace_fields, field_number}
 use Rattle.reel.specs.Meaning.{elevation_fields, coordinate_fields}
 use Rattle.headers.specs.Parts.{number2, number4, numbers_in, times_factor, group_bytes, elevations_at, coordinates_at, elevations_copied, coordinates_copied}
@@ -61,11 +59,6 @@ coordinates_in_lem s at =
     let c : at + 84 ≡ at + 72 + 12 = omega arith in
     rw (a, b, c) (sym (numbers_four s (at + 72)))
 
--- zeros behind a group play no part in its test
-pub test_padded : (ns : List ℤ) (k : ℕ) (z : ℤ) → is_smallest (ns ++ replicate k (pos 0)) z ≡ is_smallest ns z
-unfolding is_smallest
-test_padded ns k z = rw (scaled_padded (power_of z) ns k) (ap (same_number z) (scalar_padded (scaled_values z ns) k))
-
 -- LAW. The numbers of a group that a record holds are those on the reel times the factor of its scale; and these fit.
 pub factor_is : (ns : List ℤ) (z : ℤ) → Fit32 ns → times_factor (scale_of ns z).factor ns ≡ group_numbers (scaled_values z ns)
 unfolding scale_of
@@ -73,14 +66,6 @@ factor_is ns z w = sym (group_scaled ns (power_of z) (power_lt z) w)
 
 pub factor_fits : (ns : List ℤ) (z : ℤ) → Fit32 ns → Fit32 (times_factor (scale_of ns z).factor ns)
 factor_fits ns z w = subst Fit32 (sym (factor_is ns z w)) (fit_held (scaled_values z ns) (smallest_lt ns (power_of z) (power_lt z) w))
-
--- zeros behind a group play no part in its scale
-pub scale_padded : (ns : List ℤ) (k : ℕ) (z : ℤ) → scale_of (ns ++ replicate k (pos 0)) z ≡ scale_of ns z
-unfolding scale_of group_scalar
-scale_padded ns k z =
-    let s = scaled_padded (power_of z) ns k in
-    let e : smallest (scaled_values z (ns ++ replicate k (pos 0))) ≡ smallest (scaled_values z ns) = ap smallest s ∙ smallest_padded (scaled_values z ns) k in
-    rw e
 
 -- ## Numbers in four bytes each
 
@@ -95,26 +80,6 @@ size_group zs = flat_size (λ z. bytes_of 4 (bits_of 32 z)) (λ z. Unit {0}) 4 (
 pub size_in : (s : List ℕ) (k at : ℕ) → length (numbers_in s k at) ≡ k
 unfolding numbers_in
 size_in s k at = size_walk (number4 s) 4 k at
-
--- along the reel
-each_times : (factor : ℤ) (l : List ℤ) → group_bytes (times_factor factor l) ≡ flat (map (λ (n : ℤ). bytes_of 4 (bits_of 32 (n *ℤ factor))) l)
-unfolding group_bytes
-each_times factor [] = refl
-each_times factor (n ∷ l) = ap (λ (r : List ℕ). bytes_of 4 (bits_of 32 (n *ℤ factor)) ++ r) (each_times factor l)
-
-pub times_walk : (s : List ℕ) (factor : ℤ) (k at : ℕ)
-    → group_bytes (times_factor factor (numbers_in s k at)) ≡ flat (map (λ (n : ℤ). bytes_of 4 (bits_of 32 (n *ℤ factor))) (walk (number4 s) 4 k at))
-unfolding numbers_in
-times_walk s factor k at = each_times factor (walk (number4 s) 4 k at)
-
--- the first of k products that fit, and the rest
-pub fit_more : (s : List ℕ) (factor : ℤ) (k at : ℕ) → 0 < k → Fit32 (times_factor factor (numbers_in s k at))
-    → (mag (number4 s at *ℤ factor) < 2 ^ 31) × Fit32 (times_factor factor (numbers_in s (k - 1) (at + 4)))
-unfolding numbers_in
-fit_more s factor zero at h w = absurd (not-suc-le-zero h)
-fit_more s factor (suc k) at h w =
-    let e : suc k - 1 ≡ k = omega arith in
-    (w.0, rw e w.1)
 
 -- a header's numbers fit
 pub numbers_fit : (s : List ℕ) → Bytes s → (k at : ℕ) → Fit32 (numbers_in s k at)

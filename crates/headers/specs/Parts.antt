@@ -41,6 +41,12 @@ elevations_copied s at = group_bytes (group_numbers (elevations_at s at)) ++ byt
 unfoldable pub coordinates_copied : List ℕ → ℕ → List ℕ
 coordinates_copied s at = bytes_of 2 (bits_of 16 (group_scalar (coordinates_at s at))) ++ group_bytes (group_numbers (coordinates_at s at))
 
+-- The copy of a header, with a group at its smallest power: k numbers from the place p on, under the scalar at the place q.
+unfoldable pub group_lowered : ℕ → ℕ → ℕ → List ℕ → List ℕ → List ℕ
+group_lowered k p q header l =
+    overwritten (overwritten l p (group_bytes (group_numbers (scaled_values (number2 header q) (numbers_in header k p))))) q
+    (bytes_of 2 (bits_of 16 (group_scalar (scaled_values (number2 header q) (numbers_in header k p)))))
+
 -- A trace's own number, or the reel's where it is 0.
 abbrev pub own_or : ℕ → ℕ → ℕ
 own_or own v = pick (eqb v 0) own v

@@ -2,200 +2,134 @@
 // the cause 13 against a record's scalars.
 #![tactic(auto)]
 
-ghost use Rattle.std.specs.Prelude.{◌≡◌, ◌++◌, ◌+◌, ◌*◌, ◌^◌, ◌≤◌, ◌<◌, length, replicate, pos, ◌*ℤ◌};
-ghost use Rattle.std.specs.Int.Signed.{mag};
+ghost use Rattle.std.specs.Prelude.{◌≡◌, ◌+◌, ◌*◌, ◌^◌, ◌≤◌, ◌<◌, not, length, false, MatchOption};
+ghost use Rattle.numbers.specs.Walk.{bytes_at};
 ghost use Rattle.numbers.specs.Places.{place_no, byte_no, byte_place};
-ghost use Rattle.numbers.specs.Cause.{checked};
-ghost use Rattle.scalars.specs.Parts.{Fit32};
-ghost use Rattle.reel.specs.Layout.{number16};
-ghost use Rattle.headers.specs.Header.{header_size, smallest_causes, header_judged, header_read};
-ghost use Rattle.headers.specs.Parts.{number4, number2, numbers_in, times_factor, group_bytes, elevations_copied, coordinates_copied, own_or, field_filled, groups_copied, header_copied};
+ghost use Rattle.numbers.specs.Cause.{checked, refuse_if};
+ghost use Rattle.scalars.specs.Scalar.{is_smallest};
+ghost use Rattle.headers.specs.Header.{header_size, is_header, header_judged, header_read};
+ghost use Rattle.headers.specs.Parts.{number2, numbers_in, group_lowered, own_or, field_filled};
 
-use numbers::{ByteNo, Cause, Place, Refusal};
+use numbers::{ByteNo, Cause, Number, Place, Refusal};
+use std::array;
 
 // ## The groups of a header
 
-// The signed number in the four bytes at a place, and in the two.
-fn number_at(s: &[u8], at: usize) -> i32
-    requires { at + 4 ≤ length s.now }
-    ensures { result ≡ number4 s.now at }
-{
-    numbers::signed32(numbers::be32(s[at], s[at + 1], s[at + 2], s[at + 3]))
+// A group of a trace header: the byte numbers of the first of K numbers of four bytes each, and of the scalar that acts on them.
+#[derive(Clone, Copy)]
+struct Group<const K: usize> {
+    first: ByteNo,
+    scalar: ByteNo,
+    ghost within: { (1 ≤ byte_no first) × (byte_no first + 4 * K ≤ 181) × (1 ≤ byte_no scalar) × (byte_no scalar ≤ 179) },
 }
 
-fn scalar_at(s: &[u8], at: usize) -> i16
-    requires { at + 2 ≤ length s.now }
-    ensures { result ≡ number2 s.now at }
-{
-    numbers::signed16(numbers::be16(s[at], s[at + 1]))
-}
+// Fields 41 to 65 under field 69, and fields 73 to 85 under field 71.
+const ELEVATIONS: Group<7> = Group {
+    first: ByteNo(41),
+    scalar: ByteNo(69),
+};
 
-// The seven numbers from a place on; and the four, with three zeros behind them, which every power serves.
-fn seven_at(s: &[u8], at: usize) -> [i32; 7]
-    requires { at + 28 ≤ length s.now }
-    ensures { result ≡ numbers_in s.now 7 at }
-{
-    [
-        number_at(s, at),
-        number_at(s, at + 4),
-        number_at(s, at + 8),
-        number_at(s, at + 12),
-        number_at(s, at + 16),
-        number_at(s, at + 20),
-        number_at(s, at + 24),
-    ]
-}
+const COORDINATES: Group<4> = Group {
+    first: ByteNo(73),
+    scalar: ByteNo(71),
+};
 
-fn four_at(s: &[u8], at: usize) -> [i32; 7]
-    requires { at + 16 ≤ length s.now }
-    ensures { result ≡ numbers_in s.now 4 at ++ replicate 3 (pos 0) }
-{
-    [
-        number_at(s, at),
-        number_at(s, at + 4),
-        number_at(s, at + 8),
-        number_at(s, at + 12),
-        0,
-        0,
-        0,
-    ]
-}
-
-// ## 13 against the scalars of a record's header
-
-// Field 69, then field 71; byte number 1 stands at the place start.
-fn check_smallest(s: &[u8], start: usize) -> Result<(), Refusal>
-    requires { start + header_size ≤ length s.now }
-    ensures { checked result ≡ smallest_causes s.now start }
-{
-    if !scalars::is_smallest(seven_at(s, start + 40), scalar_at(s, start + 68)) {
-        return Err(Refusal {
-            cause: Cause::RecordNumber,
-            place: Place(start + 68),
-        });
+impl<const K: usize> Group<K> {
+    // The numbers of the group in a header.
+    fn numbers(self, header: &[u8; 180]) -> [i32; K]
+        ensures { result ≡ numbers_in header.now K (byte_place 0 (byte_no self.entry.first)) }
+    {
+        let first = places::field_at(Place(0), self.first).0;
+        array::from_fn(|k| slices::number_at::<u32>(header, Place(first + 4 * k)).signed())
     }
-    if !scalars::is_smallest(four_at(s, start + 72), scalar_at(s, start + 70)) {
-        return Err(Refusal {
-            cause: Cause::RecordNumber,
-            place: Place(start + 70),
-        });
+
+    // The scalar of the group in a header.
+    fn scalar(self, header: &[u8; 180]) -> i16
+        ensures { result ≡ number2 header.now (byte_place 0 (byte_no self.entry.scalar)) }
+    {
+        slices::number_at::<u16>(header, places::field_at(Place(0), self.scalar)).signed()
     }
-    Ok(())
+
+    // 13 at the scalar of the group, where it isn't that of its smallest power; byte number 1 of the header stands at the place start.
+    fn check(self, header: &[u8; 180], start: Place) -> Result<(), Refusal>
+        requires { place_no start + header_size < 2 ^ 64 }
+        ensures { let scalar = byte_no self.entry.scalar in checked result ≡ refuse_if (not (is_smallest (numbers_in header.now K (byte_place 0 (byte_no self.entry.first))) (number2 header.now (byte_place 0 scalar)))) 13 (byte_place (place_no start) scalar) }
+    {
+        if scalars::is_smallest(self.numbers(header), self.scalar(header)) {
+            return Ok(());
+        }
+        Err(Refusal {
+            cause: Cause::RecordNumber,
+            place: places::field_at(start, self.scalar),
+        })
+    }
+
+    // Takes the group of a header to the smallest power that serves it, in a copy of the header.
+    fn lower(self, header: &[u8; 180], out: &mut [u8; 180])
+        ensures { out.new ≡ group_lowered K (byte_place 0 (byte_no self.entry.first)) (byte_place 0 (byte_no self.entry.scalar)) header.now out.old }
+    {
+        let numbers = self.numbers(header);
+        let scale = scalars::scale_of(numbers, self.scalar(header));
+        let first = places::field_at(Place(0), self.first).0;
+        // By places: `chunks_exact_mut` was tried, and the proof did not close, as nothing is known of the bytes that were written.
+        for (k, number) in numbers.iter().enumerate() {
+            let at = first + 4 * k;
+            u32::of_signed(*number * scale.factor).put(&mut out[at..at + 4]);
+        }
+        let at = places::field_at(Place(0), self.scalar).0;
+        u16::of_signed(scale.scalar).put(&mut out[at..at + 2]);
+    }
 }
 
-// 13 against the scalars of a header that stands whole from a place on.
+// The header that stands whole from a place on.
+fn header_at(s: &[u8], start: Place) -> Option<&[u8; 180]>
+    ensures { MatchOption result (is_header s.now (place_no start) ≡ false) (λ header. (place_no start + header_size ≤ length s.now) × (header.now ≡ bytes_at s.now (place_no start) header_size)) }
+{
+    s.get(start.0..)?.first_chunk()
+}
+
+// 13 against the scalars of a header that stands whole from a place on: field 69, then field 71.
 pub fn judge_header(s: &[u8], start: Place) -> Result<(), Refusal>
     ensures { checked result ≡ header_judged s.now (place_no start) }
 {
-    let p = start.0;
-    if !slices::are_within(s.len(), 180, 1, p) {
+    let Some(header) = header_at(s, start) else {
         return Ok(());
-    }
-    check_smallest(s, p)
+    };
+    ELEVATIONS.check(header, start)?;
+    COORDINATES.check(header, start)
 }
 
 // ## The header of a trace of a reel, as its record holds it
 
-// A product that fits.
-fn times(n: i32, factor: i32) -> i32
-    requires { mag (n *ℤ factor) < 2 ^ 31 }
-    ensures { result ≡ n *ℤ factor }
+// A trace's own number, or the reel's where it is 0.
+fn own_or(own: u16, number: u16) -> u16
+    ensures { result ≡ own_or own number }
 {
-    n * factor
+    if number == 0 { own } else { number }
 }
 
-// k numbers from a place on, times a factor, four bytes each.
-fn put_numbers(reel: &[u8], at: usize, k: usize, factor: i32, out: &mut [u8])
-    requires { (at + k * 4 ≤ length reel.now) × (length out.old ≡ k * 4) × Fit32 (times_factor factor (numbers_in reel.now k at)) }
-    ensures { out.new ≡ group_bytes (times_factor factor (numbers_in reel.now k at)) }
+// Fills in a field of a header, in a copy of it.
+fn fill_field(header: &[u8; 180], field: ByteNo, own: u16, out: &mut [u8; 180])
+    requires { (1 ≤ byte_no field) × (byte_no field < header_size) }
+    ensures { out.new ≡ field_filled header.now own 0 (byte_no field) out.old }
 {
-    let mut p = at;
-    let mut o = 0;
-    let mut left = k;
-    while 0 < left {
-        let e = o + 4;
-        slices::put(
-            numbers::bits32(times(number_at(reel, p), factor)),
-            &mut out[o..e],
-        );
-        p += 4;
-        o = e;
-        left -= 1;
-    }
-}
-
-// The elevations of the header at a place, and their scalar.
-fn put_elevations(reel: &[u8], at: usize, out: &mut [u8])
-    requires { (at + header_size ≤ length reel.now) × (length out.old ≡ 30) }
-    ensures { out.new ≡ elevations_copied reel.now at }
-{
-    let scale = scalars::scale_of(seven_at(reel, at + 40), scalar_at(reel, at + 68));
-    put_numbers(reel, at + 40, 7, scale.factor, &mut out[0..28]);
-    slices::put(numbers::bits16(scale.scalar), &mut out[28..30]);
-}
-
-// The scalar of its coordinates, and the coordinates.
-fn put_coordinates(reel: &[u8], at: usize, out: &mut [u8])
-    requires { (at + header_size ≤ length reel.now) × (length out.old ≡ 18) }
-    ensures { out.new ≡ coordinates_copied reel.now at }
-{
-    let scale = scalars::scale_of(four_at(reel, at + 72), scalar_at(reel, at + 70));
-    slices::put(numbers::bits16(scale.scalar), &mut out[0..2]);
-    put_numbers(reel, at + 72, 4, scale.factor, &mut out[2..18]);
-}
-
-// Its fields, with fields 41 to 85 at their smallest powers.
-fn put_groups(reel: &[u8], at: usize, out: &mut [u8])
-    requires { (at + header_size ≤ length reel.now) × (length out.old ≡ header_size) }
-    ensures { out.new ≡ groups_copied reel.now at }
-{
-    slices::copy(&reel[at..at + 180], out);
-    put_elevations(reel, at, &mut out[40..70]);
-    put_coordinates(reel, at, &mut out[70..88]);
-}
-
-// The number in a field of the trace at a place, or the reel's own where it is 0.
-fn own_at(reel: &[u8], own: u16, at: usize, b: ByteNo) -> u16
-    requires { (1 ≤ byte_no b) × (at + byte_no b ≤ length reel.now) }
-    ensures { result ≡ own_or own (number16 reel.now (byte_place at (byte_no b))) }
-{
-    let v = slices::number_at::<u16>(reel, places::field_at(Place(at), b));
-    if v == 0 {
-        return own;
-    }
-    v
-}
-
-// Fills in a field of the trace at a place, in a copy of its header.
-fn fill_field(reel: &[u8], own: u16, at: usize, b: ByteNo, out: &mut [u8])
-    requires { (1 ≤ byte_no b) × (byte_no b < length out.old) × (at + length out.old ≤ length reel.now) }
-    ensures { out.new ≡ field_filled reel.now own at (byte_no b) out.old }
-{
-    let v = own_at(reel, own, at, b);
-    let p = places::field_at(Place(0), b).0;
-    slices::put(v, &mut out[p..p + 2]);
-}
-
-// The same, with N and the interval filled in.
-fn put_fields(reel: &[u8], n: u16, i: u16, at: usize, out: &mut [u8])
-    requires { (at + header_size ≤ length reel.now) × (length out.old ≡ header_size) }
-    ensures { out.new ≡ header_copied reel.now n i at }
-{
-    put_groups(reel, at, out);
-    fill_field(reel, n, at, ByteNo(115), out);
-    fill_field(reel, i, at, ByteNo(117), out);
+    let at = places::field_at(Place(0), field);
+    own_or(own, slices::number_at::<u16>(header, at)).put(&mut out[at.0..at.0 + 2]);
 }
 
 // The header of the trace at a place, as the record of a reel of n samples a trace and interval i holds it.
 pub fn read_header(reel: &[u8], n: u16, i: u16, at: Place, out: &mut [u8])
     ensures { out.new ≡ header_read reel.now n i (place_no at) out.old }
 {
-    let p = at.0;
-    if !slices::are_within(reel.len(), 180, 1, p) {
+    let Some(header) = header_at(reel, at) else {
         return;
-    }
-    if out.len() != 180 {
+    };
+    let Some(out) = out.as_mut_array::<180>() else {
         return;
-    }
-    put_fields(reel, n, i, p, out);
+    };
+    *out = *header;
+    ELEVATIONS.lower(header, out);
+    COORDINATES.lower(header, out);
+    fill_field(header, ByteNo(115), n, out);
+    fill_field(header, ByteNo(117), i, out);
 }

@@ -1,5 +1,5 @@
--- The laws of decimal text and of a line that is written from its front.
+-- The laws of decimal text, and of a line that is put together from its front.
 pub mod DecimalLaws
 pub mod DecimalTheorem
-pub mod StoreLaws
+pub mod LineLaws
 pub mod Examples

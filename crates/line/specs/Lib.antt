@@ -1,4 +1,5 @@
--- Decimal text, what it is, and the program's line.
+-- Decimal text, what it is, a text at the front of an array, and the program's line.
 pub mod Decimal
 pub mod DecimalText
+pub mod Front
 pub mod Line

@@ -1,10 +1,10 @@
 -- The program's line, in ASCII: a word, then each number after one space, then 0A.
-use Rattle.std.specs.Prelude.{ℕ, ◌-◌, List, [], ◌∷◌, ◌++◌, length, replicate, ltb}
+use Rattle.std.specs.Prelude.{ℕ, ◌-◌, List, [], ◌∷◌, ◌++◌, length, take, replicate, ltb}
 use Rattle.numbers.specs.Outcome.{Said, taken, refused}
 use Rattle.numbers.specs.Walk.{pick}
 use Rattle.read_reel.specs.Reading.{read_outcome}
 use Rattle.line.specs.Decimal.{decimal_of}
-use Rattle.line.specs.declared.Line.{Line}
+use Rattle.line.specs.declared.text.Line.{Line}
 
 -- A number behind one space, 32.
 abbrev pub item_of : ℕ → List ℕ
@@ -33,8 +33,20 @@ abbrev pub too_long : List ℕ
 too_long = 116 ∷ 111 ∷ 111 ∷ 32 ∷ 108 ∷ 111 ∷ 110 ∷ 103 ∷ 10 ∷ []
 
 -- A line in an array of 96 bytes, which has room for `taken`, four numbers of 20 digits behind a space each, and 0A: its rest is 00.
-abbrev pub padded : List ℕ → Line
+pub record Padded : Type 0 where
+  pub bytes : List ℕ
+  pub length : ℕ
+
+abbrev pub padded : List ℕ → Padded
 padded line = record { bytes = line ++ replicate (96 - length line) 0; length = length line }
+
+-- What is printed of a line.
+abbrev pub printed : Line → Padded
+printed line = record { bytes = line.bytes; length = line.length }
+
+-- The text of a line: what stands before its rest.
+abbrev pub text_of : Line → List ℕ
+text_of line = take line.length line.bytes
 
 -- The program takes at most 65,536 bytes.
 abbrev pub most_input : ℕ

@@ -1,6 +1,6 @@
 -- The complete outcome of listing a record's cards, and of taking a corrected listing back, by a table.
 use Rattle.std.specs.Prelude.{ℕ, List, [], ◌∷◌, ◌++◌, ltb, length, drop, Result, Ok, Err}
-use Rattle.numbers.specs.Cause.{refuse_if, then, number_of}
+use Rattle.numbers.specs.Cause.{refuse_if, then, cause_no}
 use Rattle.numbers.specs.Outcome.{Said, taken, refused, Outcome}
 use Rattle.numbers.specs.Places.{place_no}
 use Rattle.numbers.specs.Cause.{Check}
@@ -16,7 +16,7 @@ use Rattle.numbers.specs.declared.Refusal.{Refusal}
 -- beside it.
 abbrev pub said_by : Result ℕ Refusal → Said
 said_by (Ok l) = taken (l ∷ [])
-said_by (Err r) = refused (number_of r.cause) (place_no r.place)
+said_by (Err r) = refused (cause_no r.cause) (place_no r.place)
 
 -- What the call says and leaves in its output.
 abbrev pub listed : Result ℕ Refusal → List ℕ → Outcome

@@ -2,7 +2,7 @@
 use Rattle.std.specs.Prelude.{ℕ, ◌+◌, ◌-◌, ◌*◌, List, [], ◌∷◌, Bool, true, false, eqb, ltb, ℤ, pos, Result, Ok, Err}
 use Rattle.numbers.specs.Walk.{pick}
 use Rattle.numbers.specs.Places.{place_no, byte_no}
-use Rattle.numbers.specs.Cause.{refuse_if, then, first_of, number_of}
+use Rattle.numbers.specs.Cause.{refuse_if, then, first_of, cause_no}
 use Rattle.numbers.specs.Outcome.{Said, taken, refused}
 use Rattle.numbers.specs.declared.ByteNo.{ByteNo}
 use Rattle.numbers.specs.declared.Refusal.{Refusal}
@@ -78,4 +78,4 @@ look_up_outcome s k b = number_said (look_up_causes s k b) (found_number s k (fi
 -- beside it, and then the looked-up number is 0.
 abbrev pub looked_up : Result ℤ Refusal → NumberOutcome
 looked_up (Ok z) = record { said = taken []; value = z }
-looked_up (Err r) = record { said = refused (number_of r.cause) (place_no r.place); value = pos 0 }
+looked_up (Err r) = record { said = refused (cause_no r.cause) (place_no r.place); value = pos 0 }

@@ -11,34 +11,34 @@ pub data Check : Type 0 where
   Refused : ℕ → Place → Check
 
 -- the number of a cause in the table of refusals
-abbrev pub number_of : Cause → ℕ
-number_of cause.ShortReel = 1
-number_of cause.FormatCode = 2
-number_of cause.SampleCount = 3
-number_of cause.Interval = 4
-number_of cause.BytesLeft = 5
-number_of cause.TooManyTraces = 6
-number_of cause.TraceSamples = 7
-number_of cause.TraceInterval = 8
-number_of cause.GainWord = 9
-number_of cause.ShortOutput = 10
-number_of cause.TargetCode = 11
-number_of cause.RecordForm = 12
-number_of cause.RecordNumber = 13
-number_of cause.Unfit = 14
-number_of cause.NoTrace = 15
-number_of cause.NoField = 16
-number_of cause.Listing = 17
-number_of cause.Scalar = 18
-number_of cause.NotFinite = 19
-number_of cause.Trailer = 20
-number_of cause.BoxLengths = 21
-number_of cause.BoxRule = 22
+abbrev pub cause_no : Cause → ℕ
+cause_no cause.ShortReel = 1
+cause_no cause.FormatCode = 2
+cause_no cause.SampleCount = 3
+cause_no cause.Interval = 4
+cause_no cause.BytesLeft = 5
+cause_no cause.TooManyTraces = 6
+cause_no cause.TraceSamples = 7
+cause_no cause.TraceInterval = 8
+cause_no cause.GainWord = 9
+cause_no cause.ShortOutput = 10
+cause_no cause.TargetCode = 11
+cause_no cause.RecordForm = 12
+cause_no cause.RecordNumber = 13
+cause_no cause.Unfit = 14
+cause_no cause.NoTrace = 15
+cause_no cause.NoField = 16
+cause_no cause.Listing = 17
+cause_no cause.Scalar = 18
+cause_no cause.NotFinite = 19
+cause_no cause.Trailer = 20
+cause_no cause.BoxLengths = 21
+cause_no cause.BoxRule = 22
 
 -- what a check found, in the table's terms
 abbrev pub checked : Result (Unit {0}) Refusal → Check
 checked (Ok v) = Fine
-checked (Err r) = Refused (number_of r.cause) r.place
+checked (Err r) = Refused (cause_no r.cause) r.place
 
 -- a row of the table: where the test is true, the input is refused by the row's number, with the place beside it
 abbrev pub refuse_if : Bool → ℕ → ℕ → Check

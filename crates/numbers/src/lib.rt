@@ -4,7 +4,7 @@
 ghost use Rattle.std.specs.Prelude.{◌≡◌, ◌^◌, ◌≤◌, [], ◌∷◌, unsigned_abs, ℕ, ℤ, length, ◌*◌, ◌-◌};
 ghost use Rattle.numbers.specs.BigEndian.{number, bytes_of};
 ghost use Rattle.std.proofs.Common.{rules};
-ghost use Rattle.numbers.specs.Cause.{number_of};
+ghost use Rattle.numbers.specs.Cause.{cause_no};
 ghost use Rattle.numbers.specs.TwosComplement.{signed_of, bits_of};
 
 // A byte number, document 01's own term: the standard's, counted from 1.
@@ -50,7 +50,7 @@ pub enum Cause {
 impl Cause {
     // The number of the cause in the table of refusals.
     pub fn number(self) -> u8
-        ensures { result ≡ number_of self }
+        ensures { result ≡ cause_no self }
     {
         match self {
             Cause::ShortReel => 1,

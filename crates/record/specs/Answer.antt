@@ -2,7 +2,7 @@
 use Rattle.std.specs.Prelude.{List, [], ◌∷◌, ℕ, Result, Ok, Err}
 use Rattle.numbers.specs.Outcome.{Said, taken, refused, Outcome}
 use Rattle.numbers.specs.Places.{place_no}
-use Rattle.numbers.specs.Cause.{number_of}
+use Rattle.numbers.specs.Cause.{cause_no}
 use Rattle.numbers.specs.declared.Refusal.{Refusal}
 use Rattle.record.specs.declared.Taken.{Taken}
 use Rattle.record.specs.declared.Counted.{Counted}
@@ -11,12 +11,12 @@ use Rattle.record.specs.declared.Counted.{Counted}
 -- beside it.
 abbrev pub said_by : Result Taken Refusal → Said
 said_by (Ok a) = taken (a.traces ∷ a.samples ∷ a.length ∷ [])
-said_by (Err r) = refused (number_of r.cause) (place_no r.place)
+said_by (Err r) = refused (cause_no r.cause) (place_no r.place)
 
 -- The same of an answer with a count, which comes last.
 abbrev pub counted_by : Result Counted Refusal → Said
 counted_by (Ok a) = taken (a.traces ∷ a.samples ∷ a.length ∷ a.count ∷ [])
-counted_by (Err r) = refused (number_of r.cause) (place_no r.place)
+counted_by (Err r) = refused (cause_no r.cause) (place_no r.place)
 
 -- What a call says and leaves in its output.
 abbrev pub outcome : Result Taken Refusal → List ℕ → Outcome

@@ -1,6 +1,6 @@
 -- What judging a record tells: its N and T, where no cause applies, or the first cause.
 use Rattle.std.specs.Prelude.{ℕ, Result, Ok, Err}
-use Rattle.numbers.specs.Cause.{number_of}
+use Rattle.numbers.specs.Cause.{cause_no}
 use Rattle.numbers.specs.declared.Place.{Place}
 use Rattle.numbers.specs.declared.Refusal.{Refusal}
 use Rattle.record.specs.declared.Numbers.{Numbers}
@@ -13,4 +13,4 @@ pub data Judged : Type 0 where
 -- what a judgement says, in the table's terms
 abbrev pub judged : Result Numbers Refusal → Judged
 judged (Ok own) = Fine own.samples own.traces
-judged (Err r) = Refused (number_of r.cause) r.place
+judged (Err r) = Refused (cause_no r.cause) r.place

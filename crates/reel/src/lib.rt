@@ -3,7 +3,7 @@
 
 ghost use Rattle.std.specs.Prelude.{◌≡◌, ◌+◌, ◌-◌, ◌*◌, ◌/◌, ◌%◌, ◌^◌, ◌<◌, ◌≤◌, eqb, length, not, IfOk};
 ghost use Rattle.numbers.specs.Walk.{walk};
-ghost use Rattle.numbers.specs.Cause.{checked, number_of, refuse_if, then, first_of};
+ghost use Rattle.numbers.specs.Cause.{checked, cause_no, refuse_if, then, first_of};
 ghost use Rattle.numbers.specs.Places.{place_no, byte_no, byte_place};
 ghost use Rattle.formats.specs.Codes.{is_code, sample_bytes};
 ghost use Rattle.reel.specs.Layout.{first_trace, trace_header, stride, number16, trailer_bytes, stride_in};
@@ -42,7 +42,7 @@ pub fn check_limits(
     cause: Cause,
     place: Place,
 ) -> Result<(), Refusal>
-    ensures { checked result ≡ refuse_if (not (within least most n)) (number_of cause) (place_no place) }
+    ensures { checked result ≡ refuse_if (not (within least most n)) (cause_no cause) (place_no place) }
 {
     if n < least {
         return Err(Refusal { cause, place });
@@ -56,7 +56,7 @@ pub fn check_limits(
 // A cause that applies where a trace's own number, by the byte number where it begins, is neither 0 nor the reel's.
 fn check_own(reel: &[u8], at: usize, b: ByteNo, own: usize, cause: Cause) -> Result<(), Refusal>
     requires { (1 ≤ byte_no b) × (at + byte_no b < length reel.now) }
-    ensures { checked result ≡ refuse_if (neither (number16 reel.now (byte_place at (byte_no b))) own) (number_of cause) (byte_place at (byte_no b)) }
+    ensures { checked result ≡ refuse_if (neither (number16 reel.now (byte_place at (byte_no b))) own) (cause_no cause) (byte_place at (byte_no b)) }
 {
     let place = places::field_at(Place(at), b);
     let n = slices::number_at::<u16>(reel, place) as usize;
@@ -87,7 +87,7 @@ fn check_scalar(reel: &[u8], at: usize, b: ByteNo) -> Result<(), Refusal>
 
 // A cause that applies where a number is no code: 2 for a reel's, 11 for a target.
 pub fn check_code(code: usize, cause: Cause, place: Place) -> Result<(), Refusal>
-    ensures { checked result ≡ refuse_if (not (is_code code)) (number_of cause) (place_no place) }
+    ensures { checked result ≡ refuse_if (not (is_code code)) (cause_no cause) (place_no place) }
 {
     if formats::is_code(code) {
         return Ok(());

@@ -7,7 +7,7 @@ use Rattle.formats.specs.Codes.{sample_bytes, word_length}
 use Rattle.value.specs.Pair.{pair_length, pair_bytes, pair_in}
 use Rattle.value.specs.Writing.{write_pair}
 use Rattle.numbers.specs.Walk.{pick}
-use Rattle.numbers.specs.Cause.{number_of}
+use Rattle.numbers.specs.Cause.{cause_no}
 use Rattle.numbers.specs.declared.Cause.{Cause}
 use Rattle.numbers.specs.declared.Refusal.{Refusal}
 use Rattle.formats.specs.Written.{Written}
@@ -20,12 +20,12 @@ use Rattle.sample.specs.declared.PairWritten.{PairWritten}
 -- Document 01's number and place for each case of the answer of writing a pair.
 abbrev pub said_by : Result (Unit {0}) Refusal → Said
 said_by (Ok v) = taken []
-said_by (Err r) = refused (number_of r.cause) (place_no r.place)
+said_by (Err r) = refused (cause_no r.cause) (place_no r.place)
 
 -- The same of reading a word, which is taken with one value, document 02's 1 or 0.
 abbrev pub word_said : Result Bool Refusal → Said
 word_said (Ok c) = taken (pick c 1 0 ∷ [])
-word_said (Err r) = refused (number_of r.cause) (place_no r.place)
+word_said (Err r) = refused (cause_no r.cause) (place_no r.place)
 
 -- What reading a word hands out, in document 01's terms; and what writing a pair does.
 abbrev pub word_read : WordRead → Outcome
@@ -60,4 +60,4 @@ pair_outcome code b = write_said code (write_pair code (pair_in b))
 -- The same by what a function found: the bytes of the word, or the cause against the pair.
 abbrev pub word_found : Result (List ℕ) Cause → Outcome
 word_found (Ok w) = record { said = taken []; bytes = w }
-word_found (Err cause) = record { said = refused (number_of cause) 0; bytes = replicate word_length 0 }
+word_found (Err cause) = record { said = refused (cause_no cause) 0; bytes = replicate word_length 0 }

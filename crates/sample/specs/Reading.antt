@@ -7,7 +7,7 @@ use Rattle.formats.specs.Words.{is_normal}
 use Rattle.value.specs.Pair.{pair_of}
 use Rattle.value.specs.declared.Pair.{Pair}
 use Rattle.numbers.specs.declared.Cause.{Cause}
-use Rattle.numbers.specs.Cause.{number_of}
+use Rattle.numbers.specs.Cause.{cause_no}
 
 -- What reading a word finds: the numbers e and m of its canonical pair, or the number of the refusal.
 pub data Sample : Type 0 where
@@ -17,7 +17,7 @@ pub data Sample : Type 0 where
 -- What a function that reads a word found, in the table's terms.
 abbrev pub sampled : Result Pair Cause → Sample
 sampled (Ok p) = Taken p.e p.m
-sampled (Err cause) = Refused (number_of cause)
+sampled (Err cause) = Refused (cause_no cause)
 
 -- The canonical pair of a value, as its two numbers.
 abbrev pub pair_taken : ℤ → Sample

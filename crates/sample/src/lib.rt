@@ -4,12 +4,12 @@
 ghost use Rattle.std.specs.Prelude.{◌≡◌, ◌+◌, ◌*◌, ◌/◌, ◌%◌, ◌^◌, ◌<◌, ◌≤◌, pos, ◌==◌};
 ghost use Rattle.std.proofs.Math.IntN.{sub_ℕ};
 ghost use Rattle.numbers.specs.Walk.{pick};
-ghost use Rattle.numbers.specs.Cause.{number_of};
+ghost use Rattle.numbers.specs.Cause.{cause_no};
 ghost use Rattle.numbers.specs.Places.{place_no};
 ghost use Rattle.numbers.specs.TwosComplement.{signed_of};
 ghost use Rattle.numbers.specs.SignMagnitude.{sign_magnitude};
 ghost use Rattle.formats.specs.Codes.{denominator_power, code_no};
-ghost use Rattle.formats.specs.Value.{fraction, ibm_value, whole_value, gain_value, ieee_exponent, ieee_fraction, ieee_value, is_bad, exact_value};
+ghost use Rattle.formats.specs.Value.{fraction, ibm_value, whole_value, gain_value, ieee_exponent, ieee_fraction, ieee_value, is_bad, word_number, exact_value};
 ghost use Rattle.formats.specs.Words.{is_normal};
 ghost use Rattle.value.specs.Pair.{pair_of};
 ghost use Rattle.sample.specs.Reading.{bad_number, not_normal, read_word, sampled};
@@ -122,11 +122,7 @@ pub fn whole16(n: u16) -> Pair
 pub fn extended(n: u8) -> u16
     ensures { signed_of 16 result ≡ signed_of 8 n }
 {
-    if 0x80 <= n {
-        0xff00 + n as u16
-    } else {
-        n as u16
-    }
+    u16::of_signed(i16::from(n.cast_signed()))
 }
 
 // Code 8: the pair of an 8-bit number.
@@ -148,30 +144,26 @@ pub fn gain_number(g: u8, d: u16) -> Pair
 }
 
 // Whether a word of four bytes has no value under a code: under code 4 its first byte isn't 00, under code 5 it is an infinity or a
-// not-a-number, whose exponent is all ones. The tests are not of equality, which the compiler would make a switch of.
-fn is_bad(code: u32, n: u32) -> bool
-    ensures { result ≡ is_bad code n }
+// not-a-number, whose exponent is all ones.
+#[tactic(auto, unfolding(numbers::specs::Walk::bytes_at))]
+fn is_bad(code: Code, word: [u8; 4]) -> bool
+    ensures { result ≡ is_bad (code_no code) (word_number (code_no code) word) }
 {
-    if code < 4 {
-        return false;
+    let n = u32::of_bytes(&word);
+    match code {
+        Code::Gain => 0x100_0000 <= n,
+        Code::Ieee => 0x7f80_0000 <= n % 0x8000_0000,
+        _ => false,
     }
-    if code < 5 {
-        return 0x100_0000 <= n;
-    }
-    if code < 6 {
-        return 0x7f80_0000 <= n % 0x8000_0000;
-    }
-    false
 }
 
 // The cause against a word without a value.
-fn bad_cause(code: u32) -> Cause
-    ensures { number_of result ≡ bad_number code }
+fn bad_cause(code: Code) -> Cause
+    ensures { cause_no result ≡ bad_number (code_no code) }
 {
-    if code == 4 {
-        Cause::GainWord
-    } else {
-        Cause::NotFinite
+    match code {
+        Code::Gain => Cause::GainWord,
+        _ => Cause::NotFinite,
     }
 }
 
@@ -209,40 +201,54 @@ pub fn ieee_number(n: u32) -> Pair
     )
 }
 
-// The canonical pair of a word under a code. For a word without a value, and for a number that is no code, it is the pair of what the same
-// rule gives: that of code 5 where none of the others is the code.
+// The canonical pair of a word under a code. Of a word without a value it is the pair of what the same rule gives.
+#[tactic(auto, unfolding(numbers::specs::Walk::bytes_at))]
+pub fn pair_under(code: Code, word: [u8; 4]) -> Pair
+    ensures { result ≡ pair_of (exact_value (code_no code) word) }
+{
+    let n = u32::of_bytes(&word);
+    match code {
+        Code::Ibm => ibm(n),
+        Code::Whole32 => whole32(n),
+        Code::Whole16 => whole16(u16::of_bytes(&[word[0], word[1]])),
+        Code::Gain => gain_number(word[1], u16::of_bytes(&[word[2], word[3]])),
+        Code::Whole8 => whole8(word[0]),
+        Code::Ieee => ieee_number(n),
+    }
+}
+
+// The canonical pair of a word under a number: where that is no code, what the rule of code 5 gives.
 #[tactic(auto, unfolding(numbers::specs::Walk::bytes_at))]
 pub fn number(code: u32, word: [u8; 4]) -> Pair
     ensures { result ≡ pair_of (exact_value code word) }
 {
-    let n = u32::of_bytes(&word);
     match Code::of(code as usize) {
-        Some(Code::Ibm) => ibm(n),
-        Some(Code::Whole32) => whole32(n),
-        Some(Code::Whole16) => whole16(u16::of_bytes(&[word[0], word[1]])),
-        Some(Code::Gain) => gain_number(word[1], u16::of_bytes(&[word[2], word[3]])),
-        Some(Code::Whole8) => whole8(word[0]),
-        Some(Code::Ieee) | None => ieee_number(n),
+        Some(code) => pair_under(code, word),
+        None => ieee_number(u32::of_bytes(&word)),
     }
 }
 
-// What reading a word finds under a code: only here is a word refused, by 2, 9 or 19.
-#[tactic(auto, using(crate::proofs::PairLaws::bad_by_four), unfolding(numbers::specs::Walk::bytes_at))]
+// What reading a word finds under a code: only here is a word refused, by 9 or 19.
+#[tactic(auto, using(formats::proofs::CodeLaws::code_no_is))]
+pub fn read_under(code: Code, word: [u8; 4]) -> Result<Pair, Cause>
+    ensures { sampled result ≡ read_word (code_no code) word }
+{
+    if is_bad(code, word) {
+        return Err(bad_cause(code));
+    }
+    Ok(pair_under(code, word))
+}
+
+// What reading a word finds under a number: 2 where that is no code.
 pub fn read(code: u32, word: [u8; 4]) -> Result<Pair, Cause>
     ensures { sampled result ≡ read_word code word }
 {
-    if !formats::is_code(code as usize) {
-        return Err(Cause::FormatCode);
-    }
-    if is_bad(code, u32::of_bytes(&word)) {
-        return Err(bad_cause(code));
-    }
-    Ok(number(code, word))
+    read_under(Code::of(code as usize).ok_or(Cause::FormatCode)?, word)
 }
 
 // The refusal of a single sample: the place beside it is 0.
 fn refusal(cause: Cause) -> Refusal
-    ensures { (number_of result.cause ≡ number_of cause) × (place_no result.place ≡ 0) }
+    ensures { (cause_no result.cause ≡ cause_no cause) × (place_no result.place ≡ 0) }
 {
     Refusal {
         cause,

@@ -11,7 +11,7 @@ use Rattle.numbers.specs.First.{first}
 use Rattle.value.specs.Pair.{twos_in, twos, odd_part, is_canonical}
 use Rattle.formats.specs.Words.{is_normal}
 use Rattle.value.specs.Writing.{write_pair}
-use Rattle.formats.specs.declared.Written.TheVariants.{Word, Refused}
+use Rattle.formats.specs.Written.{Word, Refused}
 use Rattle.sample.specs.Reading.{not_normal}
 use Rattle.sample_theorems.specs.Starred.{Starred, IeeeAndByte, beyond}
 

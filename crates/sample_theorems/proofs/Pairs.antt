@@ -36,7 +36,7 @@ use Rattle.value.proofs.Pairs.{pair_at, value_pair}
 use Rattle.value.proofs.Apart.{highest, shifted, odd_yes}
 use Rattle.formats.proofs.CodeLaws.{Code, ibm, whole32, whole16, gain, ieee, whole8, code_is}
 use Rattle.sample.specs.Reading.{pair_taken, bad_number, read_word}
-use Rattle.sample.specs.declared.Sample.TheVariants.{Taken, Refused}
+use Rattle.sample.specs.Reading.{Taken, Refused}
 
 -- ## A canonical pair and its value determine each other
 

@@ -11,14 +11,12 @@ use Rattle.formats.specs.Value.{exact_value}
 use Rattle.value.specs.Pair.{pair_of, pair_in}
 use Rattle.value.specs.Writing.{write_pair}
 use Rattle.value.specs.declared.Pair.{Pair}
-use Rattle.formats.specs.declared.Written.{Written}
-use Rattle.formats.specs.declared.Written.TheVariants.{Word, Refused}
+use Rattle.formats.specs.Written.{Written, Word, Refused}
 use Rattle.value.proofs.WrittenLaws.{written_is}
 use Rattle.sample.specs.Reading.{not_normal, read_word}
 use Rattle.sample.specs.Calls.{single_word, read_said, word_outcome, write_said, pair_outcome}
-use Rattle.sample.specs.declared.Sample.{Sample}
-use Rattle.sample.specs.declared.Sample.TheVariants as sample
-use Rattle.sample.specs.declared.Sample.TheVariants.{Taken}
+use Rattle.sample.specs.Reading.{Sample, Taken}
+use Rattle.sample.specs.Reading as sample
 use Rattle.sample_theorems.specs.Statements.{Back}
 use Rattle.sample_theorems.proofs.Pairs.{bytes_pair, pair_bytes_lem, taken_code, taken_good, value_pair_back, reading_value, reading_canonical, reading_takes}
 use Rattle.sample_theorems.proofs.Words.{writing_sound, writing_complete, writing_normal, writing_0}

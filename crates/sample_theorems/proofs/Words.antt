@@ -23,7 +23,7 @@ use Rattle.formats.specs.Format.{in_format}
 use Rattle.formats.specs.Codes.{is_code, sample_bytes, format_of}
 use Rattle.formats.specs.Value.{characteristic, ibm_value, whole_value, gain_value, gain_of, is_finite, ieee_value, value_in, is_bad, is_word, word_number, exact_value}
 use Rattle.formats.specs.Words.{ibm_word, word_of, first_digit, is_normal, Writes}
-use Rattle.formats.specs.declared.Written.TheVariants.{Word}
+use Rattle.formats.specs.Written.{Word}
 use Rattle.formats.proofs.CodeLaws.{Code, ibm, whole32, whole16, gain, ieee, whole8, code_is}
 use Rattle.format_theorems.specs.Statements.{HasNumber}
 use Rattle.format_theorems.proofs.OneFit.{one_fit}
@@ -36,7 +36,7 @@ use Rattle.value.specs.declared.Pair.{Pair}
 use Rattle.value.proofs.WrittenLaws.{written_is}
 use Rattle.sample.specs.Reading.{not_normal, read_word}
 use Rattle.sample.specs.Calls.{single_word}
-use Rattle.sample.specs.declared.Sample.TheVariants.{Taken}
+use Rattle.sample.specs.Reading.{Taken}
 use Rattle.sample_theorems.specs.Statements.{Says}
 use Rattle.sample_theorems.proofs.Pairs.{taken_code, taken_good, reading_value}
 

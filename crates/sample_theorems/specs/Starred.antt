@@ -5,13 +5,11 @@ use Rattle.formats.specs.Value.{whole_value}
 use Rattle.value.specs.Pair.{pair_of}
 use Rattle.value.specs.Writing.{write_pair}
 use Rattle.value.specs.declared.Pair.{Pair}
-use Rattle.formats.specs.declared.Written.{Written}
-use Rattle.formats.specs.declared.Written.TheVariants.{Word, Refused}
+use Rattle.formats.specs.Written.{Written, Word, Refused}
 use Rattle.sample.specs.Reading.{read_word}
 use Rattle.sample.specs.Calls.{word_outcome, pair_outcome}
-use Rattle.sample.specs.declared.Sample.{Sample}
-use Rattle.sample.specs.declared.Sample.TheVariants.{Taken}
-use Rattle.sample.specs.declared.Sample.TheVariants as sample
+use Rattle.sample.specs.Reading.{Sample, Taken}
+use Rattle.sample.specs.Reading as sample
 
 -- A word of code 1, and one of code 4, by its four bytes, as it is read.
 abbrev pub ibm : ℕ → ℕ → ℕ → ℕ → Sample

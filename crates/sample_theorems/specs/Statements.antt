@@ -3,7 +3,7 @@ use Rattle.std.specs.Prelude.{ℕ, ◌^◌, ◌<◌, ◌≡◌, true, false, Lis
 use Rattle.formats.specs.Codes.{sample_bytes}
 use Rattle.formats.specs.Value.{is_bad, word_number, exact_value}
 use Rattle.formats.specs.Words.{is_normal}
-use Rattle.formats.specs.declared.Written.TheVariants.{Word}
+use Rattle.formats.specs.Written.{Word}
 use Rattle.value.specs.Writing.{write_pair}
 use Rattle.value.specs.declared.Pair.{Pair}
 use Rattle.sample.specs.Calls.{single_word}

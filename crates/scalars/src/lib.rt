@@ -2,7 +2,7 @@
 // numbers are whole and fit 32 signed bits.
 #![tactic(auto)]
 
-ghost use Rattle.std.specs.Prelude.{◌≡◌, ◌+◌, ◌*◌, ◌^◌, ◌<◌, ◌≤◌};
+ghost use Rattle.std.specs.Prelude.{◌≡◌, ◌^◌, ◌<◌, ◌≤◌};
 ghost use Rattle.scalars.specs.Scalar.{powers, is_allowed, power_of, scalar_of, scaled_by, smallest, scale_of, is_smallest};
 ghost use Rattle.scalars.specs.Parts.{largest, Raised};
 

@@ -3,7 +3,7 @@ use Rattle.std.specs.Prelude.{ℕ, ◌-◌, ◌*◌, ◌^◌, ◌≤◌, ◌<◌
 use Rattle.numbers.specs.Walk.{pick}
 use Rattle.numbers.specs.SignMagnitude.{sign_magnitude}
 use Rattle.numbers.specs.declared.Cause.{Cause}
-use Rattle.numbers.specs.Cause.{number_of}
+use Rattle.numbers.specs.Cause.{cause_no}
 use Rattle.formats.specs.Codes.{code_no, format_of}
 use Rattle.formats.specs.Format.{unit, limit}
 use Rattle.formats.specs.Nearest.{nearest_magnitude, changes_in}
@@ -24,7 +24,7 @@ worth v = sign_magnitude v.negative (v.odd * 2 ^ v.power)
 
 -- The parts are those of the pair.
 abbrev pub PartsOf : Pair → Result (Option Odd) Cause → Type 0
-PartsOf p (Err cause) = (is_canonical p ≡ false) × (number_of cause ≡ 13)
+PartsOf p (Err cause) = (is_canonical p ≡ false) × (cause_no cause ≡ 13)
 PartsOf p (Ok None) = (is_canonical p ≡ true) × (value_of p ≡ pos 0)
 PartsOf p (Ok (Some v)) = (is_canonical p ≡ true) × (value_of p ≡ worth v)
 

@@ -28,7 +28,7 @@ use Rattle.fit.specs.Target.{target_causes}
 use Rattle.record.specs.Answer.{outcome, counted_outcome}
 use Rattle.record.specs.Judged as judged
 use Rattle.numbers.specs.declared.Refusal.{Refusal}
-use Rattle.numbers.specs.Cause.{number_of}
+use Rattle.numbers.specs.Cause.{cause_no}
 use Rattle.record.proofs.FormLaws.{count_most, headed, held_length}
 use Rattle.record.proofs.JudgedLaws.{Own}
 use Rattle.fit.proofs.FitLaws.{target_form}
@@ -93,7 +93,7 @@ without_count o = record { said = drop_count o.said; bytes = o.bytes }
     drop_count (refused number place) = refused number place
 
 module _ (s : List ℕ) (code : ℕ) (out : List ℕ) where
-  pub refused_end : (r : Refusal) → target_causes s code ≡ check.Refused (number_of r.cause) r.place → outcome (Err r) out ≡ write_outcome s code out
+  pub refused_end : (r : Refusal) → target_causes s code ≡ check.Refused (cause_no r.cause) r.place → outcome (Err r) out ≡ write_outcome s code out
   refused_end r e = rw e
 
   -- a record that can be written under the code is valid
@@ -141,7 +141,7 @@ module _ (s : List ℕ) (code : ℕ) (out : List ℕ) where
   abbrev too_short : Check
   too_short = refuse_if (ltb (length out) (reel_length_of s code)) 10 (reel_length_of s code)
 
-  pub nearest_call_refused : (r : Refusal) → before ≡ check.Refused (number_of r.cause) r.place → counted_outcome (Err r) out ≡ nearest_outcome s code out
+  pub nearest_call_refused : (r : Refusal) → before ≡ check.Refused (cause_no r.cause) r.place → counted_outcome (Err r) out ≡ nearest_outcome s code out
   nearest_call_refused r e = sym (ap (nearest_end s code out) (causes too_short ∙ ap (λ (c : Check). then c too_short) e))
 
   pub own_valid : (n t : ℕ) → Own s before n t → (is_code code ≡ true) × Own s (form_causes s) n t

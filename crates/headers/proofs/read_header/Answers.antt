@@ -1,42 +1,30 @@
 -- `headers::read_header` meets its contract. Assumes nothing.
-use Rattle.headers.specs.Header.{header_size, header_read, is_header}
-use Rattle.headers.proofs.CopiedLaws.{header_is}
+use Rattle.std.proofs.Common.{◌≡◌, ◌∙◌, sym, ap, length, arith}
+use borrow.Author.Tests.{ne_eqb}
+use Rattle.numbers.proofs.BoolLaws.{and_false}
 use Rattle.numbers.proofs.ByteLaws.{all_bytes}
-use mathlib.Core.Bool.{true, false}
-use Prim.Native.Nat.{◌+◌}
-use lib.ListN.{length}
-use mathlib.Core.Path.{◌≡◌, sym, ◌∙◌}
-use native.Mathlib.Omega.{arith}
-use borrow.Author.Tests.{leb-true, eq-eqb, ne_eqb}
-use Rattle.headers.proofs.read_header.Goals.{Else-not-are_within}
+use Rattle.headers.specs.Header.{header_size, is_header, header_read}
+use Rattle.headers.specs.Parts.{group_lowered, field_filled}
+use Rattle.headers.proofs.CopiedLaws.{header_is, header_read_lem}
+use Rattle.headers.proofs.Lowered.{header_stored}
 use Rattle.headers.proofs.read_header.Goals as goal
 
-pub returns-then-not-are_within : goal.returns-then-not-are_within
+pub returns-in_default : goal.returns-in_default
 unfolding header_read
-returns-then-not-are_within c =
-    let a = c.args in
-    let e : is_header a.reel.now a.at.0 ≡ false = sym c.are_within.ensures ∙ c.if-not-are_within.true in
-    rw e
+returns-in_default c = rw c.in_default.ensures
 
--- the header stands whole
-stands : (c : Else-not-are_within) → let a = c.args in is_header a.reel.now a.at.0 ≡ true
-stands c = sym c.are_within.ensures ∙ c.if-not-are_within.false
-
-pub returns-then-out-ne180 : goal.returns-then-out-ne180
+pub returns-in_default-as_mut_array : goal.returns-in_default-as_mut_array
 unfolding header_read
-returns-then-out-ne180 c =
-    let a = c.args in
-    rw (stands (goal.at.returns-then-out-ne180 c).Else-not-are_within, ne_eqb (length a.out.now) header_size c.if-out-ne180.true)
-
-pub put_fields-requires : goal.put_fields-requires
-put_fields-requires c =
-    let a = c.args in
-    (leb-true (a.at.0 + header_size) (length a.reel.now) (stands (goal.at.put_fields-requires c).Else-not-are_within), c.if-out-ne180.false)
+returns-in_default-as_mut_array c = rw (ne_eqb (length c.args.out.now) header_size c.in_default-as_mut_array.ensures.cases, and_false (is_header c.args.reel.now c.args.at.0))
 
 pub returns : goal.returns
-unfolding header_read
 returns c =
-    let e = (goal.at.returns c).Else-not-are_within in
     let a = c.args in
-    let b = all_bytes a.reel.now (λ j. omega (arith, e.shared_slice_known-1.given j)) in
-    c.put_fields.ensures ∙ sym (header_is a.reel.now b a.n a.i a.at.0) ∙ rw (stands e, eq-eqb (length a.out.now) header_size c.if-out-ne180.false)
+    let h = c.in-Some.header.now in
+    let whole = c.in-Some.ensures in
+    let lowered : c.lower-2.new.out ≡ group_lowered 4 72 70 h (group_lowered 7 40 68 h h) = c.lower-2.ensures ∙ ap (group_lowered 4 72 70 h) c.lower.ensures in
+    let filled : c.fill_field-2.new.out ≡ field_filled h a.i 0 117 (field_filled h a.n 0 115 (group_lowered 4 72 70 h (group_lowered 7 40 68 h h))) =
+    c.fill_field-2.ensures ∙ ap (field_filled h a.i 0 117) (c.fill_field.ensures ∙ ap (field_filled h a.n 0 115) lowered) in
+    let bytes = all_bytes a.reel.now (λ j. omega (arith, c.type_inv.reel j)) in
+    filled ∙ header_stored a.reel.now h a.at.0 whole.1 a.n a.i ∙ sym (header_is a.reel.now bytes a.n a.i a.at.0)
+    ∙ sym (header_read_lem a.reel.now a.n a.i a.at.0 a.out.now whole.0 c.in-Some-as_mut_array.ensures.cases.long)

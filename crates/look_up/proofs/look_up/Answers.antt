@@ -3,7 +3,7 @@ use Rattle.std.proofs.Common.{◌≡◌, rules, refl, sym, ◌∙◌, pos, lt-lt
 use mir.Facts.{to_z-of_z}
 use mir.Syntax.{w32}
 use borrow.Author.Rules.{sfits_of}
-use Rattle.numbers.specs.Cause.{Fine, Refused, number_of}
+use Rattle.numbers.specs.Cause.{Fine, Refused, cause_no}
 use Rattle.numbers.specs.Terms.{at_place}
 use Rattle.reel.proofs.JudgedLaws.{refused_is}
 use Rattle.reel.specs.Layout.{traces_of}
@@ -23,7 +23,7 @@ pub returns-in_err-own : goal.returns-in_err-own
 returns-in_err-own c =
     let a = c.args in
     let r = c.in_err-own.field-0.0 in
-    let q : looked_up c.from_residual.result ≡ number_said (Refused (number_of r.cause) r.place) (pos 0) = search rules in
+    let q : looked_up c.from_residual.result ≡ number_said (Refused (cause_no r.cause) r.place) (pos 0) = search rules in
     q ∙ stopped_is a.reel.now a.trace a.b (refused_is Plain a.reel.now (sym c.in_err-own.ensures.is))
 
 pub returns-then-own-trace : goal.returns-then-own-trace

@@ -3,7 +3,7 @@ use Rattle.std.proofs.Common.{◌≡◌, sym, ap, ◌∙◌, rules, Err}
 use Rattle.record.proofs.FormLaws.{numbers_held}
 use Rattle.record.specs.Form.{record_found}
 use Rattle.record.specs.Judged.{judged, Fine, Refused}
-use Rattle.numbers.specs.Cause.{number_of}
+use Rattle.numbers.specs.Cause.{cause_no}
 use Rattle.record.specs.declared.Numbers.{Numbers}
 use Rattle.record.proofs.judge_record.Goals as goal
 

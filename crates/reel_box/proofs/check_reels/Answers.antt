@@ -1,7 +1,7 @@
 -- `reel_box::check_reels` meets its contract. Assumes nothing.
 use Rattle.std.proofs.Common.{◌≡◌, ℕ, ◌+◌, ◌≤◌, List, [], ◌∷◌, length, get_or, drop, rules, sym, ap, ◌∙◌, arith}
 use lib.ListN.{drop_of_length-le}
-use Rattle.numbers.specs.Cause.{Fine, number_of}
+use Rattle.numbers.specs.Cause.{Fine, cause_no}
 use Rattle.numbers.specs.Outcome.{taken, refused}
 use Rattle.numbers.specs.Places.{place_no}
 use Rattle.numbers.proofs.WalkLaws.{drop_next}
@@ -18,7 +18,7 @@ returns-in_err-next c =
     let ls = c.args.lengths.now in
     let m = get_or ls l.l-index 0 in
     let r = c.in_err-next.field-0.0 in
-    let q : box_said c.from_residual.result ≡ refused (number_of r.cause) (place_no r.place) = search rules in
+    let q : box_said c.from_residual.result ≡ refused (cause_no r.cause) (place_no r.place) = search rules in
     let d = drop_next ls l.l-index c.loop-l-test.true in
     q ∙ sym (ap (box_found s ls) (l.invariant.fine ∙ ap (λ (q : List ℕ). reels_checks s q l.at l.expected) d
     ∙ reels_stop s l.at m l.expected (drop (l.l-index + 1) ls) (stops s l.at m l.expected (sym c.in_err-next.ensures))))

@@ -1,6 +1,6 @@
 -- `reel_box::check_run` meets its contract. Assumes nothing.
 use Rattle.std.proofs.Common.{◌≡◌, ◌+◌, ◌-◌, ◌*◌, ◌^◌, ◌≤◌, ◌<◌, length, rules, refl, sym, ap, ◌∙◌, arith, mul-le-mul_left, mul-le-mul_right, suc-mul}
-use Rattle.numbers.specs.Cause.{checked, number_of, Refused}
+use Rattle.numbers.specs.Cause.{checked, cause_no, Refused}
 use Rattle.numbers.proofs.CauseLaws.{then_stop, then_next}
 use Rattle.numbers.proofs.WalkLaws.{at_zero}
 use Rattle.reel_box.specs.Box.{run_rules}
@@ -30,7 +30,7 @@ returns-in_err-check_trace c =
     let o = a.own in
     let l = c.loop-i in
     let r = c.in_err-check_trace.field-0.0 in
-    let q : checked c.from_residual.result ≡ Refused (number_of r.cause) r.place = search rules in
+    let q : checked c.from_residual.result ≡ Refused (cause_no r.cause) r.place = search rules in
     q ∙ c.in_err-check_trace.ensures ∙ then_stop _ _ (sym c.in_err-check_trace.ensures)
     ∙ sym (l.invariant ∙ run_turn a.s.now o.stride o.traces a.start l.i l.expected c.loop-i-test.true)
 

@@ -1,6 +1,6 @@
 -- `write_reel::judge_target_and_form` meets its contract. Assumes nothing.
 use Rattle.std.proofs.Common.{◌≡◌, sym, ap, ◌∙◌, rules, List, ℕ}
-use Rattle.numbers.specs.Cause.{Check, then, number_of}
+use Rattle.numbers.specs.Cause.{Check, then, cause_no}
 use Rattle.record.specs.Form.{form_causes, record_found}
 use Rattle.record.specs.Judged.{Judged, judged, Refused}
 use Rattle.write_reel.proofs.judge_target_and_form.Goals as goal
@@ -13,7 +13,7 @@ pub returns-in_err-check_code : goal.returns-in_err-check_code
 unfolding behind
 returns-in_err-check_code c =
     let e = c.in_err-check_code.field-0.0 in
-    let q : judged c.from_residual.result ≡ Refused (number_of e.cause) e.place = search rules in
+    let q : judged c.from_residual.result ≡ Refused (cause_no e.cause) e.place = search rules in
     q ∙ ap (behind c.args.«record».now) c.in_err-check_code.ensures
 
 pub returns : goal.returns

@@ -8,14 +8,14 @@ use Rattle.reel_box.specs.Answer as step
 use Rattle.reel.specs.Causes.{causes_of, reel_judged}
 use Rattle.reel.specs.declared.Layout.TheVariants.{Plain}
 use Rattle.reel.proofs.JudgedLaws.{Own, own, refused_is}
-use Rattle.numbers.specs.Cause.{Refused, number_of, then}
+use Rattle.numbers.specs.Cause.{Refused, cause_no, then}
 use Rattle.numbers.specs.Terms.{at_place}
 use Rattle.reel_box.proofs.State.step_over.Goals.{In-Ok, In-Err}
 use Rattle.reel_box.proofs.State.step_over.Goals as goal
 
 refused : (c : In-Err)
     → let a = c.args in let r = c.in-Err.refusal in
-    causes_of (reel_at a.s.now a.at a.l) ≡ Refused (number_of r.cause) r.place
+    causes_of (reel_at a.s.now a.at a.l) ≡ Refused (cause_no r.cause) r.place
 refused c = let a = c.args in refused_is Plain _ (sym (c.in-Err.ensures.is ∙ ap reel_judged (part_is a.s.now a.at a.l)))
 
 pub in_slice-requires : goal.in_slice-requires
