@@ -114,18 +114,50 @@ struct Row {
 
 // The rows of the binary header, from its first byte on,
 const BINARY_ROWS: [Row; 2] = [
-    Row { offset: 0, width: Width::Four, count: 3 },
-    Row { offset: 12, width: Width::Two, count: 24 },
+    Row {
+        offset: 0,
+        width: Width::Four,
+        count: 3,
+    },
+    Row {
+        offset: 12,
+        width: Width::Two,
+        count: 24,
+    },
 ];
 
 // and of a trace header.
 const HEADER_ROWS: [Row; 6] = [
-    Row { offset: 0, width: Width::Four, count: 7 },
-    Row { offset: 28, width: Width::Two, count: 4 },
-    Row { offset: 36, width: Width::Four, count: 8 },
-    Row { offset: 68, width: Width::Two, count: 2 },
-    Row { offset: 72, width: Width::Four, count: 4 },
-    Row { offset: 88, width: Width::Two, count: 46 },
+    Row {
+        offset: 0,
+        width: Width::Four,
+        count: 7,
+    },
+    Row {
+        offset: 28,
+        width: Width::Two,
+        count: 4,
+    },
+    Row {
+        offset: 36,
+        width: Width::Four,
+        count: 8,
+    },
+    Row {
+        offset: 68,
+        width: Width::Two,
+        count: 2,
+    },
+    Row {
+        offset: 72,
+        width: Width::Four,
+        count: 4,
+    },
+    Row {
+        offset: 88,
+        width: Width::Two,
+        count: 46,
+    },
 ];
 
 // ## Numbers
@@ -342,8 +374,14 @@ fn compare_fronts(a: &[u8], b: &[u8]) -> Ordering
         return cards;
     }
     compare_rows(
-        Spot { record: a, place: 3206 },
-        Spot { record: b, place: 3206 },
+        Spot {
+            record: a,
+            place: 3206,
+        },
+        Spot {
+            record: b,
+            place: 3206,
+        },
         &BINARY_ROWS,
     )
 }
@@ -359,9 +397,15 @@ fn compare_valid(a: &[u8], s: usize, b: &[u8], t: usize) -> Ordering
     }
     let n = binary_number(a, ByteNo(3221));
     compare_traces(
-        Spot { record: a, place: 3266 },
+        Spot {
+            record: a,
+            place: 3266,
+        },
         s,
-        Spot { record: b, place: 3266 },
+        Spot {
+            record: b,
+            place: 3266,
+        },
         t,
         n,
     )
@@ -423,7 +467,13 @@ fn compare_rest(a: &[u8], b: &[u8], n: u16, i: u16, shared: Common) -> Ordering
     let x = record::numbers_in(a).traces;
     let y = record::numbers_in(b).traces;
     let Common { traces, place } = shared;
-    compare_traces(Spot { record: a, place }, x - traces, Spot { record: b, place }, y - traces, n)
+    compare_traces(
+        Spot { record: a, place },
+        x - traces,
+        Spot { record: b, place },
+        y - traces,
+        n,
+    )
 }
 
 // Two records with the same first two fields, which are of the right form: n samples a trace and the interval i.
@@ -445,7 +495,12 @@ fn compare_alike(a: &[u8], b: &[u8]) -> Result<Ordering, RefusedRecord>
     ensures { compare_said result ≡ compare_outcome a.now b.now }
 {
     record::judge_front(a).map_err(RefusedRecord::first)?;
-    compare_bodies(a, b, binary_number(a, ByteNo(3221)), binary_number(a, ByteNo(3217)))
+    compare_bodies(
+        a,
+        b,
+        binary_number(a, ByteNo(3221)),
+        binary_number(a, ByteNo(3217)),
+    )
 }
 
 // The order of the first record to the second.
