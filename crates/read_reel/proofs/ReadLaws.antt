@@ -9,7 +9,7 @@ use lib.ListN.{length, drop}
 use Rattle.std.specs.Prelude.{Ok, Err}
 use Rattle.numbers.specs.Terms.{Bytes}
 use Rattle.numbers.specs.Outcome.{taken, Outcome}
-use Rattle.numbers.specs.Cause.{number_of}
+use Rattle.numbers.specs.Cause.{cause_no}
 use Rattle.numbers.specs.Cause as check
 use Rattle.numbers.specs.declared.Cause.TheVariants.{ShortOutput}
 use Rattle.reel.specs.Layout.{first_trace, samples_of, interval_of, code_of, stride_by, traces_by}
