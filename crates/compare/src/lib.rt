@@ -15,7 +15,7 @@ ghost use Rattle.exact.specs.Value.{value_by};
 ghost use Rattle.exact.specs.Order.{order_z, lex_z};
 ghost use Rattle.std.specs.declared.cmp.Ordering.{Ordering};
 ghost use Rattle.compare.specs.Key.{card_key, binary_key, header_key, trace_key, order_of};
-ghost use Rattle.compare.specs.Answer.{which_number, compare_said, compare_outcome};
+ghost use Rattle.compare.specs.Answer.{which_no, compare_said, compare_outcome};
 ghost use Rattle.compare.specs.Parts.{Alike, width_bytes, number_at, row_of, rows_key, rows_end, behind_traces, key_from, is_shared, Shared, run_of};
 
 use exact::Exact;
@@ -33,7 +33,7 @@ pub enum Which {
 impl Which {
     // 1 or 2.
     pub fn number(self) -> u8
-        ensures { result ≡ which_number self }
+        ensures { result ≡ which_no self }
     {
         match self {
             Which::First => 1,
