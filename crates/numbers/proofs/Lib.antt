@@ -2,6 +2,7 @@
 pub mod BoolLaws
 pub mod WalkLaws
 pub mod LowFirst
+pub mod ChunkLaws
 pub mod AllLaws
 pub mod CauseLaws
 pub mod RowLaws

@@ -87,7 +87,7 @@ pub struct Refusal {
     pub place: Place,
 }
 
-// A number of two or of four bytes: its bytes, of which the first stands highest, and its bits in two's complement.
+// A number of one, two or four bytes: its bytes, of which the first stands highest, and its bits in two's complement.
 pub trait Number: Copy {
     type Signed: Copy;
 
@@ -104,6 +104,10 @@ pub trait Number: Copy {
     fn of_bytes(bytes: &[u8]) -> Self
         requires { length bytes.now ≡ SIZE }
         ensures { value result ≡ number bytes.now };
+
+    // The number in the lowest bytes of another, as many as it has itself.
+    fn of_low(bits: u32) -> Self
+        ensures { bytes_of SIZE (value result) ≡ bytes_of SIZE bits };
 
     // Stores the number's bytes.
     fn put(self, out: &mut [u8])
@@ -126,6 +130,48 @@ pub trait Number: Copy {
     ghost short: { SIZE ≤ 8 };
 }
 
+impl Number for u8 {
+    type Signed = i8;
+
+    ghost SIZE = { 1 };
+
+    const SIZE: usize = 1;
+
+    ghost value = { λ n. n };
+
+    ghost integer = { λ z. z };
+
+    fn of_bytes(bytes: &[u8]) -> u8 {
+        bytes[0]
+    }
+
+    fn of_low(bits: u32) -> u8 {
+        (bits % 0x100) as u8
+    }
+
+    fn put(self, out: &mut [u8]) {
+        out[0] = self;
+    }
+
+    fn signed(self) -> i8 {
+        self.cast_signed()
+    }
+
+    fn of_signed(z: i8) -> u8 {
+        z.cast_unsigned()
+    }
+
+    ghost short = { Prim.search rules };
+
+    fn magnitude(self) -> u8 {
+        if 0x80 <= self {
+            0u8.wrapping_sub(self)
+        } else {
+            self
+        }
+    }
+}
+
 impl Number for u16 {
     type Signed = i16;
 
@@ -138,13 +184,17 @@ impl Number for u16 {
     ghost integer = { λ z. z };
 
     fn of_bytes(bytes: &[u8]) -> u16 {
-        u16::from_be_bytes([bytes[0], bytes[1]])
+        u16::from_be_bytes(*bytes.first_chunk::<2>().unwrap())
+    }
+
+    fn of_low(bits: u32) -> u16 {
+        (bits % 0x1_0000) as u16
     }
 
     fn put(self, out: &mut [u8]) {
-        let bytes = self.to_be_bytes();
-        out[0] = bytes[0];
-        out[1] = bytes[1];
+        if let Some(bytes) = out.as_mut_array::<2>() {
+            *bytes = self.to_be_bytes();
+        }
     }
 
     fn signed(self) -> i16 {
@@ -178,11 +228,17 @@ impl Number for u32 {
     ghost integer = { λ z. z };
 
     fn of_bytes(bytes: &[u8]) -> u32 {
-        u32::from_be_bytes([bytes[0], bytes[1], bytes[2], bytes[3]])
+        u32::from_be_bytes(*bytes.first_chunk::<4>().unwrap())
+    }
+
+    fn of_low(bits: u32) -> u32 {
+        bits
     }
 
     fn put(self, out: &mut [u8]) {
-        out.copy_from_slice(&self.to_be_bytes());
+        if let Some(bytes) = out.as_mut_array::<4>() {
+            *bytes = self.to_be_bytes();
+        }
     }
 
     fn signed(self) -> i32 {

@@ -20,14 +20,14 @@ fn put_exponent(pair: Pair, out: &mut [u8])
     requires { length out.old ≡ 2 }
     ensures { out.new ≡ exponent_content pair }
 {
-    slices::put16(numbers::bits16(pair.e), out);
+    slices::put(numbers::bits16(pair.e), out);
 }
 
 fn put_mantissa(pair: Pair, out: &mut [u8])
     requires { length out.old ≡ 4 }
     ensures { out.new ≡ mantissa_content pair }
 {
-    slices::put32(numbers::bits32(pair.m), out);
+    slices::put(numbers::bits32(pair.m), out);
 }
 
 fn put_sample(pair: Pair, out: &mut [u8])

@@ -6,6 +6,7 @@ use native.Mathlib.Nat.{mul-le-mul_right, one-mul, zero-mul, pow-suc}
 use native.Mathlib.Omega.{arith}
 use lib.Count.{count_leading_zeros, leading_top}
 use lib.Pow.{pow_mono}
+use mir.Val.{bool_byte}
 use Rattle.numbers.specs.Walk.{pick}
 use Rattle.numbers.specs.SignMagnitude.{sign_magnitude, is_negative}
 use Rattle.numbers.proofs.Magnitudes.{abs_signed, neg_signed}
@@ -37,6 +38,15 @@ length_less o some fits =
     let t = leading_top mantissa_bits (2 * o - 1) (omega arith) (omega arith) in
     let e : mantissa_bits - 1 - count_leading_zeros mantissa_bits (2 * o - 1) ≡ t.0 = omega (arith, t.1) in
     rw e (record { holds = omega (arith, t.3, pow-suc 2 t.0); least = omega (arith, t.2) })
+
+pub length_by : (o : ℕ) (less : Bool) → 0 < o → o < 2 ^ (mantissa_bits - 1)
+    → Length (pick less 1 0) o (mantissa_bits - 1 - count_leading_zeros mantissa_bits (2 * o + 1 - 2 * bool_byte less))
+length_by o true some fits =
+    let e : 2 * o + 1 - 2 * 1 ≡ 2 * o - 1 = omega arith in
+    rw e (length_less o some fits)
+length_by o false some fits =
+    let e : 2 * o + 1 - 2 * 0 ≡ 2 * o + 1 = omega arith in
+    rw e (length_full o some fits)
 
 -- a shift that loses nothing is one by fewer bits than there are
 pub shift_fits : (o s : ℕ) → 0 < o → o * 2 ^ s < 2 ^ mantissa_bits → s < mantissa_bits

@@ -88,14 +88,11 @@ impl Odd {
     // The bits of the magnitude; where `less` is set, as for a format with one more number below zero, a power of two counts as one bit
     // shorter. They are one fewer than those of 2 × odd + 1, and of 2 × odd - 1, which is never 0: the compiler then makes one instruction of
     // the count.
-    #[tactic(auto, using(crate::proofs::PlaceLaws::length_full, crate::proofs::PlaceLaws::length_less))]
+    #[tactic(auto, using(crate::proofs::PlaceLaws::length_by))]
     pub(crate) fn length(self, less: bool) -> u32
         ensures { Length (pick less 1 0) self.odd result × (result < 32) }
     {
-        if less {
-            return 31 - u32::leading_zeros(2 * self.odd - 1);
-        }
-        31 - u32::leading_zeros(2 * self.odd + 1)
+        31 - u32::leading_zeros(2 * self.odd + 1 - 2 * less as u32)
     }
 
     // The value's place in the format of a code: of the characteristics that serve, the least. It is told by bit lengths alone, and the

@@ -70,13 +70,10 @@ impl Pair {
     {
         let bits = u32::of_signed(self.m);
         let odd = bits.magnitude();
-        if odd == 0 {
-            if self.e == 0 {
+        if odd % 2 == 0 {
+            if odd == 0 && self.e == 0 {
                 return Ok(None);
             }
-            return Err(Cause::RecordNumber);
-        }
-        if odd % 2 == 0 {
             return Err(Cause::RecordNumber);
         }
         if is_exponent(self.e) {
@@ -185,8 +182,8 @@ impl Pair {
         ensures { result ≡ pair_in b }
     {
         Pair::of_bits(
-            u16::of_bytes(&[b[0], b[1]]),
-            u32::of_bytes(&[b[2], b[3], b[4], b[5]]),
+            u16::of_bytes(&b[..2]),
+            u32::of_bytes(&b[2..]),
         )
     }
 

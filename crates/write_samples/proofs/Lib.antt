@@ -1,3 +1,2 @@
 pub mod PairLaws
 pub mod WordLaws
-pub mod NearestLaws

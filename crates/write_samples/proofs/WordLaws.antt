@@ -1,139 +1,119 @@
--- The words of a trace's samples as the code writes them: how long they are, and what is written of a pair. Assumes nothing.
-use mathlib.Core.Path.{◌≡◌, refl, sym, ap, ◌∙◌}
-use mathlib.Core.Bool.{Bool, true, false, ◌&&◌}
-use mathlib.Core.List.{List, []}
-use Prim.Native.Nat.{ℕ, ◌+◌, ◌*◌, ◌≤◌, ◌<◌}
-use native.Mathlib.Omega.{arith}
-use borrow.Author.Tests.{leb-true, le-leb, eqb-true, eq-eqb}
-use lib.Dec.{leb, eqb}
-use lib.ListN.{length}
-use Rattle.numbers.specs.Walk.{pick, walk, bytes_at, copy_of}
-use Rattle.numbers.specs.BigEndian.{number, bytes_of}
-use Rattle.numbers.specs.Cause.{first_of}
-use Rattle.numbers.proofs.WalkLaws.{flat_length, flat_none, copied}
-use Rattle.numbers.proofs.BoolLaws.{and_true}
-use Rattle.numbers.proofs.ByteLaws.{length_bytes}
+-- What the calls say and write of the pairs that stand in a row. Assumes nothing.
+use Rattle.std.proofs.Common.{◌≡◌, ℕ, zero, suc, ◌+◌, ◌*◌, ◌≤◌, ◌<◌, Bool, true, false, ◌&&◌, List, map, length, leb, eqb, sym, refl, ap, ◌∙◌}
+use borrow.Author.Tests.{le-leb, lt-leb, eqb-true}
+use Rattle.numbers.specs.Walk.{pick, walk, flat, sum, bytes_at}
+use Rattle.numbers.specs.BigEndian.{bytes_of}
+use Rattle.numbers.specs.Cause.{Check, Refused, then, first_of}
+use Rattle.numbers.proofs.WalkLaws.{map_walk, size_walk}
+use Rattle.numbers.proofs.ChunkLaws.{sum_by_walk}
 use Rattle.formats.specs.Codes.{is_code, sample_bytes}
-use Rattle.value.specs.Writing.{write_pair}
 use Rattle.formats.specs.Words.{word_bits}
-use Rattle.value.specs.Pair.{pair_length, pair_of_bits}
-use Rattle.value.specs.declared.Pair.{Pair}
-use Rattle.formats.specs.Written.{Written}
-use Rattle.formats.proofs.CodeLaws.{Code, code_is, ibm, whole32, whole16, gain, ieee, whole8}
-use Rattle.value.proofs.PairBytes.{pair_fetched}
-use Rattle.write_samples.specs.Samples.{word_bytes, written_at, pair_check, pairs_there, there_and_as_long, samples_checked, sample_words, samples_written}
+use Rattle.value.specs.Pair.{pair_in}
+use Rattle.value.specs.Writing.{write_pair, nearest_pair}
+use Rattle.write_samples.specs.Samples.{pair_check, pair_refused, word_bytes, written_at, sample_words, there_and_as_long, samples_checked, samples_written}
+use Rattle.write_samples.specs.Nearest.{nearest_at, rounded_bytes, nearest_words, pairs_changed, nearest_samples_written, nearest_samples_counted}
+use Rattle.write_samples.specs.Pairs.{pairs_refused, words_content, rounded_content, rounded_count}
 
--- ## The code
+-- ## Pairs in a row
 
--- what tests of a code leave of the six,
-pub code_limits : (code : ℕ) → is_code code ≡ true → (0 < code) × (5 < code → 8 ≡ code)
-code_limits code h = go code (code_is code h)
-  where
-    go : (code : ℕ) → Code code → (0 < code) × (5 < code → 8 ≡ code)
-    go code ibm = (omega arith, λ t. omega (arith, t))
-    go code whole32 = (omega arith, λ t. omega (arith, t))
-    go code whole16 = (omega arith, λ t. omega (arith, t))
-    go code gain = (omega arith, λ t. omega (arith, t))
-    go code ieee = (omega arith, λ t. omega (arith, t))
-    go code whole8 = (omega arith, λ t. refl)
+-- the pairs of a record, each by its six bytes
+abbrev pub pairs_of : List ℕ → ℕ → ℕ → List (List ℕ)
+pairs_of s n at = walk (λ p. bytes_at s p 6) 6 n at
 
--- of the four whose words have four bytes
-pub long_code : (code : ℕ) → is_code code ≡ true → sample_bytes code ≡ 4 → (code ≡ 3 → ⊥) × (code < 6)
-long_code code h v = go code (code_is code h) v
-  where
-    go : (code : ℕ) → Code code → sample_bytes code ≡ 4 → (code ≡ 3 → ⊥) × (code < 6)
-    go code ibm v = (λ e. omega (arith, e), omega arith)
-    go code whole32 v = (λ e. omega (arith, e), omega arith)
-    go code gain v = (λ e. omega (arith, e), omega arith)
-    go code ieee v = (λ e. omega (arith, e), omega arith)
-    go code whole16 v = omega (arith, v)
-    go code whole8 v = omega (arith, v)
+many : (s : List ℕ) (n at : ℕ) {pairs : List (List ℕ)} → pairs ≡ pairs_of s n at → length pairs ≡ n
+many s n at e = ap length e ∙ size_walk (λ p. bytes_at s p 6) 6 n at
 
--- and of the two whose words have fewer
-pub short_code : (code : ℕ) → is_code code ≡ true → sample_bytes code < 4 → (code < 4 → 3 ≡ code) × (4 ≤ code → 8 ≡ code)
-short_code code h v = go code (code_is code h) v
-  where
-    go : (code : ℕ) → Code code → sample_bytes code < 4 → (code < 4 → 3 ≡ code) × (4 ≤ code → 8 ≡ code)
-    go code whole16 v = (λ t. refl, λ t. omega (arith, t))
-    go code whole8 v = (λ t. omega (arith, t), λ t. refl)
-    go code ibm v = omega (arith, v)
-    go code whole32 v = omega (arith, v)
-    go code gain v = omega (arith, v)
-    go code ieee v = omega (arith, v)
+-- an output that so many words make up is as long as the words of the pairs
+pub room : (s : List ℕ) (n at : ℕ) {pairs : List (List ℕ)} → pairs ≡ pairs_of s n at → {w v o : ℕ} → w ≡ v → eqb o (n * w) ≡ true → o ≡ length pairs * v
+room s n at {pairs} e {w} {v} {o} is h =
+    eqb-true o (n * w) h ∙ ap (λ x. n * x) is ∙ ap (λ x. x * v) (sym (many s n at e))
 
--- ## Words
+module _ (s : List ℕ) (code : ℕ) where
+  refused_walk : (n at : ℕ) → pairs_refused (write_pair code) (pairs_of s n at) at ≡ first_of (walk (pair_check s code) 6 n at)
+  refused_walk zero at = refl
+  refused_walk (suc n) at = ap (then (pair_check s code at)) (refused_walk n (at + 6))
 
-pub size_word : (code : ℕ) (w : Written) → length (word_bytes code w) ≡ sample_bytes code
-size_word code w = length_bytes (sample_bytes code) (word_bits w)
+  words_walk : (n at : ℕ) → words_content (sample_bytes code) (write_pair code) (pairs_of s n at) ≡ sample_words s code n at
+  unfolding sample_words
+  words_walk n at =
+      ap flat (map_walk (λ b. word_bytes code (write_pair code (pair_in b))) (λ p. bytes_at s p 6) 6 n at
+      ∙ sym (map_walk (word_bytes code) (written_at s code) 6 n at))
 
-pub size_written : (s : List ℕ) (code p : ℕ) → length (word_bytes code (written_at s code p)) ≡ sample_bytes code
-size_written s code p = size_word code (written_at s code p)
+  nearest_walk : (n at : ℕ) → rounded_content (sample_bytes code) (nearest_pair code) (pairs_of s n at) ≡ nearest_words s code n at
+  unfolding nearest_words
+  nearest_walk n at =
+      ap flat (map_walk (λ b. rounded_bytes code (nearest_pair code (pair_in b))) (λ p. bytes_at s p 6) 6 n at
+      ∙ sym (map_walk (rounded_bytes code) (nearest_at s code) 6 n at))
 
-pub size_samples : (s : List ℕ) (code n at : ℕ) → length (sample_words s code n at) ≡ n * sample_bytes code
-unfolding sample_words
-size_samples s code n at = flat_length (word_bytes code) (written_at s code) (sample_bytes code) (size_written s code) pair_length n at
+  count_walk : (n at : ℕ) → rounded_count (nearest_pair code) (pairs_of s n at) ≡ pairs_changed s code n at
+  unfolding pairs_changed
+  count_walk n at = sum_by_walk (λ b. (nearest_pair code (pair_in b)).changed) (λ p. bytes_at s p 6) 6 n at
 
--- the bits of a word stored in four bytes, of which a sample of the code has as many
-pub bits_stored : (code bits : ℕ) (out : List ℕ) {ys : List ℕ} → sample_bytes code ≡ 4 → length out ≡ 4 → ys ≡ copy_of (bytes_of 4 bits) out → ys ≡ bytes_of (sample_bytes code) bits
-bits_stored code bits out v n is = copied (bytes_of 4 bits) out is n ∙ ap (λ (k : ℕ). bytes_of k bits) (sym v)
+-- ## The calls, under the number of a code
 
--- the word of a pair, by the code's number
-pub pair_stored : (code k bits : ℕ) (p : Pair) {ys : List ℕ} → k ≡ code → bits ≡ word_bits (write_pair k p) → ys ≡ bytes_of (sample_bytes code) bits → ys ≡ word_bytes code (write_pair code p)
-pair_stored code k bits p q e is = is ∙ ap (bytes_of (sample_bytes code)) (e ∙ ap (λ (j : ℕ). word_bits (write_pair j p)) q)
-
--- ## Samples
-
-pub samples_none : (s : List ℕ) (code k at : ℕ) → k ≤ 0 → sample_words s code k at ≡ []
-unfolding sample_words
-samples_none s code k at h = flat_none (word_bytes code) (written_at s code) pair_length k at h
-
--- what is written of a pair that has been fetched
-module _ (s : List ℕ) (code at e m : ℕ) (p : Pair) where
-  -- the bytes of its word,
-  pub fetched_bytes : p ≡ pair_of_bits e m → e ≡ number (bytes_at s at 2) → m ≡ number (bytes_at s (at + 2) 4) → word_bytes code (write_pair code p) ≡ word_bytes code (written_at s code at)
-  fetched_bytes q i j = ap (λ (x : Pair). word_bytes code (write_pair code x)) (pair_fetched s at e m p q i j)
-
-  -- by the word's bits
-  pub fetched_stored : (bits : ℕ) {ys : List ℕ} → ys ≡ bytes_of (sample_bytes code) bits → bits ≡ word_bits (write_pair code p) → p ≡ pair_of_bits e m → e ≡ number (bytes_at s at 2) → m ≡ number (bytes_at s (at + 2) 4)
-      → ys ≡ word_bytes code (written_at s code at)
-  fetched_stored bits is h q i j = pair_stored code code bits p refl h is ∙ fetched_bytes q i j
-
--- ## The calls
-
-module _ (s : List ℕ) (code n at : ℕ) where
-  -- what it is for the pairs to be there
-  pub they_are_there : pairs_there s code n at ≡ true → (is_code code ≡ true) × (at + n * 6 ≤ length s)
-  they_are_there e =
-      let b = and_true (is_code code) (leb (at + n * 6) (length s)) e in
-      (b.0, leb-true (at + n * 6) (length s) b.1)
-
-  there : is_code code ≡ true → at + n * 6 ≤ length s → pairs_there s code n at ≡ true
-  there i w = rw (i, le-leb (at + n * 6) (length s) w)
-
-  -- pairs that are there are looked at
-  pub samples_checked_lem : is_code code ≡ true → at + n * 6 ≤ length s → samples_checked s code n at ≡ first_of (walk (pair_check s code) 6 n at)
+module _ (s : List ℕ) (k code n at : ℕ) (is : k ≡ code) where
+  -- 11, 12, and what is said of pairs that are there
+  pub no_code_said : is_code code ≡ false → Refused 11 (record { 0 = 0 }) ≡ samples_checked s code n at
   unfolding samples_checked
-  samples_checked_lem i w = rw (i, le-leb (at + n * 6) (length s) w)
+  no_code_said e = rw e
 
-  -- pairs that are there and fit are written, and others leave the output as it was
+  pub not_there_said : is_code k ≡ true → length s < at + n * 6 → Refused 12 (record { 0 = at }) ≡ samples_checked s code n at
+  unfolding samples_checked
+  not_there_said i l = let j : is_code code ≡ true = rw is at i in rw (j, lt-leb (at + n * 6) (length s) l)
+
+  pub pairs_said : is_code k ≡ true → at + n * 6 ≤ length s → {pairs : List (List ℕ)} → pairs ≡ pairs_of s n at
+      → {c : Check} → c ≡ pairs_refused (write_pair k) pairs at → c ≡ samples_checked s code n at
+  unfolding samples_checked
+  pairs_said i l {pairs} e said =
+      let all : pairs_refused (write_pair k) pairs at ≡ first_of (walk (pair_check s code) 6 n at) =
+      ap (λ j. pairs_refused (write_pair j) pairs at) is ∙ ap (λ ps. pairs_refused (write_pair code) ps at) e ∙ refused_walk s code n at in
+      let j : is_code code ≡ true = rw is at i in
+      let fits : first_of (walk (pair_check s code) 6 n at) ≡ samples_checked s code n at = rw (j, le-leb (at + n * 6) (length s) l) in
+      said ∙ all ∙ fits
+
   module _ (out : List ℕ) where
-    -- what it is for them to be so
-    pub they_are_as_long : there_and_as_long s code n at out ≡ true → (is_code code ≡ true) × (at + n * 6 ≤ length s) × (length out ≡ n * sample_bytes code)
-    they_are_as_long e =
-        let b = and_true (pairs_there s code n at) (eqb (length out) (n * sample_bytes code)) e in
-        let t = they_are_there b.0 in
-        (t.0, t.1, eqb-true (length out) (n * sample_bytes code) b.1)
+    -- whether the pairs are there, and the output as long as their words
+    pub no_code : is_code code ≡ false → there_and_as_long s code n at out ≡ false
+    no_code e = rw e
 
-    pub as_given : is_code code ≡ true → at + n * 6 ≤ length s → length out ≡ n * sample_bytes code → there_and_as_long s code n at out ≡ true
-    as_given i w o = ap (λ (b : Bool). b && eqb (length out) (n * sample_bytes code)) (there i w) ∙ eq-eqb (length out) (n * sample_bytes code) o
+    pub not_there : is_code k ≡ true → length s < at + n * 6 → there_and_as_long s code n at out ≡ false
+    not_there i l = let j : is_code code ≡ true = rw is at i in rw (j, lt-leb (at + n * 6) (length s) l)
 
-    pub samples_kept : there_and_as_long s code n at out ≡ false → samples_written s code n at out ≡ out
-    unfolding samples_written
-    samples_kept e = ap (λ (b : Bool). pick b (sample_words s code n at) out) e
+    pub as_long : is_code k ≡ true → at + n * 6 ≤ length s → {b : Bool} → eqb (length out) (n * sample_bytes k) ≡ b → there_and_as_long s code n at out ≡ b
+    as_long i l {b} e =
+        let j : is_code code ≡ true = rw is at i in
+        let q : eqb (length out) (n * sample_bytes code) ≡ b = rw is at e in
+        rw (j, le-leb (at + n * 6) (length s) l) q
 
-    pub samples_put : there_and_as_long s code n at out ≡ true → samples_written s code n at out ≡ sample_words s code n at
-    unfolding samples_written
-    samples_put e = ap (λ (b : Bool). pick b (sample_words s code n at) out) e
+    -- what is written then
+    module _ {pairs : List (List ℕ)} (e : pairs ≡ pairs_of s n at) where
+      pub written_then : {new : List ℕ} → new ≡ words_content (sample_bytes k) (write_pair k) pairs → new ≡ sample_words s code n at
+      written_then w =
+          w ∙ ap (λ j. words_content (sample_bytes j) (write_pair j) pairs) is ∙ ap (words_content (sample_bytes code) (write_pair code)) e ∙ words_walk s code n at
 
-    pub samples_written_lem : is_code code ≡ true → at + n * 6 ≤ length s → length out ≡ n * sample_bytes code → samples_written s code n at out ≡ sample_words s code n at
-    samples_written_lem i w o = samples_put (as_given i w o)
+      pub rounded_then : {new : List ℕ} → new ≡ rounded_content (sample_bytes k) (nearest_pair k) pairs → new ≡ nearest_words s code n at
+      rounded_then w =
+          w ∙ ap (λ j. rounded_content (sample_bytes j) (nearest_pair j) pairs) is ∙ ap (rounded_content (sample_bytes code) (nearest_pair code)) e
+          ∙ nearest_walk s code n at
+
+      pub counted_then : {c : ℕ} → c ≡ rounded_count (nearest_pair k) pairs → c ≡ pairs_changed s code n at
+      counted_then w =
+          w ∙ ap (λ j. rounded_count (nearest_pair j) pairs) is ∙ ap (rounded_count (nearest_pair code)) e ∙ count_walk s code n at
+
+module _ (s : List ℕ) (code n at : ℕ) (out : List ℕ) where
+  pub kept : there_and_as_long s code n at out ≡ false → out ≡ samples_written s code n at out
+  unfolding samples_written
+  kept e = rw e
+
+  pub put : there_and_as_long s code n at out ≡ true → {new : List ℕ} → new ≡ sample_words s code n at → new ≡ samples_written s code n at out
+  unfolding samples_written
+  put e w = rw e w
+
+  pub nearest_kept : there_and_as_long s code n at out ≡ false → (0 ≡ nearest_samples_counted s code n at out) × (out ≡ nearest_samples_written s code n at out)
+  unfolding nearest_samples_written nearest_samples_counted
+  nearest_kept e = (rw e, rw e)
+
+  pub nearest_put : there_and_as_long s code n at out ≡ true → {c : ℕ} {new : List ℕ} → c ≡ pairs_changed s code n at → new ≡ nearest_words s code n at
+      → (c ≡ nearest_samples_counted s code n at out) × (new ≡ nearest_samples_written s code n at out)
+  unfolding nearest_samples_written nearest_samples_counted
+  nearest_put e count w = (rw e count, rw e w)

@@ -13,4 +13,4 @@ pub returns : goal.returns
 returns c =
     let s = c in
     let x : SFits w16 s.args.pair.e = search rules in
-    copied _ _ c.put16.ensures s.requires ∙ ap (bytes_of 2) (c.bits16.ensures ∙ ap (bits_of 16) (to_z-of_z x))
+    copied _ _ c.put.ensures s.requires ∙ ap (bytes_of 2) (c.bits16.ensures ∙ ap (bits_of 16) (to_z-of_z x))

@@ -13,4 +13,4 @@ pub returns : goal.returns
 returns c =
     let s = c in
     let x : SFits w32 s.args.pair.m = search rules in
-    copied _ _ c.put32.ensures s.requires ∙ ap (bytes_of 4) (c.bits32.ensures ∙ ap (bits_of 32) (to_z-of_z x))
+    copied _ _ c.put.ensures s.requires ∙ ap (bytes_of 4) (c.bits32.ensures ∙ ap (bits_of 32) (to_z-of_z x))

@@ -1,35 +1,22 @@
 -- `write_samples::check_samples` meets its contract. Assumes nothing.
-use Rattle.write_samples.specs.Samples.{samples_checked}
-use Rattle.write_samples.proofs.WordLaws.{samples_checked_lem}
-use Rattle.formats.specs.Codes.{is_code}
-use borrow.Author.Tests.{leb-true}
-use lib.ListN.{length}
-use mathlib.Core.Bool.{true}
-use mathlib.Core.Path.{◌≡◌, sym, ◌∙◌}
-use Prim.Native.Nat.{◌+◌, ◌*◌, ◌≤◌}
-use Rattle.write_samples.proofs.check_samples.Goals.{Else-not-are_within, Else-not-is_code}
+use Rattle.std.proofs.Common.{refl}
+use Rattle.formats.specs.Codes.{code_no}
+use Rattle.formats.proofs.CodeLaws.{code_no_is}
+use Rattle.write_samples.proofs.WordLaws.{no_code_said, not_there_said, pairs_said}
 use Rattle.write_samples.proofs.check_samples.Goals as goal
 
-pub returns-then-not-is_code : goal.returns-then-not-is_code
-unfolding samples_checked
-returns-then-not-is_code c = rw (sym c.is_code.ensures ∙ c.if-not-is_code.true)
+pub returns-in_default : goal.returns-in_default
+returns-in_default c = let a = c.args in no_code_said a.record.now a.code a.code a.n a.start.0 refl c.in_default.ensures
 
-code_is : (c : Else-not-is_code) → is_code c.args.code ≡ true
-code_is c = sym c.is_code.ensures ∙ c.if-not-is_code.false
-
-pub returns-then-not-are_within : goal.returns-then-not-are_within
-unfolding samples_checked
-returns-then-not-are_within c = rw (code_is (goal.at.returns-then-not-are_within c).Else-not-is_code, sym c.are_within.ensures ∙ c.if-not-are_within.true)
-
-room : (c : Else-not-are_within) → let a = c.args in a.start.0 + a.n * 6 ≤ length a.«record».now
-room c =
+pub returns-in_default-pairs_at : goal.returns-in_default-pairs_at
+returns-in_default-pairs_at c =
     let a = c.args in
-    leb-true (a.start.0 + a.n * 6) (length a.«record».now) (sym c.are_within.ensures ∙ c.if-not-are_within.false)
-
-pub check_pairs-requires : goal.check_pairs-requires
-check_pairs-requires c = (code_is (goal.at.check_pairs-requires c).Else-not-is_code, room (goal.at.check_pairs-requires c).Else-not-are_within)
+    let k = c.in-Some.code in
+    not_there_said a.record.now (code_no k) a.code a.n a.start.0 c.in-Some.ensures (code_no_is k) c.in_default-pairs_at.ensures
 
 pub returns : goal.returns
 returns c =
     let a = c.args in
-    c.check_pairs.ensures ∙ sym (samples_checked_lem a.«record».now a.code a.n a.start.0 (code_is (goal.at.returns c).Else-not-is_code) (room (goal.at.returns c).Else-not-are_within))
+    let k = c.in-Some.code in
+    let there = c.in-Some-pairs_at.ensures in
+    pairs_said a.record.now (code_no k) a.code a.n a.start.0 c.in-Some.ensures (code_no_is k) there.0 there.1 c.check_by.ensures

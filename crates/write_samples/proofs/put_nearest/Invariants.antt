@@ -1,18 +1,15 @@
-use Rattle.write_samples.specs.Nearest.{nearest_words, pairs_changed}
-use Rattle.numbers.proofs.Filling.{Filling}
-use Rattle.numbers.specs.Walk.{bytes_at}
-use Rattle.numbers.specs.BigEndian.{number}
-use Rattle.formats.specs.Codes.{sample_bytes}
-use lib.ListN.{length}
-use Prim.Native.Nat.{◌+◌, ◌*◌, ◌≤◌}
-use mathlib.Core.Path.{◌≡◌}
+use Rattle.std.proofs.Common.{◌≡◌, ℕ, ◌*◌, ◌≤◌, ◌++◌, take, drop}
+use Rattle.value.specs.Writing.{Rounded, rounded}
+use Rattle.value.specs.declared.Rounded as found
+use Rattle.value.specs.declared.Pair.{Pair}
+use Rattle.write_samples.specs.Pairs.{rounded_content, rounded_count}
 use Rattle.write_samples.proofs.put_nearest.Given as goal
 
-abbrev pub invariant-loop-left : goal.invariant-loop-left
-invariant-loop-left l =
-    (l.at + l.left * 6 + 6 ≤ length l.«record») × (l.v ≡ sample_bytes l.code) × (length l.out ≡ l.n * sample_bytes l.code) × (l.o + l.left * l.v + l.v ≡ l.n * sample_bytes l.code) × (l.e ≡ number (bytes_at l.«record» l.at 2)) × (l.m ≡ number (bytes_at l.«record» (l.at + 2) 4))
-    × Filling (nearest_words l.«record» l.code l.n l.start) l.out l.o (nearest_words l.«record» l.code (l.left + 1) l.at)
-    × (l.count + l.left + 1 ≤ l.n) × (l.count + pairs_changed l.«record» l.code (l.left + 1) l.at ≡ pairs_changed l.«record» l.code l.n l.start)
-
-abbrev pub decreases-loop-left : goal.decreases-loop-left
-decreases-loop-left l = l.left
+-- the pairs so far have their words in front of what the output was, and are counted
+abbrev pub invariant-loop-i : goal.invariant-loop-i
+invariant-loop-i g l = record {
+  few : l.changed ≤ l.i;
+  so_far : (nearest : Pair → Rounded) → ((p : Pair) (r : found.Rounded) → goal.F-post g l.nearest_to p r → rounded r ≡ nearest p)
+      → (l.changed ≡ rounded_count nearest (take l.i l.pairs))
+      × (l.out ≡ rounded_content g.N.Number.SIZE nearest (take l.i l.pairs) ++ drop (l.i * g.N.Number.SIZE) l.fn.out);
+}

@@ -1,22 +1,34 @@
 -- `write_samples::put_rounded` meets its contract. Assumes nothing.
-use Rattle.write_samples.proofs.WordLaws.{bits_stored}
-use Rattle.formats.specs.Codes.{sample_bytes}
-use mathlib.Core.Path.{◌≡◌, refl, ◌∙◌}
-use native.Mathlib.Omega.{arith}
-use mathlib.Core.Bool.{Bool, true, false}
-use mir.Val.{bool_byte}
-use Rattle.numbers.specs.Walk.{pick}
+use Rattle.std.proofs.Common.{rules}
+use Rattle.value.specs.Writing.{nearest_pair}
 use Rattle.write_samples.proofs.put_rounded.Goals as goal
 
--- a test as a number
-as_one : (b : Bool) → bool_byte b ≡ pick b 1 0
-as_one true = refl
-as_one false = refl
+pub returns-in-Ibm : goal.returns-in-Ibm
+returns-in-Ibm c =
+    let e = c.put_nearest.ensures in
+    rw c.in-Ibm.is (record { count = e.count (nearest_pair 1) (λ p r k. search rules); words = e.words (nearest_pair 1) (λ p r k. search rules) })
 
-pub returns : goal.returns
-returns c =
-    let e = c in
-    let s = c in
-    let w = e.width_of in
-    let v : sample_bytes s.args.code ≡ 4 = omega (arith, w.ensures.0, w.ensures.2, e.if-width_of-lt4.false) in
-    (as_one s.args.word.changed, bits_stored s.args.code s.args.word.bits s.args.out.now v (s.requires.1 ∙ v) c.put.ensures)
+pub returns-in-Whole32 : goal.returns-in-Whole32
+returns-in-Whole32 c =
+    let e = c.put_nearest-in-Whole32.ensures in
+    rw c.in-Whole32.is (record { count = e.count (nearest_pair 2) (λ p r k. search rules); words = e.words (nearest_pair 2) (λ p r k. search rules) })
+
+pub returns-in-Whole16 : goal.returns-in-Whole16
+returns-in-Whole16 c =
+    let e = c.put_nearest-in-Whole16.ensures in
+    rw c.in-Whole16.is (record { count = e.count (nearest_pair 3) (λ p r k. search rules); words = e.words (nearest_pair 3) (λ p r k. search rules) })
+
+pub returns-in-Gain : goal.returns-in-Gain
+returns-in-Gain c =
+    let e = c.put_nearest-in-Gain.ensures in
+    rw c.in-Gain.is (record { count = e.count (nearest_pair 4) (λ p r k. search rules); words = e.words (nearest_pair 4) (λ p r k. search rules) })
+
+pub returns-in-Ieee : goal.returns-in-Ieee
+returns-in-Ieee c =
+    let e = c.put_nearest-in-Ieee.ensures in
+    rw c.in-Ieee.is (record { count = e.count (nearest_pair 5) (λ p r k. search rules); words = e.words (nearest_pair 5) (λ p r k. search rules) })
+
+pub returns-in-Whole8 : goal.returns-in-Whole8
+returns-in-Whole8 c =
+    let e = c.put_nearest-in-Whole8.ensures in
+    rw c.in-Whole8.is (record { count = e.count (nearest_pair 8) (λ p r k. search rules); words = e.words (nearest_pair 8) (λ p r k. search rules) })

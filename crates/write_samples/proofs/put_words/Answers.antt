@@ -1,116 +1,19 @@
 -- `write_samples::put_words` meets its contract. Assumes nothing.
-use Rattle.write_samples.proofs.WordLaws.{size_written, size_samples, samples_none, fetched_bytes, fetched_stored, bits_stored}
-use Rattle.write_samples.specs.Samples.{word_bytes, written_at, sample_words}
-use Rattle.numbers.proofs.Filling.{start as begin, finish, again, next_put, last_put}
-use Rattle.numbers.proofs.WalkLaws.{times_more}
-use Rattle.formats.specs.Codes.{sample_bytes}
-use lib.ListN.{length}
-use Prim.Native.Nat.{ℕ, ◌+◌, ◌-◌, ◌*◌}
-use mathlib.Core.Path.{◌≡◌, sym, ap, ◌∙◌}
-use native.Mathlib.Omega.{arith}
-use Rattle.write_samples.proofs.put_words.Goals.{Start}
+use Rattle.std.proofs.Common.{[], get_or, refl, ap, ◌∙◌}
+use Rattle.numbers.specs.BigEndian.{bytes_of}
+use Rattle.numbers.proofs.ByteLaws.{length_bytes}
+use Rattle.numbers.proofs.ChunkLaws.{part_more_by}
+use Rattle.formats.specs.Words.{word_bits}
+use Rattle.value.specs.Pair.{pair_in}
+use Rattle.write_samples.proofs.PairLaws.{bits_found}
 use Rattle.write_samples.proofs.put_words.Goals as goal
 
--- the samples' length
-size : (c : Start) → length c.args.out.now ≡ length (sample_words c.args.«record».now c.args.code c.args.n c.args.start)
-size c = c.requires.3 ∙ ap (λ (v : ℕ). c.args.n * v) (sym c.requires.1) ∙ sym (size_samples c.args.«record».now c.args.code c.args.n c.args.start)
-
-pub returns-then-n-lt1 : goal.returns-then-n-lt1
-returns-then-n-lt1 c =
-    let b = (goal.at.returns-then-n-lt1 c).Start in
-    finish (begin _ _ (size b)) (samples_none b.args.«record».now b.args.code b.args.n b.args.start (omega (arith, c.if-n-lt1.true)))
-
-pub exponent_at-e-requires : goal.exponent_at-e-requires
-exponent_at-e-requires c = omega (arith, times_more c.args.n 6 (omega (arith, c.if-n-lt1.false)), c.requires.2)
-
-pub mantissa_at-m-requires : goal.mantissa_at-m-requires
-mantissa_at-m-requires c = omega (arith, times_more c.args.n 6 (omega (arith, c.if-n-lt1.false)), c.requires.2)
-
-pub loop-left-init : goal.loop-left-init
-loop-left-init c =
-    let b = (goal.at.loop-left-init c).Start in
-    let a = b.args in
-    let some = c.if-n-lt1.false in
-    let e : a.n ≡ a.n - 1 + 1 = omega (arith, some) in (
-      omega (arith, times_more a.n 6 (omega (arith, some)), b.requires.2),
-      b.requires.3,
-      omega (arith, times_more a.n 4 (omega (arith, some))),
-      c.exponent_at-e.ensures,
-      c.mantissa_at-m.ensures,
-      again (begin _ _ (size b)) (ap (λ (j : ℕ). sample_words a.«record».now a.code j a.start) e),
-    )
-
-pub overflow_add-next : goal.overflow_add-next
-overflow_add-next c = omega (arith, c.loop-left.invariant.1, c.loop-left.invariant.2)
-
-pub slice_bounds-put_word-end : goal.slice_bounds-put_word-end
-slice_bounds-put_word-end c = omega (arith, c.loop-left.invariant.1, c.loop-left.invariant.2)
-
-pub put_word-requires : goal.put_word-requires
-put_word-requires c =
-    let p = c.requires in
-    (p.0, p.1, c.put_word-arg-1.given.2 ∙ omega arith)
-
-pub overflow_add-at : goal.overflow_add-at
-overflow_add-at c =
-    let l = c.loop-left in
-    omega (arith, times_more l.left 6 c.loop-left-test.true, l.invariant.0)
-
-pub exponent_at-e-requires-in-loop-left : goal.exponent_at-e-requires-in-loop-left
-exponent_at-e-requires-in-loop-left c =
-    let l = c.loop-left in
-    omega (arith, times_more l.left 6 c.loop-left-test.true, l.invariant.0)
-
-pub mantissa_at-m-requires-in-loop-left : goal.mantissa_at-m-requires-in-loop-left
-mantissa_at-m-requires-in-loop-left c =
-    let l = c.loop-left in
-    omega (arith, times_more l.left 6 c.loop-left-test.true, l.invariant.0)
-
-pub overflow_sub-left-in-loop-left : goal.overflow_sub-left-in-loop-left
-overflow_sub-left-in-loop-left c = omega (arith, c.loop-left-test.true)
-
-pub loop-left-smaller : goal.loop-left-smaller
-loop-left-smaller c = omega (arith, c.loop-left-test.true)
-
-pub loop-left-preserved : goal.loop-left-preserved
-unfolding sample_words
-loop-left-preserved c =
-    let l = c.loop-left in
-    let b = (goal.at.loop-left-preserved c).Start in
-    let s = b.args.«record».now in
-    let some = c.loop-left-test.true in
-    let p = c.of_bits in
-    let new = c.put_word.ensures ∙ fetched_bytes s b.args.code l.at l.e l.m p.result p.ensures l.invariant.3 l.invariant.4 in
-    let k = b.args.code in
-    let f = next_put (word_bytes k) (written_at s k) 6 (sample_bytes k) (size_written s k) l.left l.at l.o (l.o + 4) some (ap (λ (v : ℕ). l.o + v) (sym b.requires.1)) l.invariant.5 new in (
-      omega (arith, times_more l.left 6 some, l.invariant.0),
-      f.size ∙ sym l.invariant.5.size ∙ l.invariant.1,
-      omega (arith, times_more l.left 4 some, l.invariant.2),
-      c.exponent_at-e-in-loop-left.ensures,
-      c.mantissa_at-m-in-loop-left.ensures,
-      f,
-    )
-
-pub overflow_add-o : goal.overflow_add-o
-overflow_add-o c = omega (arith, c.loop-left.invariant.1, c.loop-left.invariant.2)
-
-pub slice_bounds-put-end : goal.slice_bounds-put-end
-slice_bounds-put-end c = omega (arith, c.loop-left.invariant.1, c.loop-left.invariant.2)
-
-pub returns : goal.returns
-unfolding sample_words
-returns c =
-    let l = c.loop-left in
-    let b = (goal.at.returns c).Start in
-    let s = b.args.«record».now in
-    let k = b.args.code in
-    let p = c.of_bits-2 in
-    let bits = c.bits-bits in
-    let stored = bits_stored k bits.result _ b.requires.1 (c.put-arg-1.given.2 ∙ omega arith) c.put.ensures in
-    let new = fetched_stored s k l.at l.e l.m p.result bits.result stored bits.ensures p.ensures l.invariant.3 l.invariant.4 in
-    last_put (word_bytes k) (written_at s k) 6 (sample_bytes k) (size_written s k) l.left l.at l.o (l.o + 4) c.loop-left-test.false (ap (λ (v : ℕ). l.o + v) (sym b.requires.1)) l.invariant.5 new
-
-pub shape_of-out : goal.shape_of-out
-shape_of-out c =
-    let b = (goal.at.shape_of-out c).Start in
-    ap length (returns c) ∙ sym (size b)
+pub loop-i-preserved : goal.loop-i-preserved
+loop-i-preserved g c word h =
+    let l = c.loop-i in
+    let k = g.N.Number.SIZE in
+    let pairs = c.args.pairs.now in
+    let bits = c.unwrap_or-bits.ensures ∙ bits_found c.word_of.result ∙ ap word_bits (h _ _ c.word_of.ensures ∙ ap word c.of_bytes.ensures) in
+    part_more_by (λ b. bytes_of k (word_bits (word (pair_in b)))) k (λ b. length_bytes k (word_bits (word (pair_in b)))) c.SIZE.result c.SIZE-in-loop-i.result c.SIZE.ensures c.SIZE-in-loop-i.ensures
+    pairs l.i (get_or pairs l.i []) [] c.args.out.now l.out c.put.new.out c.loop-i-test.true refl (l.invariant word h)
+    (c.put.ensures ∙ c.of_low.ensures ∙ ap (bytes_of k) bits)

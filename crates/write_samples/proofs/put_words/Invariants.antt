@@ -1,16 +1,12 @@
-use Rattle.write_samples.specs.Samples.{sample_words}
-use Rattle.numbers.proofs.Filling.{Filling}
-use Rattle.numbers.specs.Walk.{bytes_at}
-use Rattle.numbers.specs.BigEndian.{number}
-use lib.ListN.{length}
-use Prim.Native.Nat.{◌+◌, ◌*◌, ◌≤◌}
-use mathlib.Core.Path.{◌≡◌}
+use Rattle.std.proofs.Common.{◌≡◌, ℕ, ◌*◌, ◌++◌, take, drop, Result}
+use Rattle.numbers.specs.declared.Cause.{Cause}
+use Rattle.formats.specs.Written.{Written, written}
+use Rattle.value.specs.declared.Pair.{Pair}
+use Rattle.write_samples.specs.Pairs.{words_content}
 use Rattle.write_samples.proofs.put_words.Given as goal
 
-abbrev pub invariant-loop-left : goal.invariant-loop-left
-invariant-loop-left l =
-    (l.at + l.left * 6 + 6 ≤ length l.«record») × (length l.out ≡ l.n * 4) × (l.o + l.left * 4 + 4 ≡ l.n * 4) × (l.e ≡ number (bytes_at l.«record» l.at 2)) × (l.m ≡ number (bytes_at l.«record» (l.at + 2) 4))
-    × Filling (sample_words l.«record» l.code l.n l.start) l.out l.o (sample_words l.«record» l.code (l.left + 1) l.at)
-
-abbrev pub decreases-loop-left : goal.decreases-loop-left
-decreases-loop-left l = l.left
+-- the pairs so far have their words in front of what the output was
+abbrev pub invariant-loop-i : goal.invariant-loop-i
+invariant-loop-i g l =
+    (word : Pair → Written) → ((p : Pair) (r : Result ℕ Cause) → goal.F-post g l.word_of p r → written r ≡ word p)
+    → l.out ≡ words_content g.N.Number.SIZE word (take l.i l.pairs) ++ drop (l.i * g.N.Number.SIZE) l.fn.out

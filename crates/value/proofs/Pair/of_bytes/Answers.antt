@@ -1,7 +1,15 @@
 -- `value::Pair::of_bytes` meets its contract. Assumes nothing.
-use Rattle.numbers.specs.Walk.{bytes_at}
+use Rattle.std.proofs.Common.{◌≡◌, length, ap, ◌∙◌, rules, arith}
+use mathlib.Core.Path.{ap₂}
+use Rattle.numbers.specs.BigEndian.{number}
+use Rattle.numbers.proofs.WalkLaws.{bytes_between}
+use Rattle.value.specs.Pair.{pair_of_bits}
 use Rattle.value.proofs.Pair.of_bytes.Goals as goal
 
 pub returns : goal.returns
-unfolding bytes_at
-returns c = rw (← c.of_bytes.ensures, ← c.of_bytes-2.ensures) c.of_bits.ensures
+returns c =
+    let b = c.args.b in
+    let n : length b ≡ 6 = search rules in
+    let e = c.of_bytes.ensures ∙ ap number (bytes_between b 0 2 2 (omega (arith, n)) (omega arith)) in
+    let m = c.of_bytes-2.ensures ∙ ap number (bytes_between b 2 6 4 (omega (arith, n)) (omega arith)) in
+    c.of_bits.ensures ∙ ap₂ pair_of_bits e m
