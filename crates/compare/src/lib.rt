@@ -279,6 +279,7 @@ fn compare_fields(a: Spot, c: usize, b: Spot, d: usize, n: usize) -> Ordering
     ensures { result ≡ lex_z (each (λ j. held_value a.entry.record.now (pair_place 6 c a.entry.place j)) n) (each (λ j. held_value b.entry.record.now (pair_place 6 d b.entry.place j)) n) }
 {
     let mut j = 0;
+    // No `for` steps from run to run: each has its own length.
     while j < n {
         let m = run_of(c, d, n, j);
         let order = compare_run(
@@ -452,6 +453,7 @@ fn common_traces(a: &[u8], b: &[u8], n: u16, i: u16) -> Common
         traces: 0,
         place: 3266,
     };
+    // No `for` steps from trace to trace: where the next trace stands is read in this one.
     while is_shared(a, b, n, i, shared) {
         shared.place += record::stride_at(a, n, Place(shared.place));
         shared.traces += 1;
