@@ -15,7 +15,7 @@ ghost use Rattle.exact.specs.Value.{value_by};
 ghost use Rattle.exact.specs.Order.{order_z, lex_z};
 ghost use Rattle.std.specs.declared.cmp.Ordering.{Ordering};
 ghost use Rattle.compare.specs.Key.{card_key, binary_key, header_key, trace_key, order_of};
-ghost use Rattle.compare.specs.Answer.{which_number, compare_said, compare_outcome};
+ghost use Rattle.compare.specs.Answer.{which_no, compare_said, compare_outcome};
 ghost use Rattle.compare.specs.Parts.{Alike, width_bytes, number_at, row_of, rows_key, rows_end, behind_traces, key_from, is_shared, Shared, run_of};
 
 use exact::Exact;
@@ -33,7 +33,7 @@ pub enum Which {
 impl Which {
     // 1 or 2.
     pub fn number(self) -> u8
-        ensures { result ≡ which_number self }
+        ensures { result ≡ which_no self }
     {
         match self {
             Which::First => 1,
@@ -279,6 +279,7 @@ fn compare_fields(a: Spot, c: usize, b: Spot, d: usize, n: usize) -> Ordering
     ensures { result ≡ lex_z (each (λ j. held_value a.entry.record.now (pair_place 6 c a.entry.place j)) n) (each (λ j. held_value b.entry.record.now (pair_place 6 d b.entry.place j)) n) }
 {
     let mut j = 0;
+    // No `for` steps from run to run: each has its own length.
     while j < n {
         let m = run_of(c, d, n, j);
         let order = compare_run(
@@ -452,6 +453,7 @@ fn common_traces(a: &[u8], b: &[u8], n: u16, i: u16) -> Common
         traces: 0,
         place: 3266,
     };
+    // No `for` steps from trace to trace: where the next trace stands is read in this one.
     while is_shared(a, b, n, i, shared) {
         shared.place += record::stride_at(a, n, Place(shared.place));
         shared.traces += 1;
