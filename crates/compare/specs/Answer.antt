@@ -16,14 +16,14 @@ pub data Compared : Type 0 where
   refused : ℕ → ℕ → ℕ → Compared
 
 -- Which record, in numbers.
-abbrev pub which_number : Which → ℕ
-which_number First = 1
-which_number Second = 2
+abbrev pub which_no : Which → ℕ
+which_no First = 1
+which_no Second = 2
 
 -- The paper's values for each case of the answer.
 abbrev pub compare_said : Result Ordering RefusedRecord → Compared
 compare_said (Ok o) = ordered o
-compare_said (Err r) = refused (which_number r.which) (cause_no r.refusal.cause) (place_no r.refusal.place)
+compare_said (Err r) = refused (which_no r.which) (cause_no r.refusal.cause) (place_no r.refusal.place)
 
 -- What is said where judging the second record finds this, and no cause applies to the first;
 abbrev pub second_found : List ℕ → List ℕ → Check → Compared

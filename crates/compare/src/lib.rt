@@ -15,7 +15,7 @@ ghost use Rattle.exact.specs.Value.{value_by};
 ghost use Rattle.exact.specs.Order.{order_z, lex_z};
 ghost use Rattle.std.specs.declared.cmp.Ordering.{Ordering};
 ghost use Rattle.compare.specs.Key.{card_key, binary_key, header_key, trace_key, order_of};
-ghost use Rattle.compare.specs.Answer.{which_number, compare_said, compare_outcome};
+ghost use Rattle.compare.specs.Answer.{which_no, compare_said, compare_outcome};
 ghost use Rattle.compare.specs.Parts.{Alike, width_bytes, number_at, row_of, rows_key, rows_end, behind_traces, key_from, is_shared, Shared, run_of};
 
 use exact::Exact;
@@ -33,7 +33,7 @@ pub enum Which {
 impl Which {
     // 1 or 2.
     pub fn number(self) -> u8
-        ensures { result ≡ which_number self }
+        ensures { result ≡ which_no self }
     {
         match self {
             Which::First => 1,
@@ -114,18 +114,50 @@ struct Row {
 
 // The rows of the binary header, from its first byte on,
 const BINARY_ROWS: [Row; 2] = [
-    Row { offset: 0, width: Width::Four, count: 3 },
-    Row { offset: 12, width: Width::Two, count: 24 },
+    Row {
+        offset: 0,
+        width: Width::Four,
+        count: 3,
+    },
+    Row {
+        offset: 12,
+        width: Width::Two,
+        count: 24,
+    },
 ];
 
 // and of a trace header.
 const HEADER_ROWS: [Row; 6] = [
-    Row { offset: 0, width: Width::Four, count: 7 },
-    Row { offset: 28, width: Width::Two, count: 4 },
-    Row { offset: 36, width: Width::Four, count: 8 },
-    Row { offset: 68, width: Width::Two, count: 2 },
-    Row { offset: 72, width: Width::Four, count: 4 },
-    Row { offset: 88, width: Width::Two, count: 46 },
+    Row {
+        offset: 0,
+        width: Width::Four,
+        count: 7,
+    },
+    Row {
+        offset: 28,
+        width: Width::Two,
+        count: 4,
+    },
+    Row {
+        offset: 36,
+        width: Width::Four,
+        count: 8,
+    },
+    Row {
+        offset: 68,
+        width: Width::Two,
+        count: 2,
+    },
+    Row {
+        offset: 72,
+        width: Width::Four,
+        count: 4,
+    },
+    Row {
+        offset: 88,
+        width: Width::Two,
+        count: 46,
+    },
 ];
 
 // ## Numbers
@@ -247,6 +279,7 @@ fn compare_fields(a: Spot, c: usize, b: Spot, d: usize, n: usize) -> Ordering
     ensures { result ≡ lex_z (each (λ j. held_value a.entry.record.now (pair_place 6 c a.entry.place j)) n) (each (λ j. held_value b.entry.record.now (pair_place 6 d b.entry.place j)) n) }
 {
     let mut j = 0;
+    // No `for` steps from run to run: each has its own length.
     while j < n {
         let m = run_of(c, d, n, j);
         let order = compare_run(
@@ -342,8 +375,14 @@ fn compare_fronts(a: &[u8], b: &[u8]) -> Ordering
         return cards;
     }
     compare_rows(
-        Spot { record: a, place: 3206 },
-        Spot { record: b, place: 3206 },
+        Spot {
+            record: a,
+            place: 3206,
+        },
+        Spot {
+            record: b,
+            place: 3206,
+        },
         &BINARY_ROWS,
     )
 }
@@ -359,9 +398,15 @@ fn compare_valid(a: &[u8], s: usize, b: &[u8], t: usize) -> Ordering
     }
     let n = binary_number(a, ByteNo(3221));
     compare_traces(
-        Spot { record: a, place: 3266 },
+        Spot {
+            record: a,
+            place: 3266,
+        },
         s,
-        Spot { record: b, place: 3266 },
+        Spot {
+            record: b,
+            place: 3266,
+        },
         t,
         n,
     )
@@ -408,6 +453,7 @@ fn common_traces(a: &[u8], b: &[u8], n: u16, i: u16) -> Common
         traces: 0,
         place: 3266,
     };
+    // No `for` steps from trace to trace: where the next trace stands is read in this one.
     while is_shared(a, b, n, i, shared) {
         shared.place += record::stride_at(a, n, Place(shared.place));
         shared.traces += 1;
@@ -423,7 +469,13 @@ fn compare_rest(a: &[u8], b: &[u8], n: u16, i: u16, shared: Common) -> Ordering
     let x = record::numbers_in(a).traces;
     let y = record::numbers_in(b).traces;
     let Common { traces, place } = shared;
-    compare_traces(Spot { record: a, place }, x - traces, Spot { record: b, place }, y - traces, n)
+    compare_traces(
+        Spot { record: a, place },
+        x - traces,
+        Spot { record: b, place },
+        y - traces,
+        n,
+    )
 }
 
 // Two records with the same first two fields, which are of the right form: n samples a trace and the interval i.
@@ -445,7 +497,12 @@ fn compare_alike(a: &[u8], b: &[u8]) -> Result<Ordering, RefusedRecord>
     ensures { compare_said result ≡ compare_outcome a.now b.now }
 {
     record::judge_front(a).map_err(RefusedRecord::first)?;
-    compare_bodies(a, b, binary_number(a, ByteNo(3221)), binary_number(a, ByteNo(3217)))
+    compare_bodies(
+        a,
+        b,
+        binary_number(a, ByteNo(3221)),
+        binary_number(a, ByteNo(3217)),
+    )
 }
 
 // The order of the first record to the second.

@@ -21,7 +21,7 @@ use Rattle.record.specs.Kind.{tag04}
 use Rattle.record.specs.Form.{held_samples, share_in, trace_place, held_count}
 use Rattle.record.specs.Held.{held_value, held_values_in, held_trace_in, held_by_in, held_by}
 use Rattle.record.proofs.HeaderLaws.{counts}
-use Rattle.write_samples.proofs.WordLaws.{size_word}
+use Rattle.write_samples.proofs.CallLaws.{size_word}
 use Rattle.write_reel.specs.Reel.{sample_written, trace_written, reel_of}
 use Rattle.write_reel.specs.Writing.{reel_length_of}
 

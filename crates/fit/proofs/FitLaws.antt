@@ -33,7 +33,7 @@ use Rattle.write_samples.specs.Samples.{pair_refused, pair_check}
 use Rattle.std.proofs.Common.{Some}
 use Rattle.record.specs.Parts.{pairs_by, field_by, fields_by, trace_by, form_from}
 use Rattle.fit.specs.Parts.{fit_from}
-use Rattle.write_samples.proofs.WordLaws.{samples_checked_lem}
+use Rattle.write_samples.proofs.CallLaws.{samples_checked_lem}
 use Rattle.record.proofs.FormLaws.{field_room, fields_none, fields_more, share_some, is_more, more_few, more_tag, place_next, form_more, form_is, form_stop}
 
 -- ## Pairs

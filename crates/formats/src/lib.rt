@@ -125,7 +125,7 @@ fn whole_format(w: u32) -> Format
     }
 }
 
-// Whether a number is a code.
+// Whether a number is a code. This and the next take every number: what they promise of those that are no code may not change.
 pub fn is_code(code: usize) -> bool
     ensures { result ≡ is_code code }
 {

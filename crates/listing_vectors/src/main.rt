@@ -19,201 +19,92 @@
 // call 3 with another length than 8, is answered by `bad case`, and is the last.
 #![tactic(auto)]
 
-use listing::Listed;
-use record::Answer;
+use cases::Stop;
+use numbers::Refusal;
+use record::Taken;
 use std::io;
 use std::io::Read;
 
-// One space and a number.
-fn print_item(rt: &impl Print, n: u64) -> io::Result<()> {
-    print!(rt; " {n}")
+// What a case asks for.
+#[derive(Clone, Copy)]
+enum Call {
+    List,
+    TakeBack,
+    Blank,
 }
 
-// The end of a line.
-fn print_end(rt: &impl Print) -> io::Result<()> {
-    println!(rt)
-}
+impl TryFrom<u8> for Call {
+    type Error = Stop;
 
-// The line of a record that was listed.
-fn print_listed(rt: &impl Print, length: usize, out: &[u8]) -> io::Result<()> {
-    print!(rt; "taken")?;
-    print_item(rt, length as u64)?;
-    print_item(rt, digests::digest(out))?;
-    print_end(rt)
-}
-
-// The line of a listing that was taken back.
-fn print_taken(
-    rt: &impl Print,
-    traces: usize,
-    samples: usize,
-    length: usize,
-    out: &[u8],
-) -> io::Result<()> {
-    print!(rt; "taken")?;
-    print_item(rt, traces as u64)?;
-    print_item(rt, samples as u64)?;
-    print_item(rt, length as u64)?;
-    print_item(rt, digests::digest(out))?;
-    print_end(rt)
-}
-
-// The line of a call that was refused.
-fn print_refused(rt: &impl Print, number: u8, place: usize, out: &[u8]) -> io::Result<()> {
-    print!(rt; "refused")?;
-    print_item(rt, number as u64)?;
-    print_item(rt, place as u64)?;
-    print_item(rt, digests::digest(out))?;
-    print_end(rt)
-}
-
-// The line of a case of call 1.
-fn list(rt: &impl Print, record: &[u8], out: &mut [u8]) -> io::Result<()> {
-    match listing::list_cards(record, out) {
-        Listed::Taken { length } => print_listed(rt, length, out),
-        Listed::Refused { number, place } => print_refused(rt, number, place.0, out),
-    }
-}
-
-// The line of a case of call 2.
-fn take_back(rt: &impl Print, record: &[u8], listing: &[u8], out: &mut [u8]) -> io::Result<()> {
-    match listing::take_cards(record, listing, out) {
-        Answer::Taken {
-            traces,
-            samples,
-            length,
-        } => print_taken(rt, traces, samples, length, out),
-        Answer::Refused { number, place } => print_refused(rt, number, place.0, out),
-    }
-}
-
-// The line of a case of another form, which is the last.
-fn refuse_case(rt: &impl Print) -> io::Result<bool> {
-    println!(rt; "bad case")?;
-    Ok(false)
-}
-
-// The line of a case of call 3, and whether to go on: not where it isn't of eight card bytes.
-fn blank(rt: &impl Print, cards: &[u8]) -> io::Result<bool> {
-    if cards.len() != 8 {
-        return refuse_case(rt);
-    }
-    let a = numbers::be32(cards[0], cards[1], cards[2], cards[3]) as u64;
-    let b = numbers::be32(cards[4], cards[5], cards[6], cards[7]) as u64;
-    print!(rt; "blanked")?;
-    print_item(rt, cards::blank_eight(a * 0x1_0000_0000 + b))?;
-    print_end(rt)?;
-    Ok(true)
-}
-
-// The line of a case, and whether to go on.
-fn run(
-    rt: &impl Print,
-    call: u8,
-    record: &[u8],
-    listing: &[u8],
-    out: &mut [u8],
-) -> io::Result<bool> {
-    digests::fill(0xa5, out);
-    if call == 1 {
-        list(rt, record, out)?;
-        return Ok(true);
-    }
-    if call == 2 {
-        take_back(rt, record, listing, out)?;
-        return Ok(true);
-    }
-    if call == 3 {
-        return blank(rt, record);
-    }
-    refuse_case(rt)
-}
-
-// Reads the record and the listing of a case and runs it, and says whether to go on.
-fn run_sized(
-    rt: &impl Print,
-    input: &mut impl Read,
-    call: u8,
-    record: &mut [u8],
-    listing: &mut [u8],
-    out: &mut [u8],
-) -> io::Result<bool> {
-    let n = inputs::read_full(input, record)?;
-    if n < record.len() {
-        return refuse_case(rt);
-    }
-    let m = inputs::read_full(input, listing)?;
-    if m < listing.len() {
-        return refuse_case(rt);
-    }
-    run(rt, call, record, listing, out)
-}
-
-// The same with buffers of which it uses the front, as much as the case asks for.
-fn run_parts(
-    rt: &impl Print,
-    input: &mut impl Read,
-    call: u8,
-    room: usize,
-    record_size: usize,
-    listing_size: usize,
-    record: &mut [u8],
-    listing: &mut [u8],
-    out: &mut [u8],
-) -> io::Result<bool> {
-    if record.len() < record_size {
-        return refuse_case(rt);
-    }
-    if listing.len() < listing_size {
-        return refuse_case(rt);
-    }
-    if out.len() < room {
-        return refuse_case(rt);
-    }
-    run_sized(
-        rt,
-        input,
-        call,
-        &mut record[..record_size],
-        &mut listing[..listing_size],
-        &mut out[..room],
-    )
-}
-
-// Reads a case and runs it, and says whether to go on: not past the end of the input.
-fn run_case(rt: &impl Print, input: &mut impl Read) -> io::Result<bool> {
-    let mut head = [0u8; 13];
-    let n = inputs::read_full(input, &mut head)?;
-    if n == 13 {
-        let mut record = [0u8; 210000];
-        let mut listing = [0u8; 210000];
-        let mut out = [0u8; 210000];
-        return run_parts(
-            rt,
-            input,
-            head[0],
-            numbers::be32(head[1], head[2], head[3], head[4]) as usize,
-            numbers::be32(head[5], head[6], head[7], head[8]) as usize,
-            numbers::be32(head[9], head[10], head[11], head[12]) as usize,
-            &mut record,
-            &mut listing,
-            &mut out,
-        );
-    }
-    if 0 < n {
-        return refuse_case(rt);
-    }
-    Ok(false)
-}
-
-// A proved loop has to end, and nothing says that the input does. So the loop counts its turns, up to
-// a number that no run reaches.
-fn main(rt: HostRuntime) -> io::Result<()> {
-    let mut input = rt.reader();
-    for _ in 0..u64::MAX {
-        if !run_case(&rt, &mut input)? {
-            break;
+    fn try_from(byte: u8) -> Result<Call, Stop> {
+        match byte {
+            1 => Ok(Call::List),
+            2 => Ok(Call::TakeBack),
+            3 => Ok(Call::Blank),
+            _ => Err(Stop::BadCase),
         }
     }
+}
+
+// Prints the line of a record whose cards are listed.
+fn print_listed(rt: &impl Print, answer: Result<usize, Refusal>, out: &[u8]) -> io::Result<()> {
+    match answer {
+        Ok(length) => println!(rt; "taken {length} {}", digests::digest(out)),
+        Err(refusal) => cases::print_refused(rt, refusal, out),
+    }
+}
+
+// Prints the line of a listing that is taken back.
+fn print_taken(rt: &impl Print, answer: Result<Taken, Refusal>, out: &[u8]) -> io::Result<()> {
+    match answer {
+        Ok(
+            Taken {
+                traces,
+                samples,
+                length,
+            },
+        ) => println!(rt;
+            "taken {traces} {samples} {length} {}",
+            digests::digest(out)
+        ),
+        Err(refusal) => cases::print_refused(rt, refusal, out),
+    }
+}
+
+// Prints the line of eight card bytes that are blanked. Another number of bytes is no case.
+fn print_blanked(rt: &impl Print, card_bytes: &[u8]) -> Result<(), Stop> {
+    let eight = card_bytes.as_array().ok_or(Stop::BadCase)?;
+    println!(rt;
+        "blanked {}",
+        cards::blank_eight(u64::from_be_bytes(*eight))
+    )?;
     Ok(())
+}
+
+// Reads a case and runs it.
+fn run_case(rt: &impl Print, input: &mut impl Read) -> Result<(), Stop> {
+    let [call]: [u8; 1] = cases::read_first(input)?;
+    let room = cases::read_length(input)?;
+    let record_size = cases::read_length(input)?;
+    let listing_size = cases::read_length(input)?;
+    let mut record = [0; 210000];
+    let mut listing = [0; 210000];
+    let mut out = [0; 210000];
+    let record = cases::front(&mut record, record_size)?;
+    let listing = cases::front(&mut listing, listing_size)?;
+    let out = cases::front(&mut out, room)?;
+    cases::read_part(input, record)?;
+    cases::read_part(input, listing)?;
+    digests::fill(0xa5, out);
+    match Call::try_from(call)? {
+        Call::List => print_listed(rt, listing::list_cards(record, out), out)?,
+        Call::TakeBack => print_taken(rt, listing::take_cards(record, listing, out), out)?,
+        Call::Blank => print_blanked(rt, record)?,
+    }
+    Ok(())
+}
+
+fn main(rt: HostRuntime) -> io::Result<()> {
+    let mut input = rt.reader();
+    cases::run_cases(&rt, "bad case", || run_case(&rt, &mut input))
 }

@@ -15,124 +15,40 @@
 // All numbers are decimal. A case that is cut short, or longer than 100,000, is answered by `bad case`, and is the last.
 #![tactic(auto)]
 
-use compare::Answer;
+use cases::Stop;
+use compare::RefusedRecord;
 use std::cmp::Ordering;
 use std::io;
 use std::io::Read;
 
-// One space and a number.
-fn print_item(rt: &impl Print, n: u64) -> io::Result<()> {
-    print!(rt; " {n}")
-}
-
-// The line of two records that are taken.
-fn print_order(rt: &impl Print, order: Ordering) -> io::Result<()> {
-    match order {
-        Ordering::Less => println!(rt; "lesser"),
-        Ordering::Equal => println!(rt; "equal"),
-        Ordering::Greater => println!(rt; "greater"),
-    }
-}
-
-// The line of a record that is refused.
-fn print_refused(rt: &impl Print, which: u8, number: u8, place: usize) -> io::Result<()> {
-    print!(rt; "refused")?;
-    print_item(rt, which as u64)?;
-    print_item(rt, number as u64)?;
-    print_item(rt, place as u64)?;
-    println!(rt)
-}
-
-// The line of a case.
-fn run(rt: &impl Print, first: &[u8], second: &[u8]) -> io::Result<()> {
-    match compare::compare_records(first, second) {
-        Answer::Ordered(order) => print_order(rt, order),
-        Answer::Refused {
-            which,
-            number,
-            place,
-        } => print_refused(rt, which, number, place.0),
-    }
-}
-
-// The line of a case of another form, which is the last.
-fn refuse_case(rt: &impl Print) -> io::Result<bool> {
-    println!(rt; "bad case")?;
-    Ok(false)
-}
-
-// Reads the records of a case and runs it, and says whether to go on.
-fn run_sized(
-    rt: &impl Print,
-    input: &mut impl Read,
-    first: &mut [u8],
-    second: &mut [u8],
-) -> io::Result<bool> {
-    let n = inputs::read_full(input, first)?;
-    if n < first.len() {
-        return refuse_case(rt);
-    }
-    let m = inputs::read_full(input, second)?;
-    if m < second.len() {
-        return refuse_case(rt);
-    }
-    run(rt, first, second)?;
-    Ok(true)
-}
-
-// The same with buffers of which it uses the front, as much as the case asks for.
-fn run_records(
-    rt: &impl Print,
-    input: &mut impl Read,
-    first_size: usize,
-    second_size: usize,
-    first: &mut [u8],
-    second: &mut [u8],
-) -> io::Result<bool> {
-    if first.len() < first_size {
-        return refuse_case(rt);
-    }
-    if second.len() < second_size {
-        return refuse_case(rt);
-    }
-    run_sized(
-        rt,
-        input,
-        &mut first[..first_size],
-        &mut second[..second_size],
-    )
-}
-
-// Reads a case and runs it, and says whether to go on: not past the end of the input.
-fn run_case(rt: &impl Print, input: &mut impl Read) -> io::Result<bool> {
-    let mut head = [0u8; 8];
-    let n = inputs::read_full(input, &mut head)?;
-    if n == 8 {
-        let mut first = [0u8; 100000];
-        let mut second = [0u8; 100000];
-        return run_records(
-            rt,
-            input,
-            numbers::be32(head[0], head[1], head[2], head[3]) as usize,
-            numbers::be32(head[4], head[5], head[6], head[7]) as usize,
-            &mut first,
-            &mut second,
-        );
-    }
-    if 0 < n {
-        return refuse_case(rt);
-    }
-    Ok(false)
-}
-
-// A proved loop has to end, and nothing says that the input does. So the loop counts its turns, up to
-// a number that no run reaches.
-fn main(rt: HostRuntime) -> io::Result<()> {
-    let mut input = rt.reader();
-    for _ in 0..u64::MAX {
-        if !run_case(&rt, &mut input)? {
-            break;
+// Prints the line of two records that are compared.
+fn print_answer(rt: &impl Print, answer: Result<Ordering, RefusedRecord>) -> io::Result<()> {
+    match answer {
+        Ok(Ordering::Less) => println!(rt; "lesser"),
+        Ok(Ordering::Equal) => println!(rt; "equal"),
+        Ok(Ordering::Greater) => println!(rt; "greater"),
+        Err(r) => {
+            let (which, number) = (r.which.number(), r.refusal.cause.number());
+            println!(rt; "refused {which} {number} {}", r.refusal.place.0)
         }
     }
+}
+
+// Reads a case and runs it.
+fn run_case(rt: &impl Print, input: &mut impl Read) -> Result<(), Stop> {
+    let first_size = u32::from_be_bytes(cases::read_first(input)?) as usize;
+    let second_size = cases::read_length(input)?;
+    let mut first = [0; 100000];
+    let mut second = [0; 100000];
+    let first = cases::front(&mut first, first_size)?;
+    let second = cases::front(&mut second, second_size)?;
+    cases::read_part(input, first)?;
+    cases::read_part(input, second)?;
+    print_answer(rt, compare::compare_records(first, second))?;
     Ok(())
+}
+
+fn main(rt: HostRuntime) -> io::Result<()> {
+    let mut input = rt.reader();
+    cases::run_cases(&rt, "bad case", || run_case(&rt, &mut input))
 }

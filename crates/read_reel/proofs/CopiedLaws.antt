@@ -8,6 +8,8 @@ use lib.IntN.{ℤ}
 use Rattle.numbers.specs.Walk.{walk, flat, bytes_at, overwritten}
 use Rattle.numbers.specs.BigEndian.{bytes_of}
 use Rattle.numbers.proofs.WalkLaws.{flat_length, size_bytes, size_walk, map_walk}
+use mathlib.Core.Logic.{⊎_elim}
+use Rattle.numbers.proofs.SignLaws.{below_or}
 use Rattle.fields.specs.Fields.{fields_length, shares}
 use Rattle.fields.proofs.FieldsLaws.{by_fields, length_none, length_more, walk_parts, take_parts, shares_none, shares_more}
 use Rattle.formats.specs.Codes.{sample_bytes, word_length}
@@ -55,15 +57,25 @@ field_is tag k l e = ap (λ (x : ℕ). tag ∷ (bytes_of 2 x ++ l)) e
 
 -- the first c of a walk, and the others
 walk_first : {A : Type 0} (f : ℕ → A) (w c n at : ℕ)
-    → (take c (walk f w n at) ≡ walk f w (min c n) at) × (drop c (walk f w n at) ≡ walk f w (n - c) (at + min c n * w))
-walk_first f w c n at =
+    → (take c (walk f w n at) ≡ walk f w (min c n) at) × (drop c (walk f w n at) ≡ walk f w (n - c) (at + c * w))
+walk_first {A} f w c n at =
     let e : n ≡ min c n + (n - c) = omega arith in
     let parts = ap (λ (x : ℕ). walk f w x at) e ∙ walk_parts f w (min c n) (n - c) at in
     let x = walk f w (min c n) at in
     let y = walk f w (n - c) (at + min c n * w) in
     let long : length x ≡ min c n = size_walk f w (min c n) at in
-    let p = take_parts c n x y long (λ l. let z : n - c ≡ 0 = omega arith in ap (λ (j : ℕ). walk f w j (at + min c n * w)) z) in
-    (ap (take c) parts ∙ p.0, ap (drop c) parts ∙ p.1)
+    let p = take_parts c n x y long (λ l. none (at + min c n * w) l) in
+    (ap (take c) parts ∙ p.0, ap (drop c) parts ∙ p.1 ∙ behind)
+  where
+    -- no walk is behind the first c where there are no more,
+    none : (p : ℕ) → n ≤ c → walk f w (n - c) p ≡ []
+    none p l = let z : n - c ≡ 0 = omega arith in ap (λ (j : ℕ). walk f w j p) z
+
+    -- wherever it would begin
+    behind : walk f w (n - c) (at + min c n * w) ≡ walk f w (n - c) (at + c * w)
+    behind =
+        ⊎_elim (λ (l : c < n). let z : min c n ≡ c = omega arith in ap (λ (j : ℕ). walk f w (n - c) (at + j * w)) z)
+        (λ (l : n ≤ c). none (at + min c n * w) l ∙ sym (none (at + c * w) l)) (below_or c n)
 
 module _ (s : List ℕ) (code : ℕ) where
   -- the value of the sample at a place
@@ -90,14 +102,14 @@ module _ (s : List ℕ) (code : ℕ) where
   unfolding samples_copied samples_fields_in
   samples_none n at h = ap (λ (x : List (List ℤ)). flat (map (samples_field_in tag04) x)) (shares_none field_samples (omega arith) (walk value_at (sample_bytes code) n at) (omega (arith, size_walk value_at (sample_bytes code) n at)))
 
-  pub samples_more : (n at : ℕ) → 0 < n → samples_copied s code n at ≡ field_copied s code (min field_samples n) at ++ samples_copied s code (n - field_samples) (at + min field_samples n * sample_bytes code)
+  pub samples_more : (n at : ℕ) → 0 < n → samples_copied s code n at ≡ field_copied s code (min field_samples n) at ++ samples_copied s code (n - field_samples) (at + field_samples * sample_bytes code)
   unfolding samples_copied samples_fields_in
   samples_more n at h =
       let w = sample_bytes code in
       let p = walk_first value_at w field_samples n at in
       ap (λ (x : List (List ℤ)). flat (map (samples_field_in tag04) x)) (shares_more field_samples (omega arith) (walk value_at w n at) (omega (arith, size_walk value_at w n at)))
       ∙ ap₂ (λ (x y : List ℤ). samples_field_in tag04 x ++ flat (map (samples_field_in tag04) (shares field_samples y))) p.0 p.1
-      ∙ ap (λ (x : List ℕ). x ++ flat (map (samples_field_in tag04) (shares field_samples (walk value_at w (n - field_samples) (at + min field_samples n * w))))) (field_samples_lem (min field_samples n) at)
+      ∙ ap (λ (x : List ℕ). x ++ flat (map (samples_field_in tag04) (shares field_samples (walk value_at w (n - field_samples) (at + field_samples * w))))) (field_samples_lem (min field_samples n) at)
 
   pub size_in_fields : (n at : ℕ) → length (samples_copied s code n at) ≡ fields_length 6 field_samples n
   size_in_fields =
@@ -105,7 +117,7 @@ module _ (s : List ℕ) (code : ℕ) where
       (λ n h at. ap length (samples_none n at h) ∙ sym (length_none field_samples (omega arith) 6 n h))
       (λ n h rest at.
       ap length (samples_more n at h) ∙ length-append (field_copied s code (min field_samples n) at) _
-      ∙ ap₂ (λ (x y : ℕ). x + y) (size_field (min field_samples n) at) (rest (at + min field_samples n * sample_bytes code))
+      ∙ ap₂ (λ (x y : ℕ). x + y) (size_field (min field_samples n) at) (rest (at + field_samples * sample_bytes code))
       ∙ sym (length_more field_samples (omega arith) 6 n h))
 
 -- ## Traces

@@ -2,27 +2,27 @@
 // written. Each function that writes is lent exactly the bytes that it writes.
 #![tactic(auto)]
 
-ghost use Rattle.std.specs.Prelude.{◌≡◌, true, ◌++◌, map, ◌+◌, ◌*◌, ◌^◌, ◌≤◌, ◌<◌, length};
+ghost use Rattle.std.specs.Prelude.{◌≡◌, ◌++◌, map, ◌+◌, ◌*◌, ◌^◌, ◌≤◌, ◌<◌, length, Ok};
 ghost use Rattle.numbers.specs.Walk.{flat, overwritten};
 ghost use Rattle.numbers.specs.Places.{place_no};
 ghost use Rattle.numbers.specs.BigEndian.{bytes_of};
-ghost use Rattle.formats.specs.Codes.{is_code, sample_bytes};
 ghost use Rattle.reel.specs.Layout.{card_bytes, first_trace, trace_header, stride};
-ghost use Rattle.reel.specs.Causes.{most_samples, most_traces, judged_by};
+ghost use Rattle.reel.specs.Causes.{most_traces, judged_by};
+ghost use Rattle.reel.specs.Judged.{judged};
 ghost use Rattle.reel.specs.Meaning.{card_text_by};
 ghost use Rattle.reel.specs.declared.Layout.TheVariants.{Eagle};
 ghost use Rattle.reel.specs.NotNormal.{not_normal_in, not_normal_among};
 ghost use Rattle.read_samples.specs.Samples.{places};
 ghost use Rattle.fields.specs.Fields.{fields_length};
 ghost use Rattle.record.specs.Form.{traces_place};
-ghost use Rattle.record.specs.Record.{field_samples, trace_length};
+ghost use Rattle.record.specs.Record.{field_samples, trace_length, record_length};
 ghost use Rattle.record.specs.Answer.{counted_outcome};
 ghost use Rattle.read_reel.specs.Reading.{read_outcome, read_outcome_by};
 ghost use Rattle.read_reel.specs.Copied.{tag_bytes, fields_copied, head_copied, field_copied, samples_copied, record_trace_copied, record_copied};
 
-use numbers::{ByteNo, Place};
+use numbers::{ByteNo, Cause, Place, Refusal};
 use record::Counted;
-use reel::{Judged, Layout};
+use reel::{Layout, Numbers};
 
 // A field's tag, and the length of its content.
 fn put_tag(tag: u8, size: u16, out: &mut [u8])
@@ -30,7 +30,7 @@ fn put_tag(tag: u8, size: u16, out: &mut [u8])
     ensures { out.new ≡ tag_bytes tag size }
 {
     out[0] = tag;
-    slices::put16(size, &mut out[1..3]);
+    slices::put(size, &mut out[1..3]);
 }
 
 // Stores a number over the two bytes at a place.
@@ -39,7 +39,7 @@ fn put_over(n: u16, at: Place, out: &mut [u8])
     ensures { out.new ≡ overwritten out.old (place_no at) (bytes_of 2 n) }
 {
     let p = at.0;
-    slices::put16(n, &mut out[p..p + 2]);
+    slices::put(n, &mut out[p..p + 2]);
 }
 
 // The bytes of a trace of n samples in a record: 183 of tag 03, then its fields of 6,000 samples.
@@ -47,69 +47,55 @@ fn trace_length(n: usize) -> usize
     requires { n < 2 ^ 16 }
     ensures { result ≡ trace_length n }
 {
-    183 + (3 * ((n + 5999) / 6000) + n * 6)
+    183 + (3 * n.div_ceil(6000) + n * 6)
 }
 
 // A field of samples, behind its tag.
-fn put_field(reel: &[u8], code: usize, count: usize, at: usize, out: &mut [u8])
-    requires { (is_code code ≡ true) × (count ≤ field_samples) × (at + count * sample_bytes code ≤ length reel.now) × (length out.old ≡ 3 + count * 6) }
-    ensures { out.new ≡ field_copied reel.now code count at }
+fn put_field(reel: &[u8], own: Numbers, count: usize, at: usize, out: &mut [u8])
+    requires { (count ≤ field_samples) × (at + count * own.width ≤ length reel.now) × (length out.old ≡ 3 + count * 6) }
+    ensures { out.new ≡ field_copied reel.now own.code count at }
 {
-    let size = count * 6;
-    put_tag(4, size as u16, &mut out[0..3]);
-    read_samples::read_samples(reel, code, count, Place(at), &mut out[3..3 + size]);
+    put_tag(4, (count * 6) as u16, &mut out[0..3]);
+    read_samples::read_samples(reel, own.code, count, Place(at), &mut out[3..]);
 }
 
-// The n samples of a trace, in fields of 6,000, the last with the rest.
-fn put_samples(reel: &[u8], code: usize, n: usize, start: usize, out: &mut [u8])
-    requires { (is_code code ≡ true) × (start + n * sample_bytes code ≤ length reel.now) × (length out.old ≡ fields_length 6 field_samples n) }
-    ensures { out.new ≡ samples_copied reel.now code n start }
+// The samples of a trace, from a place on, in fields of 6,000, the last with the rest.
+fn put_samples(reel: &[u8], own: Numbers, start: usize, out: &mut [u8])
+    requires { (start + own.samples * own.width ≤ length reel.now) × (length out.old ≡ fields_length 6 field_samples own.samples) }
+    ensures { out.new ≡ samples_copied reel.now own.code own.samples start }
 {
-    let v = formats::width_of(code);
-    let mut at = start;
-    let mut o = 0;
-    let mut left = n;
-    while 0 < left {
-        let count = fields::next_count(6000, left);
-        let e = o + (3 + count * 6);
-        put_field(reel, code, count, at, &mut out[o..e]);
-        at += count * v;
-        o = e;
-        left -= count;
+    let most = 6000;
+    for f in 0..own.samples.div_ceil(most) {
+        let done = f * most;
+        let count = fields::next_count(most, own.samples - done);
+        let o = f * (3 + most * 6);
+        put_field(
+            reel,
+            own,
+            count,
+            start + done * own.width,
+            &mut out[o..o + (3 + count * 6)],
+        );
     }
 }
 
 // A trace: its header and its samples, each behind its tag. Says how many of its words are not normal, which are counted behind their
 // reading, when the cache has them.
-fn put_trace(reel: &[u8], code: usize, n: u16, i: u16, at: usize, out: &mut [u8]) -> usize
-    requires { (is_code code ≡ true) × (n ≤ most_samples) × (at + stride n (sample_bytes code) ≤ length reel.now) × (length out.old ≡ trace_length n) }
-    ensures { (result ≡ not_normal_in reel.now code n (at + trace_header)) × (out.new ≡ record_trace_copied reel.now code n i at) }
+fn put_trace(reel: &[u8], own: Numbers, at: usize, out: &mut [u8]) -> usize
+    requires { (at + stride own.samples own.width ≤ length reel.now) × (length out.old ≡ trace_length own.samples) }
+    ensures { (result ≡ not_normal_in reel.now own.code own.samples (at + trace_header)) × (out.new ≡ record_trace_copied reel.now own.code own.samples own.interval at) }
 {
-    let e = out.len();
+    let n = own.samples as u16;
+    let i = own.interval as u16;
     put_tag(3, 180, &mut out[0..3]);
     headers::read_header(reel, n, i, Place(at), &mut out[3..183]);
-    put_samples(reel, code, n as usize, at + 240, &mut out[183..e]);
-    count_words::count_words(reel, code, n as usize, Place(at + 240))
-}
-
-// The larger of two bytes.
-fn larger(a: u8, b: u8) -> u8 {
-    if a < b { b } else { a }
-}
-
-// The largest of four bytes, 128 apart.
-fn largest(reel: &[u8], from: usize) -> u8
-    requires { from + 385 ≤ length reel.now }
-{
-    larger(
-        larger(reel[from], reel[from + 128]),
-        larger(reel[from + 256], reel[from + 384]),
-    )
+    put_samples(reel, own, at + 240, &mut out[183..]);
+    count_words::count_words(reel, own.code, own.samples, Place(at + 240))
 }
 
 // Looks at a byte in every 128 of a trailer, and gives 0. Behind a trailer that nobody looks at, the processor's fetching ahead along the reel
 // begins anew with each trace, which takes as long as a hundred samples. No byte is as large as the reel is long; the compiler doesn't know
-// that, and so leaves the bytes in.
+// that, and so leaves the bytes in. They are joined bit by bit, since it makes branches of their maximum.
 fn look_over(reel: &[u8], from: usize, size: usize) -> usize
     requires { (from + size ≤ length reel.now) × (first_trace ≤ length reel.now) }
     ensures { result ≡ 0 }
@@ -117,44 +103,33 @@ fn look_over(reel: &[u8], from: usize, size: usize) -> usize
     if size < 960 {
         return 0;
     }
-    let b = larger(largest(reel, from), largest(reel, from + 512));
-    if reel.len() <= b as usize { 1 } else { 0 }
+    let mut seen = 0;
+    for i in 0..8 {
+        seen |= reel[from + i * 128];
+    }
+    if reel.len() <= seen as usize { 1 } else { 0 }
 }
 
-// The traces, one behind the other on the reel with `behind` bytes between them, and how many of their words are not normal. The last has a
-// call of its own: with one call in all, the compiler makes one function of this loop and of what it does with a trace, and reads code 3 by a
-// tenth slower.
-fn put_traces(
-    reel: &[u8],
-    code: usize,
-    n: u16,
-    i: u16,
-    w: usize,
-    behind: usize,
-    m: usize,
-    t: usize,
-    out: &mut [u8],
-) -> usize
-    requires { (is_code code ≡ true) × (n ≤ most_samples) × (stride n (sample_bytes code) ≤ w) × (behind ≤ w) × (m ≡ trace_length n) × (first_trace + t * w ≤ length reel.now) × (length out.old ≡ t * m) }
-    ensures { (result ≡ not_normal_among reel.now code n w t first_trace) × (out.new ≡ flat (map (record_trace_copied reel.now code n i) (places w t first_trace))) }
+// The traces, one behind the other on the reel and in the record, and how many of their words are not normal. The last has a call of its own:
+// with one call in all, the compiler makes one function of this loop and of what it does with a trace, and reads code 3 by a tenth slower.
+fn put_traces(reel: &[u8], own: Numbers, out: &mut [u8]) -> usize
+    requires { (first_trace + own.traces * own.stride ≤ length reel.now) × (length out.old ≡ own.traces * trace_length own.samples) }
+    ensures { (result ≡ not_normal_among reel.now own.code own.samples own.stride own.traces first_trace) × (out.new ≡ flat (map (record_trace_copied reel.now own.code own.samples own.interval) (places own.stride own.traces first_trace))) }
 {
-    let mut at = 3600;
-    let mut o = 0;
-    let mut left = t;
+    let Some(last) = own.traces.checked_sub(1) else {
+        return 0;
+    };
+    let m = trace_length(own.samples);
+    let whole = 240 + own.samples * own.width;
     let mut count = 0;
-    while 1 < left {
-        let e = o + m;
-        count += put_trace(reel, code, n, i, at, &mut out[o..e]);
-        at += w;
-        count += look_over(reel, at - behind, behind);
-        o = e;
-        left -= 1;
+    for t in 0..last {
+        let at = 3600 + t * own.stride;
+        let o = t * m;
+        count += put_trace(reel, own, at, &mut out[o..o + m]);
+        count += look_over(reel, at + whole, own.stride - whole);
     }
-    if 0 < left {
-        let f = o + m;
-        count += put_trace(reel, code, n, i, at, &mut out[o..f]);
-    }
-    count
+    let end = 3600 + last * own.stride;
+    count + put_trace(reel, own, end, &mut out[last * m..])
 }
 
 // The count of traces behind its tag.
@@ -163,7 +138,7 @@ fn put_count(t: u32, out: &mut [u8])
     ensures { out.new ≡ tag_bytes 5 4 ++ bytes_of 4 t }
 {
     put_tag(5, 4, &mut out[0..3]);
-    slices::put32(t, &mut out[3..7]);
+    slices::put(t, &mut out[3..7]);
 }
 
 // The card text: on an Eagle reel columns 79 and 80 of card 40, which hold a check, are blanks.
@@ -186,7 +161,7 @@ fn put_fields(layout: Layout, reel: &[u8], out: &mut [u8])
     put_tag(1, 3200, &mut out[0..3]);
     put_text(layout, reel, &mut out[3..3203]);
     put_tag(2, 60, &mut out[3203..3206]);
-    slices::copy(&reel[3200..3260], &mut out[3206..3266]);
+    out[3206..3266].copy_from_slice(&reel[3200..3260]);
 }
 
 // The same, the format code replaced by 0. Byte number 1 would stand at the place 6 of the record.
@@ -198,104 +173,49 @@ fn put_head(layout: Layout, reel: &[u8], out: &mut [u8])
     put_over(0, places::field_at(Place(6), ByteNo(3225)), out);
 }
 
-// The record of t traces of n samples, w bytes apart on the reel with `behind` bytes between them, and m bytes each in the record, which fills
-// out; and how many of their words are not normal.
-fn put_record(
-    layout: Layout,
-    reel: &[u8],
-    code: usize,
-    n: u16,
-    i: u16,
-    w: usize,
-    behind: usize,
-    m: usize,
-    t: usize,
-    out: &mut [u8],
-) -> usize
-    requires { (is_code code ≡ true) × (n ≤ most_samples) × (stride n (sample_bytes code) ≤ w) × (behind ≤ w) × (t ≤ most_traces) × (first_trace + t * w ≤ length reel.now) × (length out.old ≡ 3273 + t * m) × (m ≡ trace_length n) }
-    ensures { (result ≡ not_normal_among reel.now code n w t first_trace) × (out.new ≡ record_copied layout reel.now code n i w t) }
+// The record, which fills out, and how many of the reel's words are not normal.
+fn put_record(reel: &[u8], own: Numbers, out: &mut [u8]) -> usize
+    requires { (own.traces ≤ most_traces) × (first_trace + own.traces * own.stride ≤ length reel.now) × (length out.old ≡ record_length own.traces own.samples) }
+    ensures { (result ≡ not_normal_among reel.now own.code own.samples own.stride own.traces first_trace) × (out.new ≡ record_copied own.layout reel.now own.code own.samples own.interval own.stride own.traces) }
 {
-    let e = 3266 + t * m;
-    put_head(layout, reel, &mut out[0..3266]);
-    let count = put_traces(reel, code, n, i, w, behind, m, t, &mut out[3266..e]);
-    put_count(t as u32, &mut out[e..e + 7]);
+    let e = out.len() - 7;
+    put_head(own.layout, reel, &mut out[0..3266]);
+    let count = put_traces(reel, own, &mut out[3266..e]);
+    put_count(own.traces as u32, &mut out[e..]);
     count
 }
 
 // A reel to which no cause of 1 to 9, 18, 19 and 20 applies, by its own numbers.
-fn read_checked(
-    layout: Layout,
-    reel: &[u8],
-    code: usize,
-    n: usize,
-    i: usize,
-    v: usize,
-    w: usize,
-    t: usize,
-    out: &mut [u8],
-) -> Counted
-    requires { judged_by layout reel.now ≡ Judged.Fine code n i v w t }
-    ensures { counted_outcome result out.new ≡ read_outcome_by layout reel.now out.old }
+fn read_checked(reel: &[u8], own: Numbers, out: &mut [u8]) -> Result<Counted, Refusal>
+    requires { judged (Ok own) ≡ judged_by own.layout reel.now }
+    ensures { counted_outcome result out.new ≡ read_outcome_by own.layout reel.now out.old }
 {
-    let m = trace_length(n);
-    let length = 3273 + t * m;
+    let length = 3273 + own.traces * trace_length(own.samples);
     if out.len() < length {
-        return Counted::Refused {
-            number: 10,
+        return Err(Refusal {
+            cause: Cause::ShortOutput,
             place: Place(length),
-        };
+        });
     }
-    let behind = w - (240 + n * v);
-    let count = put_record(
-        layout,
-        reel,
-        code,
-        n as u16,
-        i as u16,
-        w,
-        behind,
-        m,
-        t,
-        &mut out[..length],
-    );
-    Counted::Taken {
-        traces: t,
-        samples: n,
+    let count = put_record(reel, own, &mut out[..length]);
+    Ok(Counted {
+        traces: own.traces,
+        samples: own.samples,
         length,
         count,
-    }
-}
-
-// A reel by what judging it found.
-fn read_judged(layout: Layout, c: Judged, reel: &[u8], out: &mut [u8]) -> Counted
-    requires { c ≡ judged_by layout reel.now }
-    ensures { counted_outcome result out.new ≡ read_outcome_by layout reel.now out.old }
-{
-    match c {
-        Judged::Refused { number, place } => Counted::Refused { number, place },
-        Judged::Fine {
-            code,
-            samples,
-            interval,
-            width,
-            stride,
-            traces,
-        } => read_checked(
-            layout, reel, code, samples, interval, width, stride, traces, out,
-        ),
-    }
+    })
 }
 
 // Reads a plain reel into the front of a record buffer.
-pub fn read_reel(reel: &[u8], out: &mut [u8]) -> Counted
+pub fn read_reel(reel: &[u8], out: &mut [u8]) -> Result<Counted, Refusal>
     ensures { counted_outcome result out.new ≡ read_outcome reel.now out.old }
 {
-    read_judged(Layout::Plain, reel::judge_reel(reel), reel, out)
+    read_checked(reel, reel::judge_reel(reel)?, out)
 }
 
 // Reads an Eagle reel into the front of a record buffer.
-pub fn read_eagle(reel: &[u8], out: &mut [u8]) -> Counted
+pub fn read_eagle(reel: &[u8], out: &mut [u8]) -> Result<Counted, Refusal>
     ensures { counted_outcome result out.new ≡ read_outcome_by Eagle reel.now out.old }
 {
-    read_judged(Layout::Eagle, reel::judge_eagle(reel), reel, out)
+    read_checked(reel, reel::judge_eagle(reel)?, out)
 }

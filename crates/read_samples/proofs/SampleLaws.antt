@@ -1,8 +1,9 @@
 -- The samples of a trace as the code writes them: the pairs of words that stand in a row, and what fits. Assumes nothing.
 use Rattle.std.proofs.Common.{◌≡◌, ℕ, ◌+◌, ◌-◌, ◌*◌, ◌/◌, ◌<◌, ◌≤◌, Bool, true, false, List, [], ◌∷◌, map, length, get_or, take, drop, sym, refl, ap, ◌∙◌, leb, eqb, arith}
 use Rattle.std.specs.Simd.{first_chunks}
+use borrow.Author.Tests.{le-leb, eq-eqb}
 use Rattle.numbers.specs.Walk.{pick, walk, flat, bytes_at}
-use Rattle.numbers.proofs.WalkLaws.{walk_same, map_walk, bytes_between}
+use Rattle.numbers.proofs.WalkLaws.{walk_same, map_walk, flat_length, bytes_between}
 use Rattle.numbers.proofs.ChunkLaws.{parts_walk}
 use Rattle.formats.specs.Codes.{is_code, sample_bytes}
 use Rattle.formats.specs.Value.{exact_value}
@@ -90,3 +91,15 @@ module _ (s : List ℕ) (k code n at : ℕ) (is : k ≡ code) (out : List ℕ) w
       let j : is_code code ≡ true = rw is at i in
       let m : leb (at + n * sample_bytes code) (length s) ≡ true = rw is at l in
       rw (j, m, e) (w ∙ ap (λ x. sample_pairs s x n at) is)
+
+-- ## For the crates above
+
+pub size_samples : (s : List ℕ) (code n at : ℕ) → length (sample_pairs s code n at) ≡ n * 6
+unfolding sample_pairs
+size_samples s code n at = flat_length (sample_copied s code) (λ p. p) 6 (λ p. refl) (sample_bytes code) n at
+
+-- samples that fit are read
+pub samples_read_lem : (s : List ℕ) (code n at : ℕ) (out : List ℕ) → is_code code ≡ true → at + n * sample_bytes code ≤ length s → length out ≡ n * 6
+    → samples_read s code n at out ≡ sample_pairs s code n at
+unfolding samples_read
+samples_read_lem s code n at out i w o = rw (i, le-leb (at + n * sample_bytes code) (length s) w, eq-eqb (length out) (n * 6) o)

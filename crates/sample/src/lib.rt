@@ -224,7 +224,8 @@ pub fn pair_under(code: Code, word: [u8; 4]) -> Pair
     }
 }
 
-// The canonical pair of a word under a number: where that is no code, what the rule of code 5 gives.
+// The canonical pair of a word under a number: where that is no code, what the rule of code 5 gives. This and the functions below take every
+// number, as the C interface is given them: what they promise of those that are no code may not change.
 #[tactic(auto, unfolding(numbers::specs::Walk::bytes_at))]
 pub fn number(code: u32, word: [u8; 4]) -> Pair
     ensures { result ≡ pair_of (exact_value code word) }

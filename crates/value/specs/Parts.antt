@@ -4,7 +4,7 @@ use Rattle.numbers.specs.Walk.{pick}
 use Rattle.numbers.specs.SignMagnitude.{sign_magnitude}
 use Rattle.numbers.specs.declared.Cause.{Cause}
 use Rattle.numbers.specs.Cause.{cause_no}
-use Rattle.formats.specs.Codes.{code_no, format_of}
+use Rattle.formats.specs.Codes.{code_no, sample_bytes, format_of}
 use Rattle.formats.specs.Format.{unit, limit}
 use Rattle.formats.specs.Nearest.{nearest_magnitude, changes_in}
 use Rattle.formats.specs.declared.Code.{Code}
@@ -17,6 +17,10 @@ use Rattle.value.specs.declared.rounding.RoundedPlace.{RoundedPlace}
 -- The format of a code.
 abbrev pub format : Code → Format
 format code = format_of (code_no code)
+
+-- The bits of a sample of a code.
+abbrev pub sample_bits : Code → ℕ
+sample_bits code = 8 * sample_bytes (code_no code)
 
 -- The value ± odd × 2 ^ power.
 abbrev pub worth : Odd → ℤ

@@ -5,11 +5,11 @@ ghost use Rattle.numbers.specs.Walk.{pick};
 ghost use Rattle.numbers.specs.TwosComplement.{bits_of};
 ghost use Rattle.numbers.specs.SignMagnitude.{sign_magnitude};
 ghost use Rattle.formats.specs.Format.{placed};
-ghost use Rattle.formats.specs.Codes.{code_no, sample_bytes, whole_format};
+ghost use Rattle.formats.specs.Codes.{code_no, whole_format};
 ghost use Rattle.formats.specs.Steps.{Float, Length, Lowest};
 ghost use Rattle.formats.specs.Words.{float_bits, float_word, whole_word, gain_word, word_of};
 ghost use Rattle.formats.specs.Written.{written};
-ghost use Rattle.value.specs.Parts.{format, worth};
+ghost use Rattle.value.specs.Parts.{format, sample_bits, worth};
 
 use crate::parts::Odd;
 use formats::{Code, DENOMINATOR_POWER, Placed};
@@ -52,6 +52,13 @@ pub(crate) fn last_place(code: Code, c: u32) -> u32
 }
 
 // ## Words
+
+// The bits of a sample of a code.
+pub(crate) fn sample_bits(code: Code) -> u32
+    ensures { (result ≡ sample_bits code) × (0 < result) × (result ≤ 32) }
+{
+    8 * code.width() as u32
+}
 
 // The sign bit of a word, in its place.
 fn sign_bit(negative: bool) -> u32
@@ -127,16 +134,16 @@ impl Odd {
         Ok(packed(y, self.negative, p.characteristic, p.fraction))
     }
 
-    // The word as a number of w bits. With a power below 280 it is none: that test stands before the place, where it costs less than in it.
-    fn whole_word(self, code: Code, w: u32) -> Result<u32, Cause>
-        requires { (format code ≡ whole_format w) × (0 < w) × (w ≤ 32) }
-        ensures { written result ≡ whole_word w (worth self) }
+    // The word as a whole number of a sample's bits. With a power below 280 it is none: that test stands before the place, where it costs less than in it.
+    fn whole_word(self, code: Code) -> Result<u32, Cause>
+        requires { format code ≡ whole_format (sample_bits code) }
+        ensures { written result ≡ whole_word (sample_bits code) (worth self) }
     {
         if self.power < DENOMINATOR_POWER {
             return Err(Cause::Unfit);
         }
         let p = self.place(code).ok_or(Cause::Unfit)?;
-        Ok(complement(w, self.negative, p.fraction))
+        Ok(complement(sample_bits(code), self.negative, p.fraction))
     }
 
     // The word under code 4 with the smallest gain: the largest characteristic that leaves the number whole.
@@ -165,11 +172,11 @@ impl Odd {
     {
         match code {
             Code::Ibm => self.float_word(code, 24),
-            Code::Whole32 => self.whole_word(code, 32),
-            Code::Whole16 => self.whole_word(code, 16),
+            Code::Whole32 => self.whole_word(code),
+            Code::Whole16 => self.whole_word(code),
             Code::Gain => self.gain_word(),
             Code::Ieee => self.float_word(code, 23),
-            Code::Whole8 => self.whole_word(code, 8),
+            Code::Whole8 => self.whole_word(code),
         }
     }
 }

@@ -107,8 +107,8 @@ impl Pair {
         }
     }
 
-    // To each code's word: the normal word, the number itself of 32 and of 16 bits, the word of the smallest gain, the IEEE word, and the
-    // number itself of 8 bits.
+    // To each code's word, a method for each code, as the project's law names them: the normal word, the number itself of 32 and of 16 bits,
+    // the word of the smallest gain, the IEEE word, and the number itself of 8 bits.
     pub fn ibm_word(self) -> Result<u32, Cause>
         ensures { written result ≡ write_pair 1 self }
     {
@@ -197,6 +197,8 @@ impl Pair {
 }
 
 // ## Under a number
+//
+// These take every number, codes or not, as the C interface is given them: what they promise of the others may not change.
 
 // The word of a pair under a number, or the refusal: 11, where the number is no code, 13 or 14.
 pub fn write(code: u32, p: Pair) -> Result<u32, Cause>

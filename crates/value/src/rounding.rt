@@ -10,10 +10,10 @@ ghost use Rattle.formats.specs.Words.{float_word, whole_word, gain_word, word_of
 ghost use Rattle.formats.specs.Nearest.{nearest_multiple};
 ghost use Rattle.value.specs.Pair.{mantissa_bits};
 ghost use Rattle.value.specs.Writing.{rounded_by, rounded};
-ghost use Rattle.value.specs.Parts.{format, worth, NearPlace};
+ghost use Rattle.value.specs.Parts.{format, sample_bits, worth, NearPlace};
 ghost use Rattle.formats.specs.declared.Code.TheVariants.{Gain};
 
-use crate::exact::{complement, last_place, lowest, one_more, packed, shifted_up};
+use crate::exact::{complement, last_place, lowest, one_more, packed, sample_bits, shifted_up};
 use crate::parts::Odd;
 use crate::{Rounded, ZERO_WORD};
 use formats::{Code, Placed};
@@ -124,15 +124,15 @@ impl Odd {
         }
     }
 
-    // The word of the nearest number of w bits.
-    fn near_whole(self, code: Code, w: u32) -> Rounded
-        requires { (format code ≡ whole_format w) × (0 < w) × (w ≤ 32) }
-        ensures { rounded result ≡ rounded_by (whole_word w) (format code) (worth self) }
+    // The word of the nearest whole number of a sample's bits.
+    fn near_whole(self, code: Code) -> Rounded
+        requires { format code ≡ whole_format (sample_bits code) }
+        ensures { rounded result ≡ rounded_by (whole_word (sample_bits code)) (format code) (worth self) }
     {
         let p = self.near_place(code);
         let f = p.place.fraction;
         Rounded {
-            bits: complement(w, sign_of(self.negative, f), f),
+            bits: complement(sample_bits(code), sign_of(self.negative, f), f),
             changed: p.changed,
         }
     }
@@ -154,11 +154,11 @@ impl Odd {
     {
         match code {
             Code::Ibm => self.near_float(code, 24),
-            Code::Whole32 => self.near_whole(code, 32),
-            Code::Whole16 => self.near_whole(code, 16),
+            Code::Whole32 => self.near_whole(code),
+            Code::Whole16 => self.near_whole(code),
             Code::Gain => self.near_gain(),
             Code::Ieee => self.near_float(code, 23),
-            Code::Whole8 => self.near_whole(code, 8),
+            Code::Whole8 => self.near_whole(code),
         }
     }
 }

@@ -16,8 +16,8 @@ use Rattle.reel.specs.Layout.{first_trace, stride}
 use Rattle.formats.specs.Codes.{sample_bytes}
 use Rattle.write_samples.specs.Samples.{sample_words}
 use Rattle.write_samples.specs.Nearest.{nearest_words, pairs_changed}
-use Rattle.write_samples.proofs.WordLaws.{size_samples}
-use Rattle.write_samples.proofs.NearestLaws.{size_nearest, pairs_most}
+use Rattle.write_samples.proofs.CallLaws.{size_samples}
+use Rattle.write_samples.proofs.CallLaws.{size_nearest, pairs_most}
 use Rattle.record.specs.Kind.{tag04}
 use Rattle.record.specs.Form.{share_in, trace_place}
 use Rattle.record.proofs.FormLaws.{share_some}

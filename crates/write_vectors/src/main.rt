@@ -18,213 +18,110 @@
 // nearest is answered by `bad case`, and is the last; a written reel that isn't read again, by `not read`.
 #![tactic(auto)]
 
-use record::{Answer, Counted};
+use cases::Stop;
+use record::{Counted, Taken};
 use std::io;
 use std::io::Read;
 
-// One space and a number.
-fn print_item(rt: &impl Print, n: u64) -> io::Result<()> {
-    print!(rt; " {n}")
+// How a case is to be written.
+#[derive(Clone, Copy)]
+enum Way {
+    Exact,
+    Nearest,
 }
 
-// The end of a line.
-fn print_end(rt: &impl Print) -> io::Result<()> {
-    println!(rt)
-}
+impl TryFrom<u8> for Way {
+    type Error = Stop;
 
-// The digest of the first bytes of a slice, as many as a length.
-fn print_first(rt: &impl Print, length: usize, bytes: &[u8]) -> io::Result<()> {
-    if bytes.len() < length {
-        return Ok(());
-    }
-    print_item(rt, digests::digest(&bytes[..length]))
-}
-
-// The digest of the record that reading a written reel gives, and the count.
-fn print_again(rt: &impl Print, reel: &[u8], again: &mut [u8]) -> io::Result<()> {
-    match read_reel::read_reel(reel, again) {
-        Counted::Taken {
-            traces: _,
-            samples: _,
-            length,
-            count,
-        } => {
-            print_first(rt, length, again)?;
-            print_item(rt, count as u64)
+    fn try_from(byte: u8) -> Result<Way, Stop> {
+        match byte {
+            0 => Ok(Way::Exact),
+            1 => Ok(Way::Nearest),
+            _ => Err(Stop::BadCase),
         }
-        Counted::Refused {
-            number: _,
-            place: _,
-        } => print!(rt; " not read"),
     }
 }
 
-// The front of the line of a record that was written.
-fn print_numbers(rt: &impl Print, traces: usize, samples: usize, length: usize) -> io::Result<()> {
-    print!(rt; "taken")?;
-    print_item(rt, traces as u64)?;
-    print_item(rt, samples as u64)?;
-    print_item(rt, length as u64)
+// The digest of the record that reading a written reel gives, and the count of its words that are not normal.
+fn read_again(reel: &[u8], again: &mut [u8]) -> Option<(u64, usize)> {
+    let read = read_reel::read_reel(reel, again).ok()?;
+    let record = again.get(..read.length)?;
+    Some((digests::digest(record), read.count))
 }
 
-// The rest of it.
-fn print_written(rt: &impl Print, length: usize, out: &[u8], again: &mut [u8]) -> io::Result<()> {
-    print_item(rt, digests::digest(out))?;
-    if out.len() < length {
-        return Ok(());
+// Prints the end of the line of a record that is written: the digest of the output, and what reading the reel again gives.
+fn print_reel(rt: &impl Print, length: usize, out: &[u8], again: &mut [u8]) -> io::Result<()> {
+    let digest = digests::digest(out);
+    match out.get(..length).and_then(|reel| read_again(reel, again)) {
+        Some((again, count)) => println!(rt; " {digest} {again} {count}"),
+        None => println!(rt; " {digest} not read"),
     }
-    print_again(rt, &out[..length], again)?;
-    print_end(rt)
 }
 
-// The line of a record that was refused.
-fn print_refused(rt: &impl Print, number: u8, place: usize, out: &[u8]) -> io::Result<()> {
-    print!(rt; "refused")?;
-    print_item(rt, number as u64)?;
-    print_item(rt, place as u64)?;
-    print_item(rt, digests::digest(out))?;
-    print_end(rt)
-}
-
-// The line of a case that is written exactly.
-fn run_exact(
+// Writes a record and prints its line.
+fn write(
     rt: &impl Print,
+    way: Way,
     code: u32,
     record: &[u8],
     out: &mut [u8],
     again: &mut [u8],
 ) -> io::Result<()> {
-    match write_reel::write_reel(record, code, out) {
-        Answer::Taken {
-            traces,
-            samples,
-            length,
-        } => {
-            print_numbers(rt, traces, samples, length)?;
-            print_written(rt, length, out, again)
-        }
-        Answer::Refused { number, place } => print_refused(rt, number, place.0, out),
+    match way {
+        Way::Exact => match write_reel::write_reel(record, code, out) {
+            Ok(
+                Taken {
+                    traces,
+                    samples,
+                    length,
+                },
+            ) => {
+                print!(rt; "taken {traces} {samples} {length}")?;
+                print_reel(rt, length, out, again)
+            }
+            Err(refusal) => cases::print_refused(rt, refusal, out),
+        },
+        Way::Nearest => match write_reel::write_nearest(record, code, out) {
+            Ok(
+                Counted {
+                    traces,
+                    samples,
+                    length,
+                    count,
+                },
+            ) => {
+                print!(rt; "taken {traces} {samples} {length} {count}")?;
+                print_reel(rt, length, out, again)
+            }
+            Err(refusal) => cases::print_refused(rt, refusal, out),
+        },
     }
 }
 
-// The line of a case that is written to the nearest.
-fn run_nearest(
-    rt: &impl Print,
-    code: u32,
-    record: &[u8],
-    out: &mut [u8],
-    again: &mut [u8],
-) -> io::Result<()> {
-    match write_reel::write_nearest(record, code, out) {
-        Counted::Taken {
-            traces,
-            samples,
-            length,
-            count,
-        } => {
-            print_numbers(rt, traces, samples, length)?;
-            print_item(rt, count as u64)?;
-            print_written(rt, length, out, again)
-        }
-        Counted::Refused { number, place } => print_refused(rt, number, place.0, out),
-    }
-}
-
-// The line of a case of another form, which is the last.
-fn refuse_case(rt: &impl Print) -> io::Result<bool> {
-    println!(rt; "bad case")?;
-    Ok(false)
-}
-
-// Reads the record of a case and runs it, and says whether to go on.
-fn run_sized(
-    rt: &impl Print,
-    input: &mut impl Read,
-    near: u8,
-    code: u8,
-    record: &mut [u8],
-    out: &mut [u8],
-    again: &mut [u8],
-) -> io::Result<bool> {
-    let n = inputs::read_full(input, record)?;
-    if n < record.len() {
-        return refuse_case(rt);
-    }
+// Reads a case and runs it.
+fn run_case(rt: &impl Print, input: &mut impl Read) -> Result<(), Stop> {
+    let [way, code]: [u8; 2] = cases::read_first(input)?;
+    let room = cases::read_length(input)?;
+    let size = cases::read_length(input)?;
+    let mut record = [0; 210000];
+    let mut out = [0; 210000];
+    let mut again = [0; 210000];
+    let record = cases::front(&mut record, size)?;
+    let out = cases::front(&mut out, room)?;
+    cases::read_part(input, record)?;
     digests::fill(0xa5, out);
-    if near == 0 {
-        run_exact(rt, code as u32, record, out, again)?;
-        return Ok(true);
-    }
-    if near == 1 {
-        run_nearest(rt, code as u32, record, out, again)?;
-        return Ok(true);
-    }
-    refuse_case(rt)
-}
-
-// The same with buffers of which it uses the front, as much as the case asks for.
-fn run_record(
-    rt: &impl Print,
-    input: &mut impl Read,
-    near: u8,
-    code: u8,
-    room: usize,
-    size: usize,
-    record: &mut [u8],
-    out: &mut [u8],
-    again: &mut [u8],
-) -> io::Result<bool> {
-    if record.len() < size {
-        return refuse_case(rt);
-    }
-    if out.len() < room {
-        return refuse_case(rt);
-    }
-    run_sized(
+    write(
         rt,
-        input,
-        near,
-        code,
-        &mut record[..size],
-        &mut out[..room],
-        again,
-    )
+        Way::try_from(way)?,
+        u32::from(code),
+        record,
+        out,
+        &mut again,
+    )?;
+    Ok(())
 }
 
-// Reads a case and runs it, and says whether to go on: not past the end of the input.
-fn run_case(rt: &impl Print, input: &mut impl Read) -> io::Result<bool> {
-    let mut head = [0u8; 10];
-    let n = inputs::read_full(input, &mut head)?;
-    if n == 10 {
-        let mut record = [0u8; 210000];
-        let mut out = [0u8; 210000];
-        let mut again = [0u8; 210000];
-        return run_record(
-            rt,
-            input,
-            head[0],
-            head[1],
-            numbers::be32(head[2], head[3], head[4], head[5]) as usize,
-            numbers::be32(head[6], head[7], head[8], head[9]) as usize,
-            &mut record,
-            &mut out,
-            &mut again,
-        );
-    }
-    if 0 < n {
-        return refuse_case(rt);
-    }
-    Ok(false)
-}
-
-// A proved loop has to end, and nothing says that the input does. So the loop counts its turns, up to
-// a number that no run reaches.
 fn main(rt: HostRuntime) -> io::Result<()> {
     let mut input = rt.reader();
-    for _ in 0..u64::MAX {
-        if !run_case(&rt, &mut input)? {
-            break;
-        }
-    }
-    Ok(())
+    cases::run_cases(&rt, "bad case", || run_case(&rt, &mut input))
 }

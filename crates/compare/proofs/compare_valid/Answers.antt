@@ -5,11 +5,11 @@ use Rattle.compare.proofs.SharedLaws.{front_fine, all_room}
 use Rattle.compare.specs.Key.{card_key, binary_key, order_of}
 use Rattle.compare.specs.Parts.{behind_traces, key_from}
 use Rattle.record.proofs.FormLaws.{Headed, headed}
-use Rattle.record.specs.Form.{held_samples, held_count, traces_place}
+use Rattle.record.specs.Form.{held_samples, traces_place}
 use Rattle.exact.specs.Order.{or_else, lex_z}
 use lib.ListN.{length}
 use Prim.Native.Nat.{ℕ, ◌≤◌}
-use mathlib.Core.Path.{◌≡◌, refl, sym, ap, ap₂, ◌∙◌, subst}
+use mathlib.Core.Path.{◌≡◌, refl, sym, ap₂, ◌∙◌, subst}
 use mathlib.Core.List.{◌++◌}
 use native.Mathlib.Omega.{arith}
 use Rattle.compare.proofs.compare_valid.Goals.{Else-is_ne, After-compare_fronts-order, After-binary_number-n, Start}

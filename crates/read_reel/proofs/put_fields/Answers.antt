@@ -4,37 +4,13 @@ use Rattle.record.proofs.HeaderLaws.{size_text}
 use Rattle.read_reel.specs.Copied.{tag_bytes, fields_copied}
 use Rattle.reel.specs.Meaning.{card_text_by}
 use Rattle.numbers.proofs.Filling.{start, lend, close}
-use Rattle.numbers.proofs.WalkLaws.{bytes_between, copied, size_bytes}
+use Rattle.numbers.proofs.WalkLaws.{bytes_between, size_bytes}
 use Rattle.numbers.specs.Walk.{bytes_at}
 use lib.ListN.{length}
 use mathlib.Core.List.{◌++◌}
 use mathlib.Core.Path.{refl, sym, ap, ◌∙◌}
 use native.Mathlib.Omega.{arith}
 use Rattle.read_reel.proofs.put_fields.Goals as goal
-
-pub slice_bounds-put_tag-end : goal.slice_bounds-put_tag-end
-slice_bounds-put_tag-end c = omega (arith, c.requires.1)
-
-pub put_tag-requires : goal.put_tag-requires
-put_tag-requires c = c.put_tag-arg-1.given.2
-
-pub slice_bounds-put_text-end : goal.slice_bounds-put_text-end
-slice_bounds-put_text-end c = omega (arith, c.requires.1, c.out-1.given.1)
-
-pub put_text-requires : goal.put_text-requires
-put_text-requires c = (c.requires.0, c.put_text-arg-1.given.2)
-
-pub slice_bounds-put_tag-end-2 : goal.slice_bounds-put_tag-end-2
-slice_bounds-put_tag-end-2 c = omega (arith, c.requires.1, c.out-1.given.1, c.out-2-1.given.1)
-
-pub put_tag-requires-2 : goal.put_tag-requires-2
-put_tag-requires-2 c = c.put_tag-arg-2-1.given.2
-
-pub slice_bounds-copy-end : goal.slice_bounds-copy-end
-slice_bounds-copy-end c = omega (arith, c.requires.0)
-
-pub slice_bounds-copy-end-2 : goal.slice_bounds-copy-end-2
-slice_bounds-copy-end-2 c = omega (arith, c.requires.1, c.out-1.given.1, c.out-2-1.given.1, c.out-3-1.given.1)
 
 pub returns : goal.returns
 unfolding fields_copied
@@ -47,7 +23,7 @@ returns c =
     let w₁ = lend (tag_bytes 1 3200) (text ++ (tag_bytes 2 60 ++ z)) 3 w₀ (omega arith) refl c.put_tag.ensures in
     let w₂ = lend text (tag_bytes 2 60 ++ z) 3203 w₁ (omega arith) (size_text b.args.layout s) c.put_text.ensures in
     let w₃ = lend (tag_bytes 2 60) z 3206 w₂ (omega arith) refl c.put_tag-2.ensures in
-    close z 3266 w₃ (omega arith) (size_bytes s 3200 60) (copied _ _ c.copy.ensures (c.copy-arg-2-1.given.2 ∙ sym c.copy-arg-1.given.1) ∙ bytes_between s 3200 3260 60 (omega (arith, b.requires.0)) refl)
+    close z 3266 w₃ (omega arith) (size_bytes s 3200 60) (c.copy_from_slice.ensures.after ∙ bytes_between s 3200 3260 60 (omega (arith, b.requires.0)) refl)
 
 pub shape_of-out : goal.shape_of-out
 shape_of-out c =

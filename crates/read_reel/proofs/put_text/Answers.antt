@@ -18,7 +18,7 @@ use Rattle.read_reel.proofs.put_text.Goals as goal
 put : (c : After-put_cards) → c.put_cards.new.out ≡ map blank (bytes_at c.args.reel.now 0 card_bytes)
 put c =
     let s = c in
-    cards_put_lem _ _ c.put_cards.ensures c.put_cards-arg-1.given.1 s.requires.1
+    cards_put_lem _ _ c.put_cards.ensures (omega arith) s.requires.1
     ∙ ap (map blank) (bytes_between s.args.reel.now 0 3200 3200 (omega (arith, s.requires.0)) refl)
 
 pub returns-in-Plain : goal.returns-in-Plain

@@ -1,6 +1,6 @@
 -- `write_reel::put_samples` meets its contract. Assumes nothing.
-use Rattle.write_samples.proofs.WordLaws.{samples_written_lem}
-use Rattle.write_samples.proofs.NearestLaws.{as_nearest}
+use Rattle.write_samples.proofs.CallLaws.{samples_written_lem}
+use Rattle.write_samples.proofs.CallLaws.{as_nearest}
 use Rattle.write_reel.proofs.CopiedLaws.{copied_near, copied_exact}
 use mathlib.Core.Path.{◌∙◌}
 use Rattle.write_reel.proofs.put_samples.Goals as goal
