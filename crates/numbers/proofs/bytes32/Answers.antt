@@ -1,6 +1,0 @@
--- `numbers::bytes32` meets its contract. Assumes nothing.
-use Rattle.std.proofs.Common.{div-one}
-use Rattle.numbers.proofs.bytes32.Goals as goal
-
-pub returns : goal.returns
-returns c = rw div-one
