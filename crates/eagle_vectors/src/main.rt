@@ -43,12 +43,14 @@ impl TryFrom<u8> for Call {
 // Prints the line of a reel that was read or refused.
 fn print_answer(rt: &impl Print, answer: Result<Counted, Refusal>, out: &[u8]) -> io::Result<()> {
     match answer {
-        Ok(Counted {
-            traces,
-            samples,
-            length,
-            count,
-        }) => println!(rt;
+        Ok(
+            Counted {
+                traces,
+                samples,
+                length,
+                count,
+            },
+        ) => println!(rt;
             "taken {traces} {samples} {length} {count} {}",
             digests::digest(out)
         ),
