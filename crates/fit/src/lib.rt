@@ -37,6 +37,7 @@ fn check_body(record: &[u8], code: u32, n: u16, i: u16) -> Result<(), Refusal>
 {
     let mut at = 3266;
     let mut t = 0;
+    // Whether there is a next trace, and where it ends, is read in the record: no range is known before.
     'traces: while record::is_trace(record, t, Place(at)) {
         if let Err(found) = record::check_trace(record, Some(code), n, i, Place(at)) {
             return check_later(record, n, i, t, at, found);

@@ -278,6 +278,7 @@ fn check_fields(
 {
     let mut at = start;
     let mut left = n;
+    // A turn is a field, whose samples are fewer in the last: an index of fields would have to be turned into samples and places again.
     'fields: while 0 < left {
         let count = fields::next_count(c, left);
         check_one(record, target, count, at)?;
@@ -343,6 +344,7 @@ pub fn check_rest(record: &[u8], n: u16, i: u16, done: usize, start: Place) -> R
 {
     let mut at = start.0;
     let mut t = done;
+    // Whether there is a next trace, and where it ends, is read in the record: no range is known before.
     'traces: while is_trace(record, t, Place(at)) {
         check_trace(record, None, n, i, Place(at))?;
         at += stride_at(record, n, Place(at));

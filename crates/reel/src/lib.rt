@@ -280,7 +280,8 @@ fn judge(layout: Layout, reel: &[u8]) -> Result<Numbers, Refusal>
     Ok(own)
 }
 
-// Whether a cause of 1 to 9, 18 and 19 applies to a plain reel, and its own numbers where none does.
+// Whether a cause of 1 to 9, 18 and 19 applies to a plain reel, and its own numbers where none does. A call of its own, as C has one for each
+// layout.
 pub fn judge_reel(reel: &[u8]) -> Result<Numbers, Refusal>
     ensures is { judged result ≡ reel_judged reel.now }
     ensures layout { IfOk result (λ own. own.layout ≡ Layout.Plain) }
