@@ -43,7 +43,7 @@ use Rattle.numbers.specs.Cause.{Fine}
 use Rattle.formats.specs.Codes.{ibm_format, ieee_format}
 use Rattle.formats.specs.Words.{ibm_word, is_normal, word_of}
 use Rattle.formats.specs.Value.{ibm_value, word_number}
-use Rattle.formats.specs.declared.Written.TheVariants.{Word}
+use Rattle.formats.specs.Written.{Word}
 use Rattle.formats.proofs.CodeLaws.{ibm_float, single_float}
 use Rattle.format_theorems.specs.Statements.{NormalOf}
 use Rattle.format_theorems.proofs.NormalWords.{normal_again, normal_written, ibm_complete}

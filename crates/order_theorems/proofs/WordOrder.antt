@@ -18,7 +18,7 @@ use Rattle.formats.specs.Format.{unit, limit}
 use Rattle.formats.specs.Steps.{Float}
 use Rattle.formats.specs.Words.{float_word}
 use Rattle.formats.specs.declared.Format.{Format}
-use Rattle.formats.specs.declared.Written.TheVariants.{Word}
+use Rattle.formats.specs.Written.{Word}
 use Rattle.formats.proofs.PlacedLaws.{placed_normal}
 use Rattle.formats.proofs.WordLaws.{float_is, room_for}
 use Rattle.exact.specs.Order.{order_n, order_z}
