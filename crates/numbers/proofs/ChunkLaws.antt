@@ -6,7 +6,7 @@ use Rattle.std.proofs.lemmas.List.{take_more, take-take, drop-take, drop-drop}
 use Rattle.std.proofs.lemmas.List.Sums.{sum_by-cons}
 use Rattle.std.proofs.lemmas.Nat.{div-mul-add}
 use Rattle.numbers.specs.Walk.{walk, flat, sum, bytes_at}
-use Rattle.numbers.proofs.WalkLaws.{bytes_part, size_bytes, map_walk, cons_eq}
+use Rattle.numbers.proofs.WalkLaws.{bytes_part, size_bytes, cons_eq}
 
 -- the first n parts of w bytes of what stands from `at` on
 cut : (w n : ℕ) (s : List ℕ) (at : ℕ) → at + n * w ≤ length s → first_chunks w n (take (n * w) (drop at s)) ≡ walk (λ p. bytes_at s p w) w n at
@@ -14,9 +14,9 @@ cut w zero s at h = refl
 cut w (suc n) s at h =
     let m : suc n * w ≡ w + n * w = omega (arith, suc-mul n w) in
     let first : take w (take (suc n * w) (drop at s)) ≡ bytes_at s at w =
-        take-take w (suc n * w) (drop at s) (omega (arith, m)) ∙ bytes_part s at w (omega (arith, m, h)) in
+    take-take w (suc n * w) (drop at s) (omega (arith, m)) ∙ bytes_part s at w (omega (arith, m, h)) in
     let rest : drop w (take (suc n * w) (drop at s)) ≡ take (n * w) (drop (at + w) s) =
-        ap (λ k. drop w (take k (drop at s))) m ∙ drop-take w (n * w) (drop at s) ∙ ap (take (n * w)) (drop-drop w at s) in
+    ap (λ k. drop w (take k (drop at s))) m ∙ drop-take w (n * w) (drop at s) ∙ ap (take (n * w)) (drop-drop w at s) in
     cons_eq first (ap (first_chunks w n) rest ∙ cut w n s (at + w) (omega (arith, m, h)))
 
 whole : (w n : ℕ) → 0 < w → n * w / w ≡ n
@@ -28,7 +28,7 @@ pub parts_walk : (w n : ℕ) (s : List ℕ) (at e : ℕ) → 0 < w → e ≡ at 
 parts_walk w n s at e h q l =
     let k : e - at ≡ n * w = omega (arith, q) in
     let size : length (take (n * w) (drop at s)) ≡ n * w =
-        ap length (bytes_part s at (n * w) (omega (arith, q, l))) ∙ size_bytes s at (n * w) in
+    ap length (bytes_part s at (n * w) (omega (arith, q, l))) ∙ size_bytes s at (n * w) in
     ap (λ k. first_chunks w (length (take k (drop at s)) / w) (take k (drop at s))) k
     ∙ ap (λ k. first_chunks w (k / w) (take (n * w) (drop at s))) size
     ∙ ap (λ k. first_chunks w k (take (n * w) (drop at s))) (whole w n h)

@@ -1,5 +1,5 @@
 -- The pair of a value: one fact for all codes. The canonical pair of ± a × 2 ^ k is ± a's odd part, with the exponent k and a's twos less the denominator's. Assumes nothing.
-use Rattle.std.proofs.Common.{◌≡◌, ℕ, zero, suc, ◌+◌, ◌*◌, ◌/◌, ◌%◌, ◌^◌, ◌<◌, ◌≤◌, Bool, true, false, List, eqb, pos, sym, refl, ap, ◌∙◌, mod-eq_of_lt, zero-lt-suc, mul_assoc, add_comm, zero-mul, div-le_self, arith, lit<, pow-add, ne_eqb}
+use Rattle.std.proofs.Common.{◌≡◌, ℕ, zero, suc, ◌+◌, ◌*◌, ◌/◌, ◌%◌, ◌^◌, ◌<◌, Bool, true, false, List, eqb, pos, sym, refl, ap, ◌∙◌, mod-eq_of_lt, zero-lt-suc, mul_assoc, add_comm, zero-mul, arith, pow-add, ne_eqb}
 use native.Mathlib.Nat.{zero-div}
 use native.Mathlib.Nat.{div-eq_of_lt-le, suc-mul}
 use lib.Count.{count_trailing_zeros}

@@ -181,10 +181,7 @@ impl Pair {
     pub fn of_bytes(b: [u8; 6]) -> Pair
         ensures { result ≡ pair_in b }
     {
-        Pair::of_bits(
-            u16::of_bytes(&b[..2]),
-            u32::of_bytes(&b[2..]),
-        )
+        Pair::of_bits(u16::of_bytes(&b[..2]), u32::of_bytes(&b[2..]))
     }
 
     pub fn to_bytes(self) -> [u8; 6]
