@@ -11,7 +11,7 @@ use lib.ListN.{length, get_or, take, drop}
 use Rattle.std.specs.Simd.{first_chunks}
 use Rattle.std.specs.Int.{from_le_bytes, w32}
 use Rattle.std.proofs.Common.{sum_by}
-use Rattle.numbers.specs.Walk.{pick, walk, sum, bytes_at}
+use Rattle.numbers.specs.Walk.{pick, sum, bytes_at}
 use Rattle.numbers.specs.BigEndian.{number}
 use Rattle.numbers.specs.Iff.{Iff}
 use Rattle.numbers.proofs.WalkLaws.{walk_same, sum_under, sum_zero, four_bytes}

@@ -1,8 +1,8 @@
 -- The samples of a trace as the code writes them: the pairs of words that stand in a row, and what fits. Assumes nothing.
-use Rattle.std.proofs.Common.{◌≡◌, ℕ, ◌+◌, ◌-◌, ◌*◌, ◌/◌, ◌<◌, ◌≤◌, Bool, true, false, List, [], ◌∷◌, map, length, get_or, take, drop, sym, refl, ap, ◌∙◌, leb, eqb, arith}
+use Rattle.std.proofs.Common.{◌≡◌, ℕ, ◌+◌, ◌-◌, ◌*◌, ◌/◌, ◌<◌, ◌≤◌, true, false, List, [], ◌∷◌, length, get_or, take, drop, sym, refl, ap, ◌∙◌, leb, eqb, arith}
 use Rattle.std.specs.Simd.{first_chunks}
 use borrow.Author.Tests.{le-leb, eq-eqb}
-use Rattle.numbers.specs.Walk.{pick, walk, flat, bytes_at}
+use Rattle.numbers.specs.Walk.{walk, flat, bytes_at}
 use Rattle.numbers.proofs.WalkLaws.{walk_same, map_walk, flat_length, bytes_between}
 use Rattle.numbers.proofs.ChunkLaws.{parts_walk}
 use Rattle.formats.specs.Codes.{is_code, sample_bytes}

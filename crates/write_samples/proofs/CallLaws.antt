@@ -1,5 +1,5 @@
 -- What the calls give of pairs that are there and outputs that are as long as their words, for the crates above. Assumes nothing.
-use Rattle.std.proofs.Common.{◌≡◌, ℕ, zero, suc, ◌+◌, ◌*◌, ◌≤◌, Bool, true, false, ◌&&◌, List, length, leb, eqb, ap, ◌∙◌, arith, eq-eqb}
+use Rattle.std.proofs.Common.{◌≡◌, ℕ, zero, suc, ◌+◌, ◌*◌, ◌≤◌, Bool, true, false, ◌&&◌, List, length, eqb, ap, ◌∙◌, arith, eq-eqb}
 use borrow.Author.Tests.{le-leb}
 use Rattle.numbers.specs.Walk.{pick, walk, bytes_at}
 use Rattle.numbers.specs.Cause.{first_of}

@@ -1,16 +1,14 @@
 -- What the calls say and write of the pairs that stand in a row. Assumes nothing.
-use Rattle.std.proofs.Common.{◌≡◌, ℕ, zero, suc, ◌+◌, ◌*◌, ◌≤◌, ◌<◌, Bool, true, false, ◌&&◌, List, map, length, leb, eqb, sym, refl, ap, ◌∙◌}
+use Rattle.std.proofs.Common.{◌≡◌, ℕ, zero, suc, ◌+◌, ◌*◌, ◌≤◌, ◌<◌, Bool, true, false, List, length, eqb, sym, refl, ap, ◌∙◌}
 use borrow.Author.Tests.{le-leb, lt-leb, eqb-true}
-use Rattle.numbers.specs.Walk.{pick, walk, flat, sum, bytes_at}
-use Rattle.numbers.specs.BigEndian.{bytes_of}
+use Rattle.numbers.specs.Walk.{walk, flat, bytes_at}
 use Rattle.numbers.specs.Cause.{Check, Refused, then, first_of}
 use Rattle.numbers.proofs.WalkLaws.{map_walk, size_walk}
 use Rattle.numbers.proofs.ChunkLaws.{sum_by_walk}
 use Rattle.formats.specs.Codes.{is_code, sample_bytes}
-use Rattle.formats.specs.Words.{word_bits}
 use Rattle.value.specs.Pair.{pair_in}
 use Rattle.value.specs.Writing.{write_pair, nearest_pair}
-use Rattle.write_samples.specs.Samples.{pair_check, pair_refused, word_bytes, written_at, sample_words, there_and_as_long, samples_checked, samples_written}
+use Rattle.write_samples.specs.Samples.{pair_check, word_bytes, written_at, sample_words, there_and_as_long, samples_checked, samples_written}
 use Rattle.write_samples.specs.Nearest.{nearest_at, rounded_bytes, nearest_words, pairs_changed, nearest_samples_written, nearest_samples_counted}
 use Rattle.write_samples.specs.Pairs.{pairs_refused, words_content, rounded_content, rounded_count}
 

@@ -1,5 +1,5 @@
 -- `count_words::count_words` meets its contract. Assumes nothing.
-use Rattle.std.proofs.Common.{◌≡◌, ℕ, ◌+◌, ◌*◌, ◌≤◌, Bool, true, false, List, length, sym, ap, ◌∙◌, refl, rules}
+use Rattle.std.proofs.Common.{◌≡◌, ℕ, ◌+◌, ◌*◌, ◌≤◌, true, false, List, length, sym, ap, ◌∙◌, refl, rules}
 use Rattle.count_words.proofs.CountLaws.{words_pass, exact_is, none_is, fit_counted, too_many, not_there, other_code}
 use Rattle.count_words.specs.Counted.{words_counted}
 use Rattle.reel.specs.Causes.{most_samples}

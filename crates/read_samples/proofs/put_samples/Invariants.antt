@@ -1,4 +1,4 @@
-use Rattle.std.proofs.Common.{◌≡◌, ℕ, ◌*◌, ◌++◌, take, drop}
+use Rattle.std.proofs.Common.{◌≡◌, ◌*◌, ◌++◌, take, drop}
 use Rattle.value.specs.declared.Pair.{Pair}
 use Rattle.read_samples.specs.Parts.{pairs_content}
 use Rattle.read_samples.proofs.put_samples.Given as goal

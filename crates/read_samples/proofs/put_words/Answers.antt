@@ -1,5 +1,5 @@
 -- `read_samples::put_words` meets its contract. Assumes nothing.
-use Rattle.std.proofs.Common.{◌≡◌, ℕ, ◌+◌, ◌*◌, ◌≤◌, List, [], ◌∷◌, length, get_or, sym, refl, ap, ◌∙◌, rules, arith}
+use Rattle.std.proofs.Common.{ℕ, ◌+◌, ◌*◌, ◌≤◌, List, [], ◌∷◌, length, get_or, sym, refl, ap, ◌∙◌, rules, arith}
 use Rattle.formats.specs.Codes.{code_no, sample_bytes}
 use Rattle.formats.specs.Value.{exact_value}
 use Rattle.value.specs.Pair.{pair_of}

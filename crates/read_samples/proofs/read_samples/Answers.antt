@@ -1,5 +1,5 @@
 -- `read_samples::read_samples` meets its contract. Assumes nothing.
-use Rattle.std.proofs.Common.{◌≡◌, ◌+◌, ◌*◌, ◌≤◌, length, leb, sym, refl, ap, ◌∙◌}
+use Rattle.std.proofs.Common.{◌+◌, ◌*◌, length, leb, sym, refl, ap, ◌∙◌}
 use borrow.Author.Tests.{leb-true, eqb-true}
 use Rattle.formats.specs.Codes.{code_no}
 use Rattle.formats.proofs.CodeLaws.{code_no_is}

@@ -1,5 +1,5 @@
 -- `write_samples::put_nearest` meets its contract. Assumes nothing.
-use Rattle.std.proofs.Common.{◌≡◌, ◌+◌, ◌≤◌, Bool, true, false, [], get_or, take, refl, sym, ap, ◌∙◌, arith}
+use Rattle.std.proofs.Common.{◌+◌, [], get_or, refl, sym, ap, ◌∙◌, arith}
 use mathlib.Core.Path.{ap₂}
 use Rattle.numbers.specs.BigEndian.{bytes_of}
 use Rattle.numbers.proofs.ByteLaws.{length_bytes}

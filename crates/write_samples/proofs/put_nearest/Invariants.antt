@@ -1,4 +1,4 @@
-use Rattle.std.proofs.Common.{◌≡◌, ℕ, ◌*◌, ◌≤◌, ◌++◌, take, drop}
+use Rattle.std.proofs.Common.{◌≡◌, ◌*◌, ◌≤◌, ◌++◌, take, drop}
 use Rattle.value.specs.Writing.{Rounded, rounded}
 use Rattle.value.specs.declared.Rounded as found
 use Rattle.value.specs.declared.Pair.{Pair}

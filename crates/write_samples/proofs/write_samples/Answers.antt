@@ -1,7 +1,6 @@
 -- `write_samples::write_samples` meets its contract. Assumes nothing.
-use Rattle.std.proofs.Common.{◌≡◌, ◌*◌, length, eqb, sym, refl, ap, ◌∙◌}
-use borrow.Author.Tests.{eqb-true}
-use Rattle.formats.specs.Codes.{code_no, sample_bytes}
+use Rattle.std.proofs.Common.{◌*◌, length, eqb, sym, refl, ap, ◌∙◌}
+use Rattle.formats.specs.Codes.{code_no}
 use Rattle.formats.proofs.CodeLaws.{code_no_is}
 use Rattle.write_samples.proofs.WordLaws.{no_code, not_there, as_long, room, written_then, kept, put}
 use Rattle.write_samples.proofs.write_samples.Goals as goal
