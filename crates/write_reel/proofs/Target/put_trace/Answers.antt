@@ -6,6 +6,7 @@ use Rattle.record.specs.Kind.{tag04}
 use Rattle.record.specs.Form.{field_head, to_samples, share_in, behind_trace_in}
 use Rattle.record.proofs.FormLaws.{share_some}
 use Rattle.fields.specs.Fields.{fields_length}
+use Rattle.formats.specs.Codes.{code_no}
 use Rattle.reel.specs.Layout.{trace_header}
 use Rattle.numbers.proofs.Filling.{start, lend, close}
 use Rattle.numbers.proofs.WalkLaws.{bytes_between}
@@ -14,22 +15,22 @@ use lib.ListN.{length}
 use Prim.Native.Nat.{ℕ, ◌+◌, ◌-◌, ◌*◌, ◌<◌, ◌≤◌}
 use mathlib.Core.Path.{◌≡◌, sym, ap, ap₂, subst, ◌∙◌}
 use native.Mathlib.Omega.{arith}
-use Rattle.write_reel.proofs.put_trace.Goals.{After-share_at-c, Start}
-use Rattle.write_reel.proofs.put_trace.Goals as goal
+use Rattle.write_reel.proofs.Target.put_trace.Goals.{After-share_at-c, Start}
+use Rattle.write_reel.proofs.Target.put_trace.Goals as goal
 
 -- the trace ends within the record
-room : (c : Start) → let a = c.args in a.at + (183 + fields_length 6 (share_in tag04 a.«record».now a.n (a.at + 183)) a.n) ≤ length a.«record».now
+room : (c : Start) → let a = c.args in a.at + (183 + fields_length 6 (share_in tag04 a.«record».now a.self.samples (a.at + 183)) a.self.samples) ≤ length a.«record».now
 unfolding behind_trace_in
-room c = c.requires.2
+room c = c.requires.0
 
 some : (c : After-share_at-c) → 0 < c.share_at-c.result
-some c = let a = c.args in subst (λ (x : ℕ). 0 < x) (sym c.share_at-c.ensures) (share_some tag04 a.«record».now a.n (a.at + 183))
+some c = let a = c.args in subst (λ (x : ℕ). 0 < x) (sym c.share_at-c.ensures) (share_some tag04 a.«record».now a.self.samples (a.at + 183))
 
 pub put_fields-requires : goal.put_fields-requires
 put_fields-requires c =
     let b = (goal.at.put_fields-requires c).Start in
     let a = b.args in
-    (b.requires.0, b.requires.1, some (goal.at.put_fields-requires c).After-share_at-c, subst (λ (x : ℕ). a.at + 183 + fields_length 6 x a.n ≤ length a.«record».now) (sym c.share_at-c.ensures) (omega (arith, room b)), omega (arith, b.requires.3))
+    (some (goal.at.put_fields-requires c).After-share_at-c, subst (λ (x : ℕ). a.at + 183 + fields_length 6 x a.self.samples ≤ length a.«record».now) (sym c.share_at-c.ensures) (omega (arith, room b)), omega (arith, b.requires.1, a.self.size_is))
 
 pub returns : goal.returns
 unfolding trace_changed_at reel_trace_copied
@@ -39,17 +40,18 @@ returns c =
     let a = b.args in
     let s = a.«record».now in
     let from = a.at + field_head in
-    let own = share_in tag04 s a.n (a.at + to_samples) in
+    let own = share_in tag04 s a.self.samples (a.at + to_samples) in
     let x = reel_header_copied trace_header (bytes_at s from header_size) in
-    let z = fields_words a.near s a.code own a.n (a.at + to_samples) in
+    let z = fields_words a.near s (code_no a.self.code) own a.self.samples (a.at + to_samples) in
     let is = c.share_at-c.ensures in
     let r = c.put_fields.ensures in
     let header = h.put_header.ensures ∙ ap₂ reel_header_copied h.put_header-arg-2-1.given.2 (bytes_between s from (a.at + to_samples) header_size (omega (arith, room b)) (omega arith)) in
-    let wide = ap (λ (v : ℕ). a.n * v) b.requires.1 in
-    let w₀ = start _ a.out.now (b.requires.3 ∙ ap (λ (x : ℕ). 240 + x) wide ∙ sym (size_trace a.near s a.code a.n a.at)) in
+    let wide = ap (λ (v : ℕ). a.self.samples * v) a.self.width_is in
+    let size_is = b.requires.1 ∙ a.self.size_is in
+    let w₀ = start _ a.out.now (size_is ∙ ap (λ (x : ℕ). 240 + x) wide ∙ sym (size_trace a.near s (code_no a.self.code) a.self.samples a.at)) in
     let w₁ = lend x z trace_header w₀ (omega arith) (size_bytes_header trace_header s from header_size (omega arith)) header in
-    let size : length z ≡ length a.out.now - trace_header = size_words a.near s a.code own (share_some tag04 s a.n (a.at + to_samples)) a.n (a.at + to_samples) ∙ omega (arith, b.requires.3, wide) in
-    (r.0 ∙ ap (λ (c : ℕ). fields_changed_at a.near s a.code c a.n (a.at + to_samples)) is, close z (length a.out.now) w₁ (omega (arith, b.requires.3)) size (r.1 ∙ ap (λ (c : ℕ). fields_words a.near s a.code c a.n (a.at + to_samples)) is))
+    let size : length z ≡ length a.out.now - trace_header = size_words a.near s (code_no a.self.code) own (share_some tag04 s a.self.samples (a.at + to_samples)) a.self.samples (a.at + to_samples) ∙ omega (arith, size_is, wide) in
+    (r.0 ∙ ap (λ (c : ℕ). fields_changed_at a.near s (code_no a.self.code) c a.self.samples (a.at + to_samples)) is, close z (length a.out.now) w₁ (omega (arith, size_is)) size (r.1 ∙ ap (λ (c : ℕ). fields_words a.near s (code_no a.self.code) c a.self.samples (a.at + to_samples)) is))
 
 pub overflow_add-at : goal.overflow_add-at
 overflow_add-at c = omega (arith, room (goal.at.overflow_add-at c).Start)
