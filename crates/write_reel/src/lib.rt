@@ -2,7 +2,7 @@
 // nearest writing `record::judge_record`; then the reel is written. Each function that writes is lent exactly the bytes that it writes.
 #![tactic(auto)]
 
-ghost use Rattle.std.specs.Prelude.{◌≡◌, true, not, ◌+◌, ◌*◌, ◌≤◌, ◌<◌, length};
+ghost use Rattle.std.specs.Prelude.{◌≡◌, Bool, true, false, not, ◌+◌, ◌*◌, ◌≤◌, ◌<◌, length};
 ghost use Rattle.numbers.specs.Walk.{overwritten};
 ghost use Rattle.numbers.specs.Cause.{refuse_if, then};
 ghost use Rattle.numbers.specs.Places.{byte_place};
@@ -42,23 +42,37 @@ fn put_header(assigned: &[u8], out: &mut [u8])
     put_zeros(&mut out[k..e]);
 }
 
-// n samples whose pairs stand one behind the other, to the nearest where `near` is set, else exactly; and how many changed.
-fn put_samples(
-    record: &[u8],
-    near: bool,
-    code: Code,
-    n: usize,
-    start: usize,
-    out: &mut [u8],
-) -> usize
-    requires { (start + n * 6 ≤ length «record».now) × (length out.old ≡ n * sample_bytes (code_no code)) }
-    ensures { (result ≡ samples_changed_at near «record».now (code_no code) n start) × (out.new ≡ samples_copied near «record».now (code_no code) n start) }
-{
-    if near {
-        return write_samples::write_nearest(record, code.number(), n, Place(start), out);
+// A way to write samples.
+trait Way {
+    ghost near: { Bool };
+
+    // n samples whose pairs stand one behind the other; and how many changed.
+    fn put_samples(record: &[u8], code: Code, n: usize, start: usize, out: &mut [u8]) -> usize
+        requires { (start + n * 6 ≤ length «record».now) × (length out.old ≡ n * sample_bytes (code_no code)) }
+        ensures { (result ≡ samples_changed_at near «record».now (code_no code) n start) × (out.new ≡ samples_copied near «record».now (code_no code) n start) };
+}
+
+// Exactly.
+struct Exact;
+
+// To the nearest.
+struct Nearest;
+
+impl Way for Exact {
+    ghost near = { false };
+
+    fn put_samples(record: &[u8], code: Code, n: usize, start: usize, out: &mut [u8]) -> usize {
+        write_samples::write_samples(record, code.number(), n, Place(start), out);
+        0
     }
-    write_samples::write_samples(record, code.number(), n, Place(start), out);
-    0
+}
+
+impl Way for Nearest {
+    ghost near = { true };
+
+    fn put_samples(record: &[u8], code: Code, n: usize, start: usize, out: &mut [u8]) -> usize {
+        write_samples::write_nearest(record, code.number(), n, Place(start), out)
+    }
 }
 
 // The reel of a valid record: its code, N, T, the bytes of a sample and the bytes of a trace.
@@ -76,9 +90,9 @@ struct Target {
 impl Target {
     // The samples of a trace, in fields of c in the record; and how many of them changed. A `while`, since each field stands behind those
     // before it, and the last has what is left.
-    fn put_fields(self, record: &[u8], near: bool, c: usize, start: usize, out: &mut [u8]) -> usize
+    fn put_fields<W: Way>(self, record: &[u8], c: usize, start: usize, out: &mut [u8]) -> usize
         requires { (0 < c) × (start + fields_length 6 c self.samples ≤ length «record».now) × (length out.old ≡ self.samples * self.width) }
-        ensures { (result ≡ fields_changed_at near «record».now (code_no self.code) c self.samples start) × (out.new ≡ fields_words near «record».now (code_no self.code) c self.samples start) }
+        ensures { (result ≡ fields_changed_at W.near «record».now (code_no self.code) c self.samples start) × (out.new ≡ fields_words W.near «record».now (code_no self.code) c self.samples start) }
     {
         let mut at = start;
         let mut o = 0;
@@ -87,7 +101,7 @@ impl Target {
         while 0 < left {
             let count = fields::next_count(c, left);
             let e = o + count * self.width;
-            changed += put_samples(record, near, self.code, count, at + 3, &mut out[o..e]);
+            changed += W::put_samples(record, self.code, count, at + 3, &mut out[o..e]);
             at += 3 + count * 6;
             o = e;
             left -= count;
@@ -96,40 +110,40 @@ impl Target {
     }
 
     // A trace: its 71 fields, the unassigned bytes of its header, and its samples; and how many of these changed.
-    fn put_trace(self, record: &[u8], near: bool, at: usize, out: &mut [u8]) -> usize
+    fn put_trace<W: Way>(self, record: &[u8], at: usize, out: &mut [u8]) -> usize
         requires { (behind_trace_in tag04 «record».now self.samples at ≤ length «record».now) × (length out.old ≡ self.size) }
-        ensures { (result ≡ trace_changed_at near «record».now (code_no self.code) self.samples at) × (out.new ≡ reel_trace_copied near «record».now (code_no self.code) self.samples at) }
+        ensures { (result ≡ trace_changed_at W.near «record».now (code_no self.code) self.samples at) × (out.new ≡ reel_trace_copied W.near «record».now (code_no self.code) self.samples at) }
     {
         let e = out.len();
         put_header(&record[at + 3..at + 183], &mut out[0..240]);
         let c = record::share_at(record, self.samples, Place(at));
-        self.put_fields(record, near, c, at + 183, &mut out[240..e])
+        self.put_fields::<W>(record, c, at + 183, &mut out[240..e])
     }
 
     // The traces, one behind the other; and how many of their samples changed.
-    fn put_traces(self, record: &[u8], near: bool, out: &mut [u8]) -> usize
+    fn put_traces<W: Way>(self, record: &[u8], out: &mut [u8]) -> usize
         requires { (trace_place «record».now self.samples self.traces ≤ length «record».now) × (length out.old ≡ self.traces * self.size) }
-        ensures { (result ≡ traces_changed_at near «record».now (code_no self.code) self.samples self.traces 0) × (out.new ≡ traces_copied near «record».now (code_no self.code) self.samples self.traces 0) }
+        ensures { (result ≡ traces_changed_at W.near «record».now (code_no self.code) self.samples self.traces 0) × (out.new ≡ traces_copied W.near «record».now (code_no self.code) self.samples self.traces 0) }
     {
         let mut at = 3266;
         let mut count = 0;
         for j in 0..self.traces {
             let o = j * self.size;
-            count += self.put_trace(record, near, at, &mut out[o..o + self.size]);
+            count += self.put_trace::<W>(record, at, &mut out[o..o + self.size]);
             at += record::stride_at(record, self.samples, Place(at));
         }
         count
     }
 
     // The reel, which fills out; and how many samples changed.
-    fn put_reel(self, record: &[u8], near: bool, out: &mut [u8]) -> usize
+    fn put_reel<W: Way>(self, record: &[u8], out: &mut [u8]) -> usize
         requires { (traces_place ≤ length «record».now) × (trace_place «record».now self.samples self.traces ≤ length «record».now) × (length out.old ≡ first_trace + self.traces * self.size) }
-        ensures { (result ≡ traces_changed_at near «record».now (code_no self.code) self.samples self.traces 0) × (out.new ≡ reel_copied near «record».now (code_no self.code) self.samples self.traces) }
+        ensures { (result ≡ traces_changed_at W.near «record».now (code_no self.code) self.samples self.traces 0) × (out.new ≡ reel_copied W.near «record».now (code_no self.code) self.samples self.traces) }
     {
         let e = out.len();
         slices::copy(&record[3..3203], &mut out[0..3200]);
         put_header(&record[3206..3266], &mut out[3200..3600]);
-        let count = self.put_traces(record, near, &mut out[3600..e]);
+        let count = self.put_traces::<W>(record, &mut out[3600..e]);
         put_code(self.code, out);
         count
     }
@@ -145,15 +159,14 @@ fn put_code(code: Code, out: &mut [u8])
 }
 
 // A valid record under one of the codes, by its N and T: its reel, or 10 where the output is too short.
-fn put_checked(
+fn put_checked<W: Way>(
     record: &[u8],
-    near: bool,
     code: u32,
     own: Numbers,
     reel: &mut [u8],
 ) -> Result<Counted, Refusal>
     requires { (is_code code ≡ true) × (record_judged «record».now ≡ Fine own.samples own.traces) }
-    ensures { counted_outcome result reel.new ≡ copied_outcome near «record».now code own.samples own.traces reel.old }
+    ensures { counted_outcome result reel.new ≡ copied_outcome W.near «record».now code own.samples own.traces reel.old }
 {
     let code = Code::of(code as usize).unwrap();
     let width = code.width();
@@ -172,7 +185,7 @@ fn put_checked(
         width,
         size,
     };
-    let count = target.put_reel(record, near, &mut reel[..length]);
+    let count = target.put_reel::<W>(record, &mut reel[..length]);
     Ok(Counted {
         traces: own.traces,
         samples: own.samples,
@@ -186,7 +199,7 @@ fn write_checked(record: &[u8], code: u32, own: Numbers, reel: &mut [u8]) -> Res
     requires { fit_judged «record».now code ≡ Fine own.samples own.traces }
     ensures { outcome result reel.new ≡ write_outcome «record».now code reel.old }
 {
-    let c = put_checked(record, false, code, own, reel)?;
+    let c = put_checked::<Exact>(record, code, own, reel)?;
     Ok(Taken {
         traces: c.traces,
         samples: c.samples,
@@ -216,5 +229,5 @@ pub fn write_nearest(record: &[u8], code: u32, reel: &mut [u8]) -> Result<Counte
     ensures { counted_outcome result reel.new ≡ nearest_outcome «record».now code reel.old }
 {
     let own = judge_target_and_form(record, code)?;
-    put_checked(record, true, code, own, reel)
+    put_checked::<Nearest>(record, code, own, reel)
 }
