@@ -88,23 +88,25 @@ struct Target {
 }
 
 impl Target {
-    // The samples of a trace, in fields of c in the record; and how many of them changed. A `while`, since each field stands behind those
-    // before it, and the last has what is left.
+    // The samples of a trace, in fields of c in the record, the last with the rest; and how many of them changed.
     fn put_fields<W: Way>(self, record: &[u8], c: usize, start: usize, out: &mut [u8]) -> usize
         requires { (0 < c) × (start + fields_length 6 c self.samples ≤ length «record».now) × (length out.old ≡ self.samples * self.width) }
         ensures { (result ≡ fields_changed_at W.near «record».now (code_no self.code) c self.samples start) × (out.new ≡ fields_words W.near «record».now (code_no self.code) c self.samples start) }
     {
+        let n = self.samples as usize;
         let mut at = start;
-        let mut o = 0;
-        let mut left = self.samples as usize;
         let mut changed = 0;
-        while 0 < left {
-            let count = fields::next_count(c, left);
-            let e = o + count * self.width;
-            changed += W::put_samples(record, self.code, count, at + 3, &mut out[o..e]);
+        for done in (0..n).step_by(c) {
+            let count = fields::next_count(c, n - done);
+            let o = done * self.width;
+            changed += W::put_samples(
+                record,
+                self.code,
+                count,
+                at + 3,
+                &mut out[o..o + count * self.width],
+            );
             at += 3 + count * 6;
-            o = e;
-            left -= count;
         }
         changed
     }

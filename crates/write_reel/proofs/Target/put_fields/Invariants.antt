@@ -3,15 +3,19 @@ use Rattle.fields.specs.Fields.{fields_length}
 use Rattle.write_reel.specs.Copied.{fields_words, fields_changed_at}
 use Rattle.numbers.proofs.Filling.{Filling}
 use lib.ListN.{length}
-use Prim.Native.Nat.{◌+◌, ◌*◌, ◌≤◌}
+use Prim.Native.Nat.{◌+◌, ◌-◌, ◌*◌, ◌≤◌, min}
 use mathlib.Core.Path.{◌≡◌}
 use Rattle.write_reel.proofs.Target.put_fields.Given as goal
 
-abbrev pub invariant-loop-left : goal.invariant-loop-left
-invariant-loop-left g l =
-    (l.at + fields_length 6 l.c l.left ≤ length l.«record») × (length l.out ≡ l.self.samples * l.self.width) × (l.o + l.left * l.self.width ≡ l.self.samples * l.self.width)
-    × Filling (fields_words g.W.Way.near l.«record» (code_no l.self.code) l.c l.self.samples l.start) l.out l.o (fields_words g.W.Way.near l.«record» (code_no l.self.code) l.c l.left l.at)
-    × (l.changed + l.left ≤ l.self.samples) × (l.changed + fields_changed_at g.W.Way.near l.«record» (code_no l.self.code) l.c l.left l.at ≡ fields_changed_at g.W.Way.near l.«record» (code_no l.self.code) l.c l.self.samples l.start)
-
-abbrev pub decreases-loop-left : goal.decreases-loop-left
-decreases-loop-left g l = l.left
+abbrev pub invariant-loop-done : goal.invariant-loop-done
+invariant-loop-done g l =
+    let o = l.self in
+    let code = code_no o.code in
+    let near = g.W.Way.near in
+    let left = o.samples - l.done in
+    record {
+      room : l.at + fields_length 6 l.c left ≤ length l.«record»;
+      filling : Filling (fields_words near l.«record» code l.c o.samples l.start) l.out (min l.done o.samples * o.width) (fields_words near l.«record» code l.c left l.at);
+      few : l.changed + left ≤ o.samples;
+      counted : l.changed + fields_changed_at near l.«record» code l.c left l.at ≡ fields_changed_at near l.«record» code l.c o.samples l.start;
+    }
