@@ -42,7 +42,7 @@ fn put_header(assigned: &[u8], out: &mut [u8])
     put_zeros(&mut out[k..e]);
 }
 
-// A way to write samples.
+// A way of writing: what becomes of the samples of a field.
 trait Way {
     ghost near: { Bool };
 
@@ -52,10 +52,10 @@ trait Way {
         ensures { (result ≡ samples_changed_at near «record».now (code_no code) n start) × (out.new ≡ samples_copied near «record».now (code_no code) n start) };
 }
 
-// Exactly.
+// Exact writing, in which no sample changes.
 struct Exact;
 
-// To the nearest.
+// Writing to the nearest.
 struct Nearest;
 
 impl Way for Exact {
@@ -75,7 +75,7 @@ impl Way for Nearest {
     }
 }
 
-// The reel of a valid record: its code, N, T, the bytes of a sample and the bytes of a trace.
+// The reel that is to be written: its code, N, T, the bytes of a sample, and the bytes of a trace.
 #[derive(Clone, Copy)]
 struct Target {
     code: Code,
