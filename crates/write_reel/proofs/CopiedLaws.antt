@@ -41,16 +41,6 @@ size_header size l h = simp (length-append, length-replicate) (omega arith)
 pub size_bytes_header : (size : ℕ) (s : List ℕ) (at k : ℕ) → k ≤ size → length (reel_header_copied size (bytes_at s at k)) ≡ size
 size_bytes_header size s at k h = size_header size (bytes_at s at k) (omega (arith, size_bytes s at k))
 
--- samples to the nearest, and exactly
-module _ (s : List ℕ) (code n at : ℕ) where
-  pub copied_near : (near : Bool) → near ≡ true → (pairs_changed s code n at ≡ samples_changed_at near s code n at) × (nearest_words s code n at ≡ samples_copied near s code n at)
-  unfolding samples_copied samples_changed_at
-  copied_near near e = (sym (ap (λ (b : Bool). pick b (pairs_changed s code n at) 0) e), sym (ap (λ (b : Bool). pick b (nearest_words s code n at) (sample_words s code n at)) e))
-
-  pub copied_exact : (near : Bool) → near ≡ false → (0 ≡ samples_changed_at near s code n at) × (sample_words s code n at ≡ samples_copied near s code n at)
-  unfolding samples_copied samples_changed_at
-  copied_exact near e = (sym (ap (λ (b : Bool). pick b (pairs_changed s code n at) 0) e), sym (ap (λ (b : Bool). pick b (nearest_words s code n at) (sample_words s code n at)) e))
-
 module _ (near : Bool) (s : List ℕ) (code : ℕ) where
   pub size_samples_copied : (n at : ℕ) → length (samples_copied near s code n at) ≡ n * sample_bytes code
   unfolding samples_copied

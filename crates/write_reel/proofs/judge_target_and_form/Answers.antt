@@ -1,5 +1,5 @@
 -- `write_reel::judge_target_and_form` meets its contract. Assumes nothing.
-use Rattle.std.proofs.Common.{◌≡◌, sym, ap, ◌∙◌, rules, List, ℕ}
+use Rattle.std.proofs.Common.{◌≡◌, ap, ◌∙◌, rules, List, ℕ}
 use Rattle.numbers.specs.Cause.{Check, then, cause_no}
 use Rattle.record.specs.Form.{form_causes, record_found}
 use Rattle.record.specs.Judged.{Judged, judged, Refused}

@@ -3,71 +3,70 @@ use Rattle.record.specs.Form.{form_causes}
 use Rattle.record.proofs.JudgedLaws.{Own, own}
 use Rattle.write_reel.proofs.WriteLaws.{Fit, fit, short_end, taken_end}
 use Rattle.reel.specs.Layout.{first_trace, stride}
-use Rattle.formats.specs.Codes.{sample_bytes}
+use Rattle.formats.specs.Codes.{code_no, CodeOf, sample_bytes}
+use Rattle.write_reel.specs.Copied.{traces_changed_at, reel_copied}
 use lib.Seq.{length-take-le}
 use Prim.Native.Nat.{ℕ, ◌+◌, ◌*◌, ◌≤◌}
-use mathlib.Core.Path.{◌≡◌, refl, sym, ap, subst}
+use mathlib.Core.Path.{◌≡◌, sym, ap, subst, ◌∙◌}
 use native.Mathlib.Omega.{arith}
-use Rattle.write_reel.proofs.put_checked.Goals.{After-width_of-v, Start}
+use Rattle.write_reel.proofs.put_checked.Given.{Over}
+use Rattle.write_reel.proofs.put_checked.Goals.{After-width-width, After-unwrap-code, Start}
 use Rattle.write_reel.proofs.put_checked.Goals as goal
 
-owns : (c : Start) → let a = c.args in Own a.«record».now (form_causes a.«record».now) a.own.samples a.own.traces
-owns c = let a = c.args in own a.«record».now (form_causes a.«record».now) c.requires.1
+owns : (g : Over) (c : Start g) → let a = c.args in Own a.«record».now (form_causes a.«record».now) a.own.samples a.own.traces
+owns g c = let a = c.args in own a.«record».now (form_causes a.«record».now) c.requires.1
 
-fits : (c : Start) → let a = c.args in Fit a.«record».now a.code a.own.samples a.own.traces
-fits c = let a = c.args in fit a.«record».now a.code a.own.samples a.own.traces c.requires.0 (owns (goal.at.Start c).Start)
+fits : (g : Over) (c : Start g) → let a = c.args in Fit a.«record».now a.code a.own.samples a.own.traces
+fits g c = let a = c.args in fit a.«record».now a.code a.own.samples a.own.traces c.requires.0 (owns g (goal.at.Start g c).Start)
+
+-- the code has that number
+numbered : (g : Over) (c : After-unwrap-code g) → code_no c.unwrap-code.result ≡ c.args.code
+numbered g c = subst (CodeOf c.args.code) c.unwrap-code.ensures c.of.ensures
+
+-- its bytes of a sample
+width_is : (g : Over) (c : After-width-width g) → c.width-width.result ≡ sample_bytes c.args.code
+width_is g c = c.width-width.ensures.0 ∙ ap sample_bytes (numbered g (goal.at.After-width-width g c).After-unwrap-code)
 
 -- a trace's bytes on the reel, and the reel's length
-wide : (c : After-width_of-v) → 240 + c.args.own.samples * c.width_of-v.result ≤ 131308
-wide c = subst (λ (v : ℕ). 240 + c.args.own.samples * v ≤ 131308) (sym c.width_of-v.ensures.0) (fits (goal.at.After-width_of-v c).Start).wide
+wide : (g : Over) (c : After-width-width g) → 240 + c.args.own.samples * c.width-width.result ≤ 131308
+wide g c = subst (λ (v : ℕ). 240 + c.args.own.samples * v ≤ 131308) (sym (width_is g c)) (fits g (goal.at.After-width-width g c).Start).wide
 
-most : (c : After-width_of-v) → c.args.own.traces * (240 + c.args.own.samples * c.width_of-v.result) ≤ 100000 * 131308
-most c = subst (λ (v : ℕ). c.args.own.traces * (240 + c.args.own.samples * v) ≤ 100000 * 131308) (sym c.width_of-v.ensures.0) (fits (goal.at.After-width_of-v c).Start).size
+most : (g : Over) (c : After-width-width g) → c.args.own.traces * (240 + c.args.own.samples * c.width-width.result) ≤ 100000 * 131308
+most g c = subst (λ (v : ℕ). c.args.own.traces * (240 + c.args.own.samples * v) ≤ 100000 * 131308) (sym (width_is g c)) (fits g (goal.at.After-width-width g c).Start).size
 
-size : (c : After-width_of-v) → let a = c.args in 3600 + a.own.traces * (240 + a.own.samples * c.width_of-v.result) ≡ first_trace + a.own.traces * stride a.own.samples (sample_bytes a.code)
-size c = let a = c.args in ap (λ (v : ℕ). 3600 + a.own.traces * (240 + a.own.samples * v)) c.width_of-v.ensures.0
+size : (g : Over) (c : After-width-width g) → let a = c.args in 3600 + a.own.traces * (240 + a.own.samples * c.width-width.result) ≡ first_trace + a.own.traces * stride a.own.samples (sample_bytes a.code)
+size g c = let a = c.args in ap (λ (v : ℕ). 3600 + a.own.traces * (240 + a.own.samples * v)) (width_is g c)
 
-pub overflow_mul-w : goal.overflow_mul-w
-overflow_mul-w c = omega (arith, wide (goal.at.overflow_mul-w c).After-width_of-v)
+pub overflow_mul-size : goal.overflow_mul-size
+overflow_mul-size g c = omega (arith, wide g (goal.at.overflow_mul-size g c).After-width-width)
 
-pub overflow_add-w : goal.overflow_add-w
-overflow_add-w c = omega (arith, wide (goal.at.overflow_add-w c).After-width_of-v)
+pub overflow_add-size : goal.overflow_add-size
+overflow_add-size g c = omega (arith, wide g (goal.at.overflow_add-size g c).After-width-width)
 
 pub overflow_mul-length : goal.overflow_mul-length
-overflow_mul-length c = omega (arith, most (goal.at.overflow_mul-length c).After-width_of-v)
+overflow_mul-length g c = omega (arith, most g (goal.at.overflow_mul-length g c).After-width-width)
 
 pub overflow_add-length : goal.overflow_add-length
-overflow_add-length c = omega (arith, most (goal.at.overflow_add-length c).After-width_of-v)
+overflow_add-length g c = omega (arith, most g (goal.at.overflow_add-length g c).After-width-width)
 
 pub returns-then-reel-length : goal.returns-then-reel-length
-returns-then-reel-length c =
-    let s = (goal.at.returns-then-reel-length c).Start in
-    let a = s.args in
-    short_end a.near a.«record».now a.code a.own.samples a.own.traces a.reel.now (3600 + a.own.traces * (240 + a.own.samples * c.width_of-v.result)) (size (goal.at.returns-then-reel-length c).After-width_of-v) c.if-reel-length.true
-
-pub slice_bounds-put_reel-end : goal.slice_bounds-put_reel-end
-slice_bounds-put_reel-end c = c.if-reel-length.false
-
-pub slice_bounds-put_reel-end-2 : goal.slice_bounds-put_reel-end-2
-slice_bounds-put_reel-end-2 c =
+returns-then-reel-length g c =
     let a = c.args in
-    sym (length-take-le (3600 + a.own.traces * (240 + a.own.samples * c.width_of-v.result)) a.reel.now c.if-reel-length.false)
+    short_end g.W.Way.near a.«record».now a.code a.own.samples a.own.traces a.reel.now (3600 + a.own.traces * (240 + a.own.samples * c.width-width.result)) (size g (goal.at.returns-then-reel-length g c).After-width-width) c.if-reel-length.true
+
+pub overflow_cast-target : goal.overflow_cast-target
+overflow_cast-target g c = omega (arith, (fits g (goal.at.overflow_cast-target g c).Start).n_high)
 
 pub put_reel-count-requires : goal.put_reel-count-requires
-put_reel-count-requires c =
-    let s = (goal.at.put_reel-count-requires c).Start in
-    let a = s.args in
-    let f = fits s in
-    (f.a_code, c.width_of-v.ensures.0, refl, f.front, f.room, length-take-le (3600 + a.own.traces * (240 + a.own.samples * c.width_of-v.result)) a.reel.now c.if-reel-length.false)
-
-pub shape_of-reel : goal.shape_of-reel
-shape_of-reel c = c.reel-1.given.1
+put_reel-count-requires g c =
+    let a = c.args in
+    let f = fits g (goal.at.put_reel-count-requires g c).Start in
+    (f.front, f.room, length-take-le (3600 + a.own.traces * (240 + a.own.samples * c.width-width.result)) a.reel.now c.if-reel-length.false)
 
 pub returns : goal.returns
-returns c =
-    let s = (goal.at.returns c).Start in
-    let a = s.args in
-    taken_end a.near a.«record».now a.code a.own.samples a.own.traces a.reel.now (3600 + a.own.traces * (240 + a.own.samples * c.width_of-v.result)) (size (goal.at.returns c).After-width_of-v) _ _ c.put_reel-count.ensures.0 c.put_reel-count.ensures.1 c.if-reel-length.false
-
-pub overflow_cast-n : goal.overflow_cast-n
-overflow_cast-n c = omega (arith, (fits (goal.at.overflow_cast-n c).Start).n_high)
+returns g c =
+    let a = c.args in
+    let k = numbered g (goal.at.returns g c).After-unwrap-code in
+    taken_end g.W.Way.near a.«record».now a.code a.own.samples a.own.traces a.reel.now (3600 + a.own.traces * (240 + a.own.samples * c.width-width.result)) (size g (goal.at.returns g c).After-width-width) _ _
+    (c.put_reel-count.ensures.0 ∙ ap (λ (x : ℕ). traces_changed_at g.W.Way.near a.«record».now x a.own.samples a.own.traces 0) k)
+    (c.put_reel-count.ensures.1 ∙ ap (λ (x : ℕ). reel_copied g.W.Way.near a.«record».now x a.own.samples a.own.traces) k) c.if-reel-length.false

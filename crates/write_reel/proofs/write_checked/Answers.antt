@@ -1,5 +1,5 @@
 -- `write_reel::write_checked` meets its contract. Assumes nothing.
-use Rattle.std.proofs.Common.{◌≡◌, sym, ap, ◌∙◌, Result, Ok, Err, rules, arith}
+use Rattle.std.proofs.Common.{◌≡◌, sym, ap, ◌∙◌, Result, Err, rules, arith}
 use Rattle.fit.specs.Target.{target_causes}
 use Rattle.record.specs.Answer.{outcome, counted_outcome}
 use Rattle.record.specs.declared.Counted.{Counted}

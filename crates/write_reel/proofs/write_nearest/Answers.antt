@@ -1,5 +1,5 @@
 -- `write_reel::write_nearest` meets its contract. Assumes nothing.
-use Rattle.std.proofs.Common.{◌≡◌, sym, ◌∙◌, ap, not, rules, Err, arith}
+use Rattle.std.proofs.Common.{◌≡◌, sym, ◌∙◌, not, rules, Err, arith}
 use Rattle.numbers.specs.Cause.{Check, refuse_if, then}
 use Rattle.formats.specs.Codes.{is_code}
 use Rattle.record.specs.Form.{form_causes}

@@ -1,5 +1,5 @@
 -- `write_reel::write_reel` meets its contract. Assumes nothing.
-use Rattle.std.proofs.Common.{◌≡◌, sym, ◌∙◌, ap, rules, Err}
+use Rattle.std.proofs.Common.{◌≡◌, sym, ◌∙◌, rules, Err}
 use Rattle.fit.specs.Target.{target_causes}
 use Rattle.record.proofs.JudgedLaws.{refused_is}
 use Rattle.record.specs.Answer.{outcome}
