@@ -4,7 +4,7 @@
 ghost use Rattle.std.specs.Prelude.{◌≡◌};
 ghost use Rattle.code_page.specs.Page.{latin, inverse};
 
-// The character of each code, sixteen codes to a line, 00 to 0F first.
+// The character of each code, sixteen codes to a line, 00 to 0F first. A table of 256 bytes, as the project's law names it.
 const LATIN: [u8; 256] = *b"\
     \x00\x01\x02\x03\x9c\x09\x86\x7f\x97\x8d\x8e\x0b\x0c\x0d\x0e\x0f\
     \x10\x11\x12\x13\x9d\x85\x08\x87\x18\x19\x92\x8f\x1c\x1d\x1e\x1f\

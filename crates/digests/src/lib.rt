@@ -15,7 +15,7 @@ pub fn digest(bytes: &[u8]) -> u64
     d
 }
 
-// Fills an output with one byte.
+// Fills an output with one byte: the library's method, under the contract that the programs cite.
 pub fn fill(b: u8, out: &mut [u8])
     ensures { out.new ≡ replicate (length out.old) b }
 {

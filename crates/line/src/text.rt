@@ -1,7 +1,7 @@
 // A line of text, put together from its front.
 ghost use Rattle.line.specs.Front.{AtFront};
 
-// A line of at most 96 bytes, at the front of an array whose rest is 00.
+// A line of at most 96 bytes, at the front of an array whose rest is 00. It is no String, as the project uses no heap.
 #[derive(Drop)]
 pub struct Line {
     pub bytes: [u8; 96],

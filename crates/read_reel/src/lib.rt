@@ -213,7 +213,7 @@ pub fn read_reel(reel: &[u8], out: &mut [u8]) -> Result<Counted, Refusal>
     read_checked(reel, reel::judge_reel(reel)?, out)
 }
 
-// Reads an Eagle reel into the front of a record buffer.
+// Reads an Eagle reel into the front of a record buffer. A call of its own, as C has one for each layout.
 pub fn read_eagle(reel: &[u8], out: &mut [u8]) -> Result<Counted, Refusal>
     ensures { counted_outcome result out.new ≡ read_outcome_by Eagle reel.now out.old }
 {

@@ -23,7 +23,8 @@ fn put_sample(pair: Pair, out: &mut [u8])
     u32::of_signed(pair.m).put(&mut out[2..]);
 }
 
-// The samples of some words, by what makes a pair of a word.
+// The samples of some words, by what makes a pair of a word. The library doesn't say what a slice holds after `as_chunks_mut`, so each pair goes
+// to its place.
 fn put_samples<W: Copy, F: Fn(W) -> Pair>(words: &[W], pair_of_word: F, out: &mut [u8])
     requires callable { F.IsAlwaysCallable pair_of_word }
     requires room { length out.old ≡ length words.now * 6 }

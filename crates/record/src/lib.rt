@@ -243,7 +243,7 @@ pub fn stride_at(record: &[u8], n: u16, at: Place) -> usize
 }
 
 // 13 against the first of n pairs from a place on that isn't canonical; under a target code 13 or 14 against the first that has one, and 11
-// where the code is none.
+// where the code is none. A record's form is judged without a target, or with one: in one walk, so that nothing is looked at twice.
 #[tactic(auto, unfolding(crate::specs::Parts::pairs_by))]
 fn check_pairs(record: &[u8], target: Option<u32>, n: usize, at: usize) -> Result<(), Refusal>
     requires { at + n * 6 ≤ length «record».now }

@@ -18,7 +18,8 @@ use numbers::{ByteNo, Cause, Number, Place, Refusal};
 pub use own_numbers::Numbers;
 
 // The layouts of reels: plain, that of 1975; and Eagle, that of source document 004 (document 02, CR 7), where a trailer of 960 bytes stands
-// behind the samples of each trace, and columns 79 and 80 of card 40 hold a check.
+// behind the samples of each trace, and columns 79 and 80 of card 40 hold a check. One reader reads both: a match in the four places where they
+// differ is plainer than a type for each, over which all would be generic.
 #[derive(Clone, Copy, Debug, PartialEq, Eq)]
 pub enum Layout {
     Plain,
@@ -289,7 +290,7 @@ pub fn judge_reel(reel: &[u8]) -> Result<Numbers, Refusal>
     judge(Layout::Plain, reel)
 }
 
-// Whether a cause of 1 to 8, 18 and 20 applies to an Eagle reel, and its own numbers where none does.
+// Whether a cause of 1 to 8, 18 and 20 applies to an Eagle reel, and its own numbers where none does. A call of its own, likewise.
 pub fn judge_eagle(reel: &[u8]) -> Result<Numbers, Refusal>
     ensures is { judged result ≡ judged_by Eagle reel.now }
     ensures layout { IfOk result (λ own. own.layout ≡ Layout.Eagle) }

@@ -1,22 +1,28 @@
 -- An array of numbers of 32 signed bits, as a function is handed it, and its largest magnitude. Assumes nothing.
-use mathlib.Core.Path.{◌≡◌, refl, ap}
+use mathlib.Core.Path.{◌≡◌, refl, ap, ◌∙◌}
+use mathlib.Core.Bool.{Bool, true, ◌&&◌}
 use mathlib.Core.List.{List, [], ◌∷◌, map}
-use Prim.Native.Nat.{ℕ, suc, ◌-◌, ◌≤◌, ◌<◌, ◌^◌, max}
-use native.Mathlib.Nat.{max-le}
+use Prim.Native.Nat.{ℕ, zero, suc, ◌+◌, ◌-◌, ◌*◌, ◌≤◌, ◌<◌, ◌^◌, max}
+use native.Mathlib.Nat.{max-le, not-suc-le-zero}
 use native.Mathlib.Omega.{arith}
 use lib.IntN.{ℤ, pos, negsuc, nat_abs}
-use lib.Dec.{eqb}
+use lib.Dec.{ltb, eqb}
+use lib.ListN.{length, get_or}
 use lib.Signed.{mag}
 use native.Mathlib.Decide.{ℕ_discrete}
-use borrow.Author.Tests.{eq-eqb, ne_eqb}
-use mir.Syntax.{w16, w32}
-use mir.Val.{Val, SFits, of_z}
+use borrow.Author.Tests.{ltb-true, eq-eqb, ne_eqb}
+use mir.Syntax.{Width, w16, w32}
+use mir.Val.{Val, SFits, hbits, to_z, of_z}
+use mir.Facts.{to_z-of_z}
 use denote.Shadow.{shadow}
 use denote.Laws.{Is}
 use denote.Array.{Array, each}
 use denote.Signed.{SInt}
 use Rattle.std.specs.List.{fold, reduce}
 use Rattle.std.specs.Option.{unwrap_or}
+use Rattle.numbers.specs.Walk.{walk}
+use Rattle.numbers.proofs.BoolLaws.{and_true}
+use Rattle.numbers.proofs.WalkLaws.{walk_at}
 use Rattle.scalars.specs.Parts.{largest, Fit32}
 use Rattle.scalars.specs.Scalar.{same_number}
 
@@ -46,6 +52,22 @@ largest_from (n ∷ ns) m = omega (arith, largest_from ns (max m (nat_abs n)))
 pub largest_max : (ns : List ℤ) → unwrap_or (reduce max (map nat_abs ns)) 0 ≡ largest ns
 largest_max [] = refl
 largest_max (n ∷ ns) = largest_from ns (nat_abs n)
+
+-- each number of a table fits w signed bits
+abbrev fitting : Width → List ℤ → Bool
+fitting w [] = true
+fitting w (z ∷ zs) = ltb (mag z) (2 ^ hbits w) && fitting w zs
+
+entry_fits : (w : Width) (zs : List ℤ) → fitting w zs ≡ true → (j : ℕ) → j < length zs → SFits w (get_or zs j (pos 0))
+entry_fits w [] t j h = absurd (not-suc-le-zero h)
+entry_fits w (z ∷ zs) t zero h = record { sfits = ltb-true (mag z) (2 ^ hbits w) (and_true (ltb (mag z) (2 ^ hbits w)) (fitting w zs) t).0 }
+entry_fits w (z ∷ zs) t (suc j) h = entry_fits w zs (and_true (ltb (mag z) (2 ^ hbits w)) (fitting w zs) t).1 j (omega arith)
+
+-- a table of a number of w signed bits for each of the nine powers, as an entry of it is read
+pub at_power : (w : Width) (f : ℕ → ℤ) → fitting w (walk f 1 9 0) ≡ true → (q : ℕ) → q < 9 → to_z w (of_z w (get_or (walk f 1 9 0) q (pos 0))) ≡ f q
+at_power w f t q h =
+    let e : 0 + q * 1 ≡ q = omega arith in
+    to_z-of_z (entry_fits w (walk f 1 9 0) t q h) ∙ walk_at (pos 0) f 1 9 0 q h ∙ ap f e
 
 -- two numbers of 16 signed bits are the same where their bits are
 pub same_bits : (x y : ℤ) → SFits w16 x → SFits w16 y → eqb (of_z w16 x) (of_z w16 y) ≡ same_number x y

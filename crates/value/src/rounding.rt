@@ -110,7 +110,8 @@ impl Odd {
         placed(c, f, true)
     }
 
-    // The word of the nearest value in a format of sign and magnitude.
+    // The word of the nearest value in a format of sign and magnitude. This and the next stand beside those of exact writing, as the laws
+    // differ: a place is always found here. What both do alike is in `packed`, `complement` and `Code`.
     fn near_float(self, code: Code, y: u32) -> Rounded
         requires { Float (format code) 32 y }
         ensures { rounded result ≡ rounded_by (float_word (format code) 32 y) (format code) (worth self) }
