@@ -17,10 +17,9 @@ printf 'numbers:\nplaces: numbers\ncaller: places numbers\n' >"$room/crates.txt"
 compile() { # LINE
     cat >"$room/crates/caller/src/lib.rt" <<CALLER
 use numbers::ByteNo;
-use numbers::Located;
 use numbers::Place;
 
-pub fn count_field(header: Place, count: ByteNo) -> Located {
+pub fn count_field(header: Place, count: ByteNo) -> Option<Place> {
     $1
 }
 CALLER
@@ -32,7 +31,7 @@ compile 'places::place_of(header, count)' || {
     cat "$room/log"
     exit 1
 }
-for wrong in 'places::place_of(count, count)' 'Located::At(count)'; do
+for wrong in 'places::place_of(count, count)' 'Some(count)'; do
     if compile "$wrong"; then
         echo "byte_number_for_place: compiled: $wrong"
         exit 1
