@@ -5,6 +5,5 @@ pub mod GroupLaws
 pub mod Listed
 pub mod HeaderBytes
 pub mod CopiedLaws
-pub mod FromFn
 pub mod Inside
 pub mod Lowered

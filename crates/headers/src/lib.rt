@@ -127,7 +127,8 @@ pub fn read_header(reel: &[u8], n: u16, i: u16, at: Place, out: &mut [u8])
     let Some(out) = out.as_mut_array::<180>() else {
         return;
     };
-    *out = *header;
+    // As a slice: an array is copied by `memmove`, a name that who links for C may not have.
+    slices::copy(header, out);
     ELEVATIONS.lower(header, out);
     COORDINATES.lower(header, out);
     fill_field(header, ByteNo(115), n, out);

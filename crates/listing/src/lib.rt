@@ -116,9 +116,9 @@ fn put_record(bytes: &[u8; 256], record: &[u8], listing: &[u8], out: &mut [u8])
     requires { (binary_place ≤ length «record».now) × (length listing.now ≡ listing_length) × (length out.old ≡ length «record».now) }
     ensures { out.new ≡ with_text «record».now (text_by bytes.now listing.now) }
 {
-    out[..3].copy_from_slice(&record[..3]);
+    slices::copy(&record[..3], &mut out[..3]);
     put_parts(bytes, listing, 81, 80, &mut out[3..3203]);
-    out[3203..].copy_from_slice(&record[3203..]);
+    slices::copy(&record[3203..], &mut out[3203..]);
 }
 
 // Takes a listing back, by the table of card bytes.

@@ -1,9 +1,9 @@
 -- A number and its bytes determine each other, at every width. Assumes nothing.
-use Rattle.std.proofs.Common.{◌≡◌, ℕ, zero, suc, ◌+◌, ◌*◌, ◌/◌, ◌%◌, ◌^◌, ◌<◌, List, [], ◌∷◌, ◌++◌, length, get_or, sym, refl, ap, ◌∙◌, add-zero, add_assoc, mod-eq_of_lt, zero-lt-suc, mul_assoc, mul_comm, add-mul, pow-suc, zero-add, zero-mul, mul-one, div-one, arith, pow-add}
+use Rattle.std.proofs.Common.{◌≡◌, ℕ, zero, suc, ◌+◌, ◌*◌, ◌/◌, ◌%◌, ◌^◌, ◌<◌, List, [], ◌∷◌, ◌++◌, length, ◌==◌, get_or, sym, refl, ap, ◌∙◌, add-zero, add_assoc, mod-eq_of_lt, zero-lt-suc, eq-eqb, mul_assoc, mul_comm, add-mul, pow-suc, zero-add, zero-mul, mul-one, div-one, arith, pow-add}
 use native.Mathlib.Nat.{mod-one, div-div-eq-div-mul, one-le-pow, mul-add-div_right, mul-add-mod_self_right}
 use lib.Arith.{mod-mul, digits_div, digits_lt}
 use Rattle.numbers.proofs.WalkLaws.{all_at, cons_eq, size_bytes}
-use Rattle.numbers.specs.Walk.{walk, bytes_at}
+use Rattle.numbers.specs.Walk.{walk, pick, bytes_at}
 use Rattle.numbers.specs.BigEndian.{number_after, number, bytes_of}
 use Rattle.numbers.specs.Terms.{Bytes}
 
@@ -123,3 +123,7 @@ walk_append f (suc k) j at =
 pub bytes_append : (s : List ℕ) (at k j : ℕ) → bytes_at s at (k + j) ≡ bytes_at s at k ++ bytes_at s (at + k) j
 unfolding bytes_at
 bytes_append s at k j = walk_append (λ a. get_or s a 0) k j at
+
+-- the number of as many bytes as are asked for
+pub number_of_all : (l : List ℕ) (k : ℕ) {n : ℕ} → n ≡ pick (length l == k) (number l) 0 → length l ≡ k → n ≡ number l
+number_of_all l k h e = h ∙ rw (eq-eqb (length l) k e)

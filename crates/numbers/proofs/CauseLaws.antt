@@ -1,12 +1,26 @@
 -- The first cause, found a step at a time, and what follows where there is none.
 -- Assumes nothing.
-use Rattle.std.proofs.Common.{◌≡◌, ℕ, zero, suc, ◌+◌, ◌-◌, ◌*◌, ◌<◌, ◌≤◌, Bool, true, false, ltb, List, [], ◌∷◌, sym, refl, ap, ◌∙◌, not-suc-le-zero, arith, ltb-false}
+use Rattle.std.proofs.Common.{◌≡◌, ℕ, zero, suc, ◌+◌, ◌-◌, ◌*◌, ◌<◌, ◌≤◌, Bool, true, false, not, ltb, Result, Ok, Err, List, [], ◌∷◌, sym, refl, ap, ◌∙◌, not-suc-le-zero, arith, ltb-false}
 use Rattle.numbers.specs.Terms.{All}
-use Rattle.numbers.specs.Walk.{walk}
-use Rattle.numbers.specs.Cause.{refuse_if, then, first_of}
+use Rattle.numbers.specs.Walk.{walk, pick}
+use Rattle.numbers.specs.Cause.{cause_no, checked, refuse_if, then, first_of}
 use Rattle.numbers.specs.declared.Place.{Place}
+use Rattle.numbers.specs.declared.Refusal.{Refusal}
+use Rattle.numbers.specs.Places.{place_no}
 use Rattle.numbers.specs.Cause.{Check, Fine, Refused}
 use Rattle.numbers.proofs.WalkLaws.{walk_more, all_walk, at_zero, times_more}
+
+-- ## A test
+
+-- A test that answers with a refusal where it fails is the row of the table that refuses there, by the refusal's cause and place.
+pub checked_test : (b : Bool) (r : Refusal) → checked (pick b (Ok tt) (Err r)) ≡ refuse_if (not b) (cause_no r.cause) (place_no r.place)
+checked_test true r = refl
+checked_test false r = refl
+
+-- So is what such a test answered.
+pub checked_answer : (b : Bool) (r : Refusal) {answer : Result (Unit {0}) Refusal} → answer ≡ pick b (Ok tt) (Err r)
+    → checked answer ≡ refuse_if (not b) (cause_no r.cause) (place_no r.place)
+checked_answer b r e = ap checked e ∙ checked_test b r
 
 -- ## A step at a time
 

@@ -13,5 +13,6 @@ pub mod SignLaws
 pub mod Magnitudes
 pub mod Multiples
 pub mod FirstLaws
+pub mod FromFn
 pub mod PlaceLaws
 pub mod TableLaws

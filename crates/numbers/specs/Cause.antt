@@ -4,6 +4,7 @@ use Rattle.numbers.specs.declared.Cause.{Cause}
 use Rattle.numbers.specs.declared.Cause.TheVariants as cause
 use Rattle.numbers.specs.declared.Place.{Place}
 use Rattle.numbers.specs.declared.Refusal.{Refusal}
+use Rattle.numbers.specs.declared.Numbered.{Numbered}
 
 -- what a check finds: nothing against the input, or the first cause against it by its number, with the place that stands beside it
 pub data Check : Type 0 where
@@ -39,6 +40,10 @@ cause_no cause.BoxRule = 22
 abbrev pub checked : Result (Unit {0}) Refusal → Check
 checked (Ok v) = Fine
 checked (Err r) = Refused (cause_no r.cause) r.place
+
+-- a refusal by its cause's number
+abbrev pub numbered_by : Refusal → Numbered
+numbered_by r = record { number = cause_no r.cause; place = r.place }
 
 -- a row of the table: where the test is true, the input is refused by the row's number, with the place beside it
 abbrev pub refuse_if : Bool → ℕ → ℕ → Check

@@ -1,10 +1,11 @@
 // What every layer uses: the types of byte numbers and places, causes and refusals, numbers of bytes, two's complement.
 #![tactic(auto)]
 
-ghost use Rattle.std.specs.Prelude.{◌≡◌, ◌^◌, ◌≤◌, [], ◌∷◌, unsigned_abs, ℕ, ℤ, length, ◌*◌, ◌-◌};
+ghost use Rattle.std.specs.Prelude.{◌≡◌, ◌^◌, ◌≤◌, [], ◌∷◌, unsigned_abs, ℕ, ℤ, length, ◌*◌, ◌-◌, ◌==◌};
 ghost use Rattle.numbers.specs.BigEndian.{number, bytes_of};
+ghost use Rattle.numbers.specs.Walk.{pick, copy_of};
 ghost use Rattle.std.proofs.Common.{rules};
-ghost use Rattle.numbers.specs.Cause.{cause_no};
+ghost use Rattle.numbers.specs.Cause.{cause_no, numbered_by};
 ghost use Rattle.numbers.specs.TwosComplement.{signed_of, bits_of};
 
 // A byte number, document 01's own term: the standard's, counted from 1.
@@ -87,6 +88,46 @@ pub struct Refusal {
     pub place: Place,
 }
 
+// A refusal by any number, a cause's or none: the number, with the place that stands beside it.
+#[derive(Clone, Copy, Debug, PartialEq, Eq)]
+pub struct Numbered {
+    pub number: u8,
+    pub place: Place,
+}
+
+// What an input is refused with: it tells its number and the place beside it.
+pub trait Refuses: Copy {
+    ghost use Rattle.numbers.specs.declared.Numbered.{Numbered};
+
+    ghost numbered: { Self → Numbered };
+
+    // Its number, and the place beside it.
+    fn numbered(self) -> Numbered
+        ensures { result ≡ numbered self };
+}
+
+impl Refuses for Numbered {
+    ghost numbered = { λ r. r };
+
+    fn numbered(self) -> Numbered {
+        Numbered {
+            number: self.number,
+            place: self.place,
+        }
+    }
+}
+
+impl Refuses for Refusal {
+    ghost numbered = { numbered_by };
+
+    fn numbered(self) -> Numbered {
+        Numbered {
+            number: self.cause.number(),
+            place: self.place,
+        }
+    }
+}
+
 // A number of one, two or four bytes: its bytes, of which the first stands highest, and its bits in two's complement.
 pub trait Number: Copy {
     type Signed: Copy;
@@ -100,19 +141,17 @@ pub trait Number: Copy {
     // Its bytes.
     const SIZE: usize;
 
-    // The number of as many bytes.
+    // The number of as many bytes; of any other count of bytes it is 0.
     fn of_bytes(bytes: &[u8]) -> Self
-        requires { length bytes.now ≡ SIZE }
-        ensures { value result ≡ number bytes.now };
+        ensures { value result ≡ pick (length bytes.now == SIZE) (number bytes.now) 0 };
 
     // The number in the lowest bytes of another, as many as it has itself.
     fn of_low(bits: u32) -> Self
         ensures { bytes_of SIZE (value result) ≡ bytes_of SIZE bits };
 
-    // Stores the number's bytes.
+    // Stores the number in a slice of as many bytes. A slice of another length is left as it was.
     fn put(self, out: &mut [u8])
-        requires { length out.old ≡ SIZE }
-        ensures { out.new ≡ bytes_of SIZE (value self) };
+        ensures { out.new ≡ copy_of (bytes_of SIZE (value self)) out.old };
 
     // The signed number of these bits.
     fn signed(self) -> Self::Signed
@@ -142,15 +181,21 @@ impl Number for u8 {
     ghost integer = { λ z. z };
 
     fn of_bytes(bytes: &[u8]) -> u8 {
-        bytes[0]
+        match bytes.as_array::<1>() {
+            Some(bytes) => bytes[0],
+            None => 0,
+        }
     }
 
     fn of_low(bits: u32) -> u8 {
         (bits % 0x100) as u8
     }
 
+    #[tactic(auto, unfolding(crate::specs::Walk::copy_of))]
     fn put(self, out: &mut [u8]) {
-        out[0] = self;
+        if let Some(bytes) = out.as_mut_array::<1>() {
+            *bytes = [self];
+        }
     }
 
     fn signed(self) -> i8 {
@@ -184,13 +229,17 @@ impl Number for u16 {
     ghost integer = { λ z. z };
 
     fn of_bytes(bytes: &[u8]) -> u16 {
-        u16::from_be_bytes(*bytes.first_chunk::<2>().unwrap())
+        match bytes.as_array::<2>() {
+            Some(bytes) => u16::from_be_bytes(*bytes),
+            None => 0,
+        }
     }
 
     fn of_low(bits: u32) -> u16 {
         (bits % 0x1_0000) as u16
     }
 
+    #[tactic(auto, unfolding(crate::specs::Walk::copy_of))]
     fn put(self, out: &mut [u8]) {
         if let Some(bytes) = out.as_mut_array::<2>() {
             *bytes = self.to_be_bytes();
@@ -228,13 +277,17 @@ impl Number for u32 {
     ghost integer = { λ z. z };
 
     fn of_bytes(bytes: &[u8]) -> u32 {
-        u32::from_be_bytes(*bytes.first_chunk::<4>().unwrap())
+        match bytes.as_array::<4>() {
+            Some(bytes) => u32::from_be_bytes(*bytes),
+            None => 0,
+        }
     }
 
     fn of_low(bits: u32) -> u32 {
         bits
     }
 
+    #[tactic(auto, unfolding(crate::specs::Walk::copy_of))]
     fn put(self, out: &mut [u8]) {
         if let Some(bytes) = out.as_mut_array::<4>() {
             *bytes = self.to_be_bytes();

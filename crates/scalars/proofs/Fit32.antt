@@ -31,9 +31,9 @@ each_fits [] us s = tt
 each_fits (n ∷ ns) [] s = absurd s
 each_fits (n ∷ ns) (u ∷ us) s = (s.0.1, each_fits ns us s.1)
 
--- what a function is told of such an array on entry: each number fits
-pub array_fits : {k : ℕ} (ns : List ℤ) (vs : List Val) → Is (Array (SInt w32) k) ns vs → Fit32 ns
-array_fits ns vs p = each_fits ns p.0 p.1.1
+-- what a function is told of such an array on entry: how many there are, and that each fits
+pub array_fits : {k : ℕ} (ns : List ℤ) (vs : List Val) → Is (Array (SInt w32) k) ns vs → (length ns ≡ k) × Fit32 ns
+array_fits ns vs p = (p.1.0.1, each_fits ns p.0 p.1.1)
 
 -- the magnitude of a number of 32 signed bits is at most 2 ^ 31, and so is the largest
 one_fits : (n : ℤ) → mag n < 2 ^ 31 → nat_abs n ≤ 2 ^ 31

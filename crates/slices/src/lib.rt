@@ -1,12 +1,26 @@
 // Bytes in slices: numbers at a place, copies and stores, and whether parts fit.
 #![tactic(auto)]
 
-ghost use Rattle.std.specs.Prelude.{◌≡◌, ◌+◌, ◌*◌, leb, eqb, length};
+ghost use Rattle.std.specs.Prelude.{◌≡◌, ◌+◌, ◌*◌, leb, eqb, length, slice_index};
 ghost use Rattle.numbers.specs.Walk.{bytes_at, copy_of};
 ghost use Rattle.numbers.specs.BigEndian.{number, bytes_of};
 ghost use Rattle.numbers.specs.Places.{place_no};
 
 use numbers::{Number, Place};
+use std::array;
+
+// The byte k places behind another, 0 where the slice has none there.
+fn byte_after(s: &[u8], at: usize, k: usize) -> u8
+    ensures { result ≡ slice_index s.now (at + k) }
+{
+    if s.len() <= at {
+        return 0;
+    }
+    if s.len() - at <= k {
+        return 0;
+    }
+    s[at + k]
+}
 
 // The number in the bytes at a place; a byte that the slice doesn't have is 0.
 pub fn number_at<N: Number>(s: &[u8], at: Place) -> N
@@ -16,19 +30,19 @@ pub fn number_at<N: Number>(s: &[u8], at: Place) -> N
     if are_within(s.len(), N::SIZE, 1, p) {
         return N::of_bytes(&s[p..p + N::SIZE]);
     }
-    let mut bytes = [0u8; 8];
-    if p < s.len() {
-        bytes[..s.len() - p].copy_from_slice(&s[p..]);
-    }
+    let bytes: [u8; 8] = array::from_fn(|k| byte_after(s, p, k));
     N::of_bytes(&bytes[..N::SIZE])
 }
 
-// Copies a slice into another of the same length. One of another length is left as it was.
+// Copies a slice into another of the same length. One of another length is left as it was. The library's `copy_from_slice` asks for a name from
+// outside, `memcpy` or `memmove`, which who links for C may not have; of this loop the compiler makes vectors.
 pub fn copy(src: &[u8], out: &mut [u8])
     ensures { out.new ≡ copy_of src.now out.old }
 {
     if out.len() == src.len() {
-        out.copy_from_slice(src);
+        for i in 0..src.len() {
+            out[i] = src[i];
+        }
     }
 }
 

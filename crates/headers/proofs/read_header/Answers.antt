@@ -1,8 +1,9 @@
 -- `headers::read_header` meets its contract. Assumes nothing.
-use Rattle.std.proofs.Common.{◌≡◌, ◌∙◌, sym, ap, length, arith}
+use Rattle.std.proofs.Common.{rules, ◌≡◌, ◌∙◌, sym, ap, length, arith}
 use borrow.Author.Tests.{ne_eqb}
 use Rattle.numbers.proofs.BoolLaws.{and_false}
 use Rattle.numbers.proofs.ByteLaws.{all_bytes}
+use Rattle.numbers.proofs.WalkLaws.{copied}
 use Rattle.headers.specs.Header.{header_size, is_header, header_read}
 use Rattle.headers.specs.Parts.{group_lowered, field_filled}
 use Rattle.headers.proofs.CopiedLaws.{header_is, header_read_lem}
@@ -22,7 +23,9 @@ returns c =
     let a = c.args in
     let h = c.in-Some.header.now in
     let whole = c.in-Some.ensures in
-    let lowered : c.lower-2.new.out ≡ group_lowered 4 72 70 h (group_lowered 7 40 68 h h) = c.lower-2.ensures ∙ ap (group_lowered 4 72 70 h) c.lower.ensures in
+    let held : c.copy.new.out ≡ h = copied h _ c.copy.ensures (search rules) in
+    let lowered : c.lower-2.new.out ≡ group_lowered 4 72 70 h (group_lowered 7 40 68 h h) =
+    c.lower-2.ensures ∙ ap (group_lowered 4 72 70 h) (c.lower.ensures ∙ ap (group_lowered 7 40 68 h) held) in
     let filled : c.fill_field-2.new.out ≡ field_filled h a.i 0 117 (field_filled h a.n 0 115 (group_lowered 4 72 70 h (group_lowered 7 40 68 h h))) =
     c.fill_field-2.ensures ∙ ap (field_filled h a.i 0 117) (c.fill_field.ensures ∙ ap (field_filled h a.n 0 115) lowered) in
     let bytes = all_bytes a.reel.now (λ j. omega (arith, c.type_inv.reel j)) in

@@ -3,9 +3,9 @@ use Rattle.listing.specs.Parts.{text_by}
 use Rattle.listing.proofs.ListingLaws.{size_by, text_parts, close_all}
 use Rattle.record.specs.Form.{field_head, binary_place}
 use Rattle.numbers.proofs.Filling.{start, lend, size_over}
-use Rattle.numbers.proofs.WalkLaws.{bytes_part, size_bytes}
+use Rattle.numbers.proofs.WalkLaws.{bytes_part, copied, size_bytes}
 use Rattle.numbers.specs.Walk.{bytes_at}
-use Rattle.std.proofs.Common.{◌≡◌, ◌-◌, ◌++◌, length, sym, ap, ◌∙◌, arith}
+use Rattle.std.proofs.Common.{rules, ◌≡◌, ◌-◌, ◌++◌, length, sym, ap, ◌∙◌, arith}
 use Rattle.listing.proofs.put_record.Goals as goal
 
 pub returns : goal.returns
@@ -18,8 +18,8 @@ returns c =
     let y-size = size_by a.bytes.now a.listing.now in
     let parts = text_parts r y c.requires.0 y-size in
     let whole : length a.out.now ≡ length (x ++ (y ++ z)) = c.requires.2 ∙ sym (size_over r y field_head (omega (arith, y-size, c.requires.0))) ∙ ap length parts in
-    let front = c.copy_from_slice.ensures.after ∙ bytes_part r 0 field_head (omega (arith, c.requires.0)) in
-    let behind = c.copy_from_slice-2.ensures.after ∙ bytes_part r binary_place (length r - binary_place) (omega (arith, c.requires.0)) in
+    let front = copied _ _ c.copy.ensures (search rules) ∙ bytes_part r 0 field_head (omega (arith, c.requires.0)) in
+    let behind = copied _ _ c.copy-2.ensures (search rules) ∙ bytes_part r binary_place (length r - binary_place) (omega (arith, c.requires.0)) in
     let w₁ = lend x (y ++ z) field_head (start (x ++ (y ++ z)) a.out.now whole) (omega arith) (size_bytes r 0 field_head) front in
     let w₂ = lend y z binary_place w₁ (omega arith) y-size c.put_parts.ensures in
     close_all z w₂ behind ∙ sym parts

@@ -5,10 +5,6 @@ use Rattle.numbers.proofs.ByteLaws.{length_bytes}
 use Rattle.numbers.proofs.WalkLaws.{copied, left_alone}
 use Rattle.slices.proofs.put.Goals as goal
 
-pub returns-then-out-SIZE : goal.returns-then-out-SIZE
-returns-then-out-SIZE g c =
-    c.put.ensures ∙ sym (copied _ _ refl (c.if-out-SIZE.true ∙ c.SIZE.ensures ∙ sym (length_bytes g.N.Number.SIZE (g.N.Number.value c.args.n))))
-
 pub returns-else-out-SIZE : goal.returns-else-out-SIZE
 returns-else-out-SIZE g c =
     left_alone _ _ (λ e. c.if-out-SIZE.false (e ∙ length_bytes g.N.Number.SIZE (g.N.Number.value c.args.n) ∙ sym c.SIZE.ensures))

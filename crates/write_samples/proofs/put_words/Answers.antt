@@ -1,8 +1,9 @@
 -- `write_samples::put_words` meets its contract. Assumes nothing.
-use Rattle.std.proofs.Common.{[], get_or, refl, ap, ◌∙◌}
+use Rattle.std.proofs.Common.{rules, [], get_or, refl, ap, ◌∙◌}
 use Rattle.numbers.specs.BigEndian.{bytes_of}
 use Rattle.numbers.proofs.ByteLaws.{length_bytes}
 use Rattle.numbers.proofs.ChunkLaws.{part_more_by}
+use Rattle.numbers.proofs.WalkLaws.{copied}
 use Rattle.formats.specs.Words.{word_bits}
 use Rattle.value.specs.Pair.{pair_in}
 use Rattle.write_samples.proofs.PairLaws.{bits_found}
@@ -16,4 +17,4 @@ loop-i-preserved g c word h =
     let bits = c.unwrap_or-bits.ensures ∙ bits_found c.word_of.result ∙ ap word_bits (h _ _ c.word_of.ensures ∙ ap word c.of_bytes.ensures) in
     part_more_by (λ b. bytes_of k (word_bits (word (pair_in b)))) k (λ b. length_bytes k (word_bits (word (pair_in b)))) c.SIZE.result c.SIZE-in-loop-i.result c.SIZE.ensures c.SIZE-in-loop-i.ensures
     pairs l.i (get_or pairs l.i []) [] c.args.out.now l.out c.put.new.out c.loop-i-test.true refl (l.invariant word h)
-    (c.put.ensures ∙ c.of_low.ensures ∙ ap (bytes_of k) bits)
+    (copied (bytes_of k (g.N.Number.value c.of_low.result)) _ c.put.ensures (search (rules, length_bytes)) ∙ c.of_low.ensures ∙ ap (bytes_of k) bits)

@@ -5,7 +5,7 @@ use Rattle.numbers.specs.Places.{place_no, byte_no}
 use Rattle.numbers.specs.Walk.{walk}
 use Rattle.numbers.proofs.PlaceLaws.{field_place_lem}
 use Rattle.headers.specs.Parts.{number4, numbers_in}
-use Rattle.headers.proofs.FromFn.{made_at, walk_is}
+use Rattle.numbers.proofs.FromFn.{made_at, walk_is}
 use Rattle.headers.proofs.Group.numbers.Goals as goal
 
 pub returns : goal.returns
