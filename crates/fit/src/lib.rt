@@ -52,7 +52,11 @@ fn check_body(record: &[u8], code: u32, n: u16, i: u16) -> Result<(), Refusal>
 fn check_causes(record: &[u8], code: u32) -> Result<(), Refusal>
     ensures { checked result ≡ target_causes «record».now code }
 {
-    reel::check_code(code as usize, Cause::TargetCode, Place(0))?;
+    let refusal = Refusal {
+        cause: Cause::TargetCode,
+        place: Place(0),
+    };
+    reel::check_code(code as usize, refusal)?;
     record::check_front(record)?;
     let n = slices::number_at(record, places::field_at(Place(6), ByteNo(3221)));
     let i = slices::number_at(record, places::field_at(Place(6), ByteNo(3217)));

@@ -125,7 +125,7 @@ fn whole_format(w: u32) -> Format
     }
 }
 
-// Whether a number is a code. This and the next take every number: what they promise of those that are no code may not change.
+// Whether a number is a code. This and the next two take every number: what they promise of those that are no code may not change.
 pub fn is_code(code: usize) -> bool
     ensures { result ≡ is_code code }
 {
@@ -139,5 +139,21 @@ pub fn width_of(code: usize) -> usize
     match Code::of(code) {
         Some(c) => c.width(),
         None => 4,
+    }
+}
+
+// The format of a number, which for a number that is no code is one without characteristics.
+pub fn format_of(code: usize) -> Format
+    ensures { result ≡ format_of code }
+{
+    match Code::of(code) {
+        Some(c) => c.format(),
+        None => Format {
+            digit: 1,
+            fraction: 0,
+            characteristics: 0,
+            base: 0,
+            more: false,
+        },
     }
 }

@@ -1,11 +1,20 @@
 -- A line that is put together from its front. Assumes nothing.
-use Rattle.std.proofs.Common.{◌≡◌, ℕ, zero, suc, ◌+◌, ◌-◌, ◌*◌, ◌≤◌, ◌<◌, List, [], ◌∷◌, ◌++◌, length, get_or, take, drop, replicate, sym, ap, ap₂, ◌∙◌, append_assoc, add-one, arith, length-append, length-take, length-take-le, length-drop, drop-cons, drop_at, drop_of_length-le, take-append-drop}
+use Rattle.std.proofs.Common.{◌≡◌, ℕ, zero, suc, ◌+◌, ◌-◌, ◌*◌, ◌≤◌, ◌<◌, List, [], ◌∷◌, ◌++◌, length, get_or, take, drop, replicate, Result, Ok, Err, refl, sym, ap, ap₂, ◌∙◌, append_assoc, add-one, arith, length-append, length-take, length-take-le, length-drop, drop-cons, drop_at, drop_of_length-le, take-append-drop}
 use borrow.Rule.Slice.PartMut.{put_mid}
 use lib.Seq.{drop-nil}
 use Rattle.line.specs.Front.{AtFront}
-use Rattle.line.specs.Line.{item_of, items_of, Padded, padded, printed, text_of}
+use Rattle.numbers.specs.Cause.{numbered_by}
+use Rattle.numbers.specs.declared.Refusal.{Refusal}
+use Rattle.record.specs.Answer.{counted_by}
+use Rattle.record.specs.declared.Counted.{Counted}
+use Rattle.line.specs.Line.{counted_as, item_of, items_of, Padded, padded, printed, text_of}
 use Rattle.line.specs.declared.text.Line.{Line}
 use Rattle.line.proofs.DecimalLaws.{decimal_size}
+
+-- An answer that is refused by a cause says the same by the cause's number.
+pub counted_same : (answer : Result Counted Refusal) → counted_as numbered_by answer ≡ counted_by answer
+counted_same (Ok a) = refl
+counted_same (Err r) = refl
 
 -- The text of a line has the line's length.
 pub text_size : (line : Line) → length (text_of line) ≡ line.length

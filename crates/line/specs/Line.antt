@@ -1,7 +1,10 @@
 -- The program's line, in ASCII: a word, then each number after one space, then 0A.
-use Rattle.std.specs.Prelude.{ℕ, ◌-◌, List, [], ◌∷◌, ◌++◌, length, take, replicate, ltb}
+use Rattle.std.specs.Prelude.{ℕ, ◌-◌, List, [], ◌∷◌, ◌++◌, length, take, replicate, ltb, Result, Ok, Err}
 use Rattle.numbers.specs.Outcome.{Said, taken, refused}
 use Rattle.numbers.specs.Walk.{pick}
+use Rattle.numbers.specs.Places.{place_no}
+use Rattle.numbers.specs.declared.Numbered.{Numbered}
+use Rattle.record.specs.declared.Counted.{Counted}
 use Rattle.read_reel.specs.Reading.{read_outcome}
 use Rattle.line.specs.Decimal.{decimal_of}
 use Rattle.line.specs.declared.text.Line.{Line}
@@ -27,6 +30,12 @@ refused_word = 114 ∷ 101 ∷ 102 ∷ 117 ∷ 115 ∷ 101 ∷ 100 ∷ []
 abbrev pub line_of : Said → List ℕ
 line_of (taken values) = taken_word ++ items_of values
 line_of (refused number beside) = refused_word ++ items_of (number ∷ beside ∷ [])
+
+-- What an answer with a count says that may be refused by any number: taken with T, N, the length and the count; refused with the number
+-- that the refusal tells and what stands beside it. Of a refusal by a cause it is what `counted_by` says.
+abbrev pub counted_as : {R : Type 0} → (R → Numbered) → Result Counted R → Said
+counted_as numbered (Ok a) = taken (a.traces ∷ a.samples ∷ a.length ∷ a.count ∷ [])
+counted_as numbered (Err r) = refused (numbered r).number (place_no (numbered r).place)
 
 -- `too long` and 0A: the line of longer input.
 abbrev pub too_long : List ℕ

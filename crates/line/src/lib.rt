@@ -2,12 +2,11 @@
 #![tactic(auto)]
 
 ghost use Rattle.std.specs.Prelude.{◌≡◌, ◌+◌, ◌*◌, ◌≤◌, ◌++◌, length};
-ghost use Rattle.record.specs.Answer.{counted_by};
-ghost use Rattle.line.specs.Line.{items_of, line_of, too_long, text_of, printed, padded, program_line, program_out};
+ghost use Rattle.line.specs.Line.{items_of, line_of, counted_as, too_long, text_of, printed, padded, program_line, program_out};
 
 mod text;
 
-use numbers::Refusal;
+use numbers::Refuses;
 use record::Counted;
 pub use text::Line;
 
@@ -26,13 +25,16 @@ fn line_with(word: &[u8], numbers: &[usize]) -> Line
 }
 
 // The line of an answer: `taken`, T, N, the record's length and the count, or `refused`, the number and
-// what stands beside it in the table.
-pub fn line_of(answer: Result<Counted, Refusal>) -> Line
-    ensures { printed result ≡ padded (line_of (counted_by answer)) }
+// what stands beside it in the table. The number may be any: that of a cause, or one that no cause has.
+pub fn line_of<R: Refuses>(answer: Result<Counted, R>) -> Line
+    ensures { printed result ≡ padded (line_of (counted_as R.numbered answer)) }
 {
     match answer {
         Ok(a) => line_with(b"taken", &[a.traces, a.samples, a.length, a.count]),
-        Err(r) => line_with(b"refused", &[r.cause.number() as usize, r.place.0]),
+        Err(r) => {
+            let by = r.numbered();
+            line_with(b"refused", &[by.number as usize, by.place.0])
+        }
     }
 }
 

@@ -126,15 +126,19 @@ fn check_numbers(i: u16, n: u16, code: u16) -> Result<(), Refusal>
         i as usize,
         1,
         32767,
-        Cause::RecordNumber,
-        places::field_at(Place(6), ByteNo(3217)),
+        Refusal {
+            cause: Cause::RecordNumber,
+            place: places::field_at(Place(6), ByteNo(3217)),
+        },
     )?;
     reel::check_limits(
         n as usize,
         1,
         32767,
-        Cause::RecordNumber,
-        places::field_at(Place(6), ByteNo(3221)),
+        Refusal {
+            cause: Cause::RecordNumber,
+            place: places::field_at(Place(6), ByteNo(3221)),
+        },
     )?;
     check_same(code, 0, places::field_at(Place(6), ByteNo(3225)))
 }

@@ -1,8 +1,8 @@
 // A reel's causes, 1 to 9, 18, 19 and 20, and its own numbers: of a plain reel, and of an Eagle reel, whose traces end with a trailer.
 #![tactic(auto)]
 
-ghost use Rattle.std.specs.Prelude.{◌≡◌, ◌+◌, ◌-◌, ◌*◌, ◌/◌, ◌%◌, ◌^◌, ◌<◌, ◌≤◌, eqb, length, not, IfOk};
-ghost use Rattle.numbers.specs.Walk.{walk};
+ghost use Rattle.std.specs.Prelude.{◌≡◌, ◌+◌, ◌-◌, ◌*◌, ◌/◌, ◌%◌, ◌^◌, ◌<◌, ◌≤◌, eqb, length, not, Ok, Err, IfOk};
+ghost use Rattle.numbers.specs.Walk.{walk, pick};
 ghost use Rattle.numbers.specs.Cause.{checked, cause_no, refuse_if, then, first_of};
 ghost use Rattle.numbers.specs.Places.{place_no, byte_no, byte_place};
 ghost use Rattle.formats.specs.Codes.{is_code, sample_bytes};
@@ -35,21 +35,15 @@ fn binary_number(reel: &[u8], b: ByteNo) -> usize
     slices::number_at::<u16>(reel, places::field_at(Place(0), b)) as usize
 }
 
-// A cause that applies where a number is outside its limits.
-pub fn check_limits(
-    n: usize,
-    least: usize,
-    most: usize,
-    cause: Cause,
-    place: Place,
-) -> Result<(), Refusal>
-    ensures { checked result ≡ refuse_if (not (within least most n)) (cause_no cause) (place_no place) }
+// A refusal where a number is outside its limits: the one that was handed in, be it by a cause or by any other number.
+pub fn check_limits<E: Drop>(n: usize, least: usize, most: usize, refusal: E) -> Result<(), E>
+    ensures { result ≡ pick (within least most n) (Ok tt) (Err refusal) }
 {
     if n < least {
-        return Err(Refusal { cause, place });
+        return Err(refusal);
     }
     if most < n {
-        return Err(Refusal { cause, place });
+        return Err(refusal);
     }
     Ok(())
 }
@@ -86,14 +80,14 @@ fn check_scalar(reel: &[u8], at: usize, b: ByteNo) -> Result<(), Refusal>
     })
 }
 
-// A cause that applies where a number is no code: 2 for a reel's, 11 for a target.
-pub fn check_code(code: usize, cause: Cause, place: Place) -> Result<(), Refusal>
-    ensures { checked result ≡ refuse_if (not (is_code code)) (cause_no cause) (place_no place) }
+// A refusal where a number is no code: the one that was handed in, by the cause 2 for a reel's, 11 for a target, or by any other number.
+pub fn check_code<E: Drop>(code: usize, refusal: E) -> Result<(), E>
+    ensures { result ≡ pick (is_code code) (Ok tt) (Err refusal) }
 {
     if formats::is_code(code) {
         return Ok(());
     }
-    Err(Refusal { cause, place })
+    Err(refusal)
 }
 
 // 2: the format code of an Eagle reel isn't 1.
@@ -115,7 +109,13 @@ fn check_allowed(layout: Layout, code: usize) -> Result<(), Refusal>
 {
     let place = places::field_at(Place(0), ByteNo(3225));
     match layout {
-        Layout::Plain => check_code(code, Cause::FormatCode, place),
+        Layout::Plain => check_code(
+            code,
+            Refusal {
+                cause: Cause::FormatCode,
+                place,
+            },
+        ),
         Layout::Eagle => check_one(code, place),
     }
 }
@@ -125,10 +125,24 @@ fn check_header(layout: Layout, code: usize, n: usize, i: usize) -> Result<(), R
     ensures { checked result ≡ limit_causes_by layout code n i }
 {
     check_allowed(layout, code)?;
-    let samples = places::field_at(Place(0), ByteNo(3221));
-    check_limits(n, 1, 32767, Cause::SampleCount, samples)?;
-    let interval = places::field_at(Place(0), ByteNo(3217));
-    check_limits(i, 1, 32767, Cause::Interval, interval)
+    check_limits(
+        n,
+        1,
+        32767,
+        Refusal {
+            cause: Cause::SampleCount,
+            place: places::field_at(Place(0), ByteNo(3221)),
+        },
+    )?;
+    check_limits(
+        i,
+        1,
+        32767,
+        Refusal {
+            cause: Cause::Interval,
+            place: places::field_at(Place(0), ByteNo(3217)),
+        },
+    )
 }
 
 // 5 and 6: the bytes behind the last whole trace, and the count of traces.

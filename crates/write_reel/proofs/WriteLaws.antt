@@ -12,6 +12,8 @@ use Rattle.numbers.specs.Terms.{Bytes}
 use Rattle.numbers.specs.Walk.{pick}
 use Rattle.numbers.specs.Cause.{refuse_if, then}
 use Rattle.numbers.specs.Outcome.{Said, taken, refused, Outcome}
+use Rattle.numbers.specs.Places.{place_no}
+use Rattle.numbers.specs.declared.Place.{Place}
 use Rattle.std.proofs.Common.{Ok, Err}
 use Rattle.numbers.specs.declared.Cause.TheVariants as cause
 use Rattle.numbers.specs.Cause.{Check}
@@ -93,8 +95,14 @@ without_count o = record { said = drop_count o.said; bytes = o.bytes }
     drop_count (refused number place) = refused number place
 
 module _ (s : List ℕ) (code : ℕ) (out : List ℕ) where
+  -- a record that is refused, by whatever number: the number and the place, and what was lent as it was
+  pub refused_by_number : (number : ℕ) (place : Place) → target_causes s code ≡ check.Refused number place
+      → ◌≡◌ {A = Outcome} (record { said = refused number (place_no place); bytes = out }) (write_outcome s code out)
+  refused_by_number number place e = rw e
+
+  -- the same of a refusal, by its cause
   pub refused_end : (r : Refusal) → target_causes s code ≡ check.Refused (cause_no r.cause) r.place → outcome (Err r) out ≡ write_outcome s code out
-  refused_end r e = rw e
+  refused_end r e = refused_by_number (cause_no r.cause) r.place e
 
   -- a record that can be written under the code is valid
   pub own_form : (n t : ℕ) → Own s (target_causes s code) n t → (is_code code ≡ true) × Own s (form_causes s) n t
@@ -141,8 +149,12 @@ module _ (s : List ℕ) (code : ℕ) (out : List ℕ) where
   abbrev too_short : Check
   too_short = refuse_if (ltb (length out) (reel_length_of s code)) 10 (reel_length_of s code)
 
+  pub nearest_refused_by_number : (number : ℕ) (place : Place) → before ≡ check.Refused number place
+      → ◌≡◌ {A = Outcome} (record { said = refused number (place_no place); bytes = out }) (nearest_outcome s code out)
+  nearest_refused_by_number number place e = sym (ap (nearest_end s code out) (causes too_short ∙ ap (λ (c : Check). then c too_short) e))
+
   pub nearest_call_refused : (r : Refusal) → before ≡ check.Refused (cause_no r.cause) r.place → counted_outcome (Err r) out ≡ nearest_outcome s code out
-  nearest_call_refused r e = sym (ap (nearest_end s code out) (causes too_short ∙ ap (λ (c : Check). then c too_short) e))
+  nearest_call_refused r e = nearest_refused_by_number (cause_no r.cause) r.place e
 
   pub own_valid : (n t : ℕ) → Own s before n t → (is_code code ≡ true) × Own s (form_causes s) n t
   own_valid n t o =

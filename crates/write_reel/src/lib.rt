@@ -221,7 +221,11 @@ pub fn write_reel(record: &[u8], code: u32, reel: &mut [u8]) -> Result<Taken, Re
 fn judge_target_and_form(record: &[u8], code: u32) -> Result<Numbers, Refusal>
     ensures { judged result ≡ record_found «record».now (then (refuse_if (not (is_code code)) 11 0) (form_causes «record».now)) }
 {
-    reel::check_code(code as usize, Cause::TargetCode, Place(0))?;
+    let refusal = Refusal {
+        cause: Cause::TargetCode,
+        place: Place(0),
+    };
+    reel::check_code(code as usize, refusal)?;
     record::judge_record(record)
 }
 

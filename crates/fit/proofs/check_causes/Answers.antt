@@ -7,7 +7,7 @@ use Rattle.fit.specs.Parts.{fit_from}
 use Rattle.record.specs.Parts.{form_from}
 use Rattle.reel.specs.Causes.{most_traces}
 use Rattle.formats.specs.Codes.{is_code}
-use Rattle.numbers.proofs.CauseLaws.{then_stop, passed}
+use Rattle.numbers.proofs.CauseLaws.{checked_answer, then_stop, passed}
 use Rattle.numbers.specs.Cause.{checked, then}
 use Rattle.numbers.specs.Places.{place_no, field_place}
 use Rattle.numbers.specs.declared.Place.{Place}
@@ -18,13 +18,13 @@ use Rattle.fit.proofs.check_causes.Goals.{In_ok-check_code}
 use Rattle.fit.proofs.check_causes.Goals as goal
 
 a_code : (c : In_ok-check_code) → is_code c.args.code ≡ true
-a_code c = not-false (is_code c.args.code) (passed (not (is_code c.args.code)) 11 0 (sym c.in_ok-check_code.ensures))
+a_code c = not-false (is_code c.args.code) (passed (not (is_code c.args.code)) 11 0 (sym (checked_answer (is_code c.args.code) _ c.in_ok-check_code.ensures)))
 
 pub returns-in_err-check_code : goal.returns-in_err-check_code
 unfolding target_causes
 returns-in_err-check_code c =
     let q : checked c.from_residual.result ≡ checked (Err c.in_err-check_code.field-0.0) = search rules in
-    let e = c.in_err-check_code.ensures in
+    let e = checked_answer (is_code c.args.code) _ c.in_err-check_code.ensures in
     q ∙ e ∙ then_stop _ _ (sym e)
 
 pub returns-in_err-check_front : goal.returns-in_err-check_front

@@ -1,6 +1,8 @@
 -- `write_reel::judge_target_and_form` meets its contract. Assumes nothing.
 use Rattle.std.proofs.Common.{◌≡◌, ap, ◌∙◌, rules, List, ℕ}
+use Rattle.formats.specs.Codes.{is_code}
 use Rattle.numbers.specs.Cause.{Check, then, cause_no}
+use Rattle.numbers.proofs.CauseLaws.{checked_answer}
 use Rattle.record.specs.Form.{form_causes, record_found}
 use Rattle.record.specs.Judged.{Judged, judged, Refused}
 use Rattle.write_reel.proofs.judge_target_and_form.Goals as goal
@@ -14,8 +16,8 @@ unfolding behind
 returns-in_err-check_code c =
     let e = c.in_err-check_code.field-0.0 in
     let q : judged c.from_residual.result ≡ Refused (cause_no e.cause) e.place = search rules in
-    q ∙ ap (behind c.args.«record».now) c.in_err-check_code.ensures
+    q ∙ ap (behind c.args.«record».now) (checked_answer (is_code c.args.code) _ c.in_err-check_code.ensures)
 
 pub returns : goal.returns
 unfolding behind
-returns c = c.judge_record.ensures ∙ ap (behind c.args.«record».now) c.in_ok-check_code.ensures
+returns c = c.judge_record.ensures ∙ ap (behind c.args.«record».now) (checked_answer (is_code c.args.code) _ c.in_ok-check_code.ensures)
