@@ -1,7 +1,7 @@
 -- What is known of an input that is cut short, and how a run over cases ends.
 use Rattle.std.specs.Prelude.{◌≡◌, ℕ, ◌<◌, ◌^◌, ◌-◌, ◌⊎◌, List, length, Option, None, Some, ⊤, Result, Ok, Err}
 use Rattle.std.specs.Int.{w32, from_be_bytes}
-use Rattle.std.specs.Io.KnownBytes.{Consumes}
+use Rattle.std.specs.Io.KnownBytes.{Consumes, IsAtEnd}
 use Rattle.std.specs.declared.io.Error.{Error}
 use Rattle.cases.specs.declared.Stop.{Stop}
 use Rattle.cases.specs.declared.Stop.TheVariants.{AtEnd, BadCase, Failed}
@@ -29,3 +29,7 @@ Stops (Failed e) result = result ≡ Err e
 -- A run ends behind n cases: the next one stops it, or no run takes so many.
 abbrev pub Follows : {F : Type 0} → (F → Result (Unit {0}) Stop → F → Type 0) → ℕ → F → Result (Unit {0}) Error → Type 0
 Follows {F} step n last result = ((stop : Stop) × (after : F) × step last (Err stop) after × Stops stop result) ⊎ ((n ≡ 2 ^ 64 - 1) × (result ≡ Ok tt))
+
+-- A case says that the run is at its end only where the input, with these known bytes left before the case, has ended.
+abbrev pub EndsWithInput : Option (List ℕ) → Result (Unit {0}) Stop → Type 0
+EndsWithInput known answer = answer ≡ Err AtEnd → IsAtEnd known

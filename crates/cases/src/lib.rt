@@ -1,15 +1,18 @@
 // Running the cases of an input one after another, as the programs do that run vectors.
 #![tactic(auto)]
 
-ghost use Rattle.std.specs.Prelude.{◌≡◌, ℕ, ◌<◌, ◌≤◌, ◌↔◌, length, take, replicate, IsOk, IfOk, IfErr, OnOk, IsErrOf, Err};
+ghost use Rattle.std.specs.Prelude.{◌≡◌, ℕ, ◌<◌, ◌≤◌, ◌↔◌, length, take, replicate, IsOk, IfOk, IfErr, OnOk, IsErrOf, Err, Result, Some};
 ghost use Rattle.std.specs.Io.KnownBytes.{Consumes, IsAtEnd};
 ghost use Rattle.std.specs.List.{FoldsTo};
 ghost use Rattle.cases.specs.Cases.{HasFewer, IsCutShort, ConsumesLength, Follows};
+ghost use Rattle.cases.specs.Refused.{refused_text};
+ghost use Rattle.cases.specs.declared.Stop.{Stop};
 ghost use Rattle.cases.specs.declared.Stop.TheVariants.{BadCase, Failed};
+ghost use Rattle.digests.specs.Digest.{digest_of};
 
 use numbers::Refusal;
-use std::io;
 use std::io::Read;
+use std::{fmt, io};
 
 // Why a run over cases stops.
 #[derive(Drop)]
@@ -77,18 +80,23 @@ pub fn read_length<R: Read>(input: &mut R) -> Result<usize, Stop>
     Ok(u32::from_be_bytes(bytes) as usize)
 }
 
+// What has cases to run, one after another.
+pub trait Cases {
+    // What running the next case answers, and what is left behind it.
+    ghost step: { Self → Result (Unit {0}) Stop → Self → Type 0 };
+
+    // Runs the next case, or says why the run stops.
+    fn run_next(&mut self, rt: &impl Print) -> Result<(), Stop>
+        ensures { step self.old result self.new };
+}
+
 // Runs cases until one of them stops the run, and answers what is no case with that line.
 // A proved loop has to end, and nothing says that the input does. So the loop counts its turns, up to a number that no run reaches.
-pub fn run_cases<F: FnMut() -> Result<(), Stop>>(
-    rt: &impl Print,
-    bad: &str,
-    mut case: F,
-) -> io::Result<()>
-    requires { F.IsAlwaysCallable case }
-    ensures { (n : ℕ) × (last : F) × FoldsTo F.step case (replicate n (Ok tt)) last × Follows F.step n last result }
+pub fn run_cases<C: Cases + Drop>(rt: &impl Print, bad: &str, mut cases: C) -> io::Result<()>
+    ensures { (n : ℕ) × (last : C) × FoldsTo C.step cases (replicate n (Ok tt)) last × Follows C.step n last result }
 {
     for _ in 0..u64::MAX {
-        match case() {
+        match cases.run_next(rt) {
             Ok(()) => {}
             Err(Stop::AtEnd) => return Ok(()),
             Err(Stop::BadCase) => return println!(rt; "{bad}"),
@@ -98,9 +106,30 @@ pub fn run_cases<F: FnMut() -> Result<(), Stop>>(
     Ok(())
 }
 
-// Prints the line of a call that is refused: its number, the place beside it, and the digest of the whole output.
-pub fn print_refused(rt: &impl Print, refusal: Refusal, out: &[u8]) -> io::Result<()> {
-    let number = refusal.cause.number();
-    let place = refusal.place.0;
-    println!(rt; "refused {number} {place} {}", digests::digest(out))
+// The line of a call that is refused: its refusal, and the digest of the whole output.
+#[derive(Clone, Copy)]
+pub struct RefusedLine {
+    pub refusal: Refusal,
+    pub digest: u64,
+}
+
+impl fmt::Display for RefusedLine {
+    ghost output = { λ line. Some (refused_text line) };
+
+    fn fmt<W: fmt::Write>(&self, f: &mut fmt::Formatter<W>) -> fmt::Result {
+        let number = self.refusal.cause.number();
+        let place = self.refusal.place.0;
+        let digest = self.digest;
+        write!(f, "refused {number} {place} {digest}")
+    }
+}
+
+// The line of a call that is refused and left these bytes in its output.
+pub fn refused_line(refusal: Refusal, out: &[u8]) -> RefusedLine
+    ensures { result ≡ record { refusal = refusal; digest = digest_of out.now } }
+{
+    RefusedLine {
+        refusal,
+        digest: digests::digest(out),
+    }
 }

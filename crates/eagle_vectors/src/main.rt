@@ -15,7 +15,11 @@
 // or of another call, is answered by `bad case`, and is the last.
 #![tactic(auto)]
 
-use cases::Stop;
+ghost use Rattle.std.specs.Prelude.{◌≡◌, IfErr};
+ghost use Rattle.cases.specs.Cases.{EndsWithInput};
+ghost use Rattle.cases.specs.declared.Stop.TheVariants.{BadCase};
+
+use cases::{Cases, Stop};
 use numbers::Refusal;
 use record::Counted;
 use std::io;
@@ -31,7 +35,9 @@ enum Call {
 impl TryFrom<u8> for Call {
     type Error = Stop;
 
-    fn try_from(byte: u8) -> Result<Call, Stop> {
+    fn try_from(byte: u8) -> Result<Call, Stop>
+        ensures { IfErr result (λ stop. stop ≡ BadCase) }
+    {
         match byte {
             1 => Ok(Call::ReadPlain),
             2 => Ok(Call::ReadEagle),
@@ -54,30 +60,42 @@ fn print_answer(rt: &impl Print, answer: Result<Counted, Refusal>, out: &[u8]) -
             "taken {traces} {samples} {length} {count} {}",
             digests::digest(out)
         ),
-        Err(refusal) => cases::print_refused(rt, refusal, out),
+        Err(refusal) => println!(rt; "{}", cases::refused_line(refusal, out)),
     }
 }
 
-// Reads a case and runs it.
-fn run_case(rt: &impl Print, input: &mut impl Read) -> Result<(), Stop> {
-    let [call]: [u8; 1] = cases::read_first(input)?;
-    let room = cases::read_length(input)?;
-    let size = cases::read_length(input)?;
-    let mut reel = [0; 210000];
-    let mut out = [0; 210000];
-    let reel = cases::front(&mut reel, size)?;
-    let out = cases::front(&mut out, room)?;
-    cases::read_part(input, reel)?;
-    digests::fill(0xa5, out);
-    let answer = match Call::try_from(call)? {
-        Call::ReadPlain => read_reel::read_reel(reel, out),
-        Call::ReadEagle => read_reel::read_eagle(reel, out),
-    };
-    print_answer(rt, answer, out)?;
-    Ok(())
+// The vectors that an input holds.
+#[derive(Drop)]
+struct Vectors<R> {
+    input: R,
+}
+
+impl<R: Read> Cases for Vectors<R> {
+    // The run is at its end only where the input is.
+    ghost step = { λ old answer _. EndsWithInput (R.remaining old.input) answer };
+
+    // Reads a case and runs it.
+    fn run_next(&mut self, rt: &impl Print) -> Result<(), Stop> {
+        let input = &mut self.input;
+        // In front of what may stop the run: behind it the compiler sets the buffers to 00 twice a case.
+        let mut reel = [0; 210000];
+        let mut out = [0; 210000];
+        let [call]: [u8; 1] = cases::read_first(input)?;
+        let room = cases::read_length(input)?;
+        let size = cases::read_length(input)?;
+        let reel = cases::front(&mut reel, size)?;
+        let out = cases::front(&mut out, room)?;
+        cases::read_part(input, reel)?;
+        digests::fill(0xa5, out);
+        let answer = match Call::try_from(call)? {
+            Call::ReadPlain => read_reel::read_reel(reel, out),
+            Call::ReadEagle => read_reel::read_eagle(reel, out),
+        };
+        print_answer(rt, answer, out)?;
+        Ok(())
+    }
 }
 
 fn main(rt: HostRuntime) -> io::Result<()> {
-    let mut input = rt.reader();
-    cases::run_cases(&rt, "bad case", || run_case(&rt, &mut input))
+    cases::run_cases(&rt, "bad case", Vectors { input: rt.reader() })
 }

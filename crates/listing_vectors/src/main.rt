@@ -19,7 +19,11 @@
 // call 3 with another length than 8, is answered by `bad case`, and is the last.
 #![tactic(auto)]
 
-use cases::Stop;
+ghost use Rattle.std.specs.Prelude.{◌≡◌, IfErr, IsErrOf};
+ghost use Rattle.cases.specs.Cases.{EndsWithInput};
+ghost use Rattle.cases.specs.declared.Stop.TheVariants.{BadCase};
+
+use cases::{Cases, Stop};
 use numbers::Refusal;
 use record::Taken;
 use std::io;
@@ -36,7 +40,9 @@ enum Call {
 impl TryFrom<u8> for Call {
     type Error = Stop;
 
-    fn try_from(byte: u8) -> Result<Call, Stop> {
+    fn try_from(byte: u8) -> Result<Call, Stop>
+        ensures { IfErr result (λ stop. stop ≡ BadCase) }
+    {
         match byte {
             1 => Ok(Call::List),
             2 => Ok(Call::TakeBack),
@@ -50,7 +56,7 @@ impl TryFrom<u8> for Call {
 fn print_listed(rt: &impl Print, answer: Result<usize, Refusal>, out: &[u8]) -> io::Result<()> {
     match answer {
         Ok(length) => println!(rt; "taken {length} {}", digests::digest(out)),
-        Err(refusal) => cases::print_refused(rt, refusal, out),
+        Err(refusal) => println!(rt; "{}", cases::refused_line(refusal, out)),
     }
 }
 
@@ -67,12 +73,14 @@ fn print_taken(rt: &impl Print, answer: Result<Taken, Refusal>, out: &[u8]) -> i
             "taken {traces} {samples} {length} {}",
             digests::digest(out)
         ),
-        Err(refusal) => cases::print_refused(rt, refusal, out),
+        Err(refusal) => println!(rt; "{}", cases::refused_line(refusal, out)),
     }
 }
 
 // Prints the line of eight card bytes that are blanked. Another number of bytes is no case.
-fn print_blanked(rt: &impl Print, card_bytes: &[u8]) -> Result<(), Stop> {
+fn print_blanked(rt: &impl Print, card_bytes: &[u8]) -> Result<(), Stop>
+    ensures { ¬ IsErrOf result Stop.AtEnd }
+{
     let eight = card_bytes.as_array().ok_or(Stop::BadCase)?;
     println!(rt;
         "blanked {}",
@@ -81,30 +89,41 @@ fn print_blanked(rt: &impl Print, card_bytes: &[u8]) -> Result<(), Stop> {
     Ok(())
 }
 
-// Reads a case and runs it.
-fn run_case(rt: &impl Print, input: &mut impl Read) -> Result<(), Stop> {
-    let [call]: [u8; 1] = cases::read_first(input)?;
-    let room = cases::read_length(input)?;
-    let record_size = cases::read_length(input)?;
-    let listing_size = cases::read_length(input)?;
-    let mut record = [0; 210000];
-    let mut listing = [0; 210000];
-    let mut out = [0; 210000];
-    let record = cases::front(&mut record, record_size)?;
-    let listing = cases::front(&mut listing, listing_size)?;
-    let out = cases::front(&mut out, room)?;
-    cases::read_part(input, record)?;
-    cases::read_part(input, listing)?;
-    digests::fill(0xa5, out);
-    match Call::try_from(call)? {
-        Call::List => print_listed(rt, listing::list_cards(record, out), out)?,
-        Call::TakeBack => print_taken(rt, listing::take_cards(record, listing, out), out)?,
-        Call::Blank => print_blanked(rt, record)?,
+// The vectors that an input holds.
+#[derive(Drop)]
+struct Vectors<R> {
+    input: R,
+}
+
+impl<R: Read> Cases for Vectors<R> {
+    // The run is at its end only where the input is.
+    ghost step = { λ old answer _. EndsWithInput (R.remaining old.input) answer };
+
+    // Reads a case and runs it.
+    fn run_next(&mut self, rt: &impl Print) -> Result<(), Stop> {
+        let input = &mut self.input;
+        let [call]: [u8; 1] = cases::read_first(input)?;
+        let room = cases::read_length(input)?;
+        let record_size = cases::read_length(input)?;
+        let listing_size = cases::read_length(input)?;
+        let mut record = [0; 210000];
+        let mut listing = [0; 210000];
+        let mut out = [0; 210000];
+        let record = cases::front(&mut record, record_size)?;
+        let listing = cases::front(&mut listing, listing_size)?;
+        let out = cases::front(&mut out, room)?;
+        cases::read_part(input, record)?;
+        cases::read_part(input, listing)?;
+        digests::fill(0xa5, out);
+        match Call::try_from(call)? {
+            Call::List => print_listed(rt, listing::list_cards(record, out), out)?,
+            Call::TakeBack => print_taken(rt, listing::take_cards(record, listing, out), out)?,
+            Call::Blank => print_blanked(rt, record)?,
+        }
+        Ok(())
     }
-    Ok(())
 }
 
 fn main(rt: HostRuntime) -> io::Result<()> {
-    let mut input = rt.reader();
-    cases::run_cases(&rt, "bad case", || run_case(&rt, &mut input))
+    cases::run_cases(&rt, "bad case", Vectors { input: rt.reader() })
 }

@@ -15,7 +15,9 @@
 // All numbers are decimal. A case that is cut short, or longer than 100,000, is answered by `bad case`, and is the last.
 #![tactic(auto)]
 
-use cases::Stop;
+ghost use Rattle.cases.specs.Cases.{EndsWithInput};
+
+use cases::{Cases, Stop};
 use compare::RefusedRecord;
 use std::cmp::Ordering;
 use std::io;
@@ -34,21 +36,32 @@ fn print_answer(rt: &impl Print, answer: Result<Ordering, RefusedRecord>) -> io:
     }
 }
 
-// Reads a case and runs it.
-fn run_case(rt: &impl Print, input: &mut impl Read) -> Result<(), Stop> {
-    let first_size = u32::from_be_bytes(cases::read_first(input)?) as usize;
-    let second_size = cases::read_length(input)?;
-    let mut first = [0; 100000];
-    let mut second = [0; 100000];
-    let first = cases::front(&mut first, first_size)?;
-    let second = cases::front(&mut second, second_size)?;
-    cases::read_part(input, first)?;
-    cases::read_part(input, second)?;
-    print_answer(rt, compare::compare_records(first, second))?;
-    Ok(())
+// The vectors that an input holds.
+#[derive(Drop)]
+struct Vectors<R> {
+    input: R,
+}
+
+impl<R: Read> Cases for Vectors<R> {
+    // The run is at its end only where the input is.
+    ghost step = { λ old answer _. EndsWithInput (R.remaining old.input) answer };
+
+    // Reads a case and runs it.
+    fn run_next(&mut self, rt: &impl Print) -> Result<(), Stop> {
+        let input = &mut self.input;
+        let first_size = u32::from_be_bytes(cases::read_first(input)?) as usize;
+        let second_size = cases::read_length(input)?;
+        let mut first = [0; 100000];
+        let mut second = [0; 100000];
+        let first = cases::front(&mut first, first_size)?;
+        let second = cases::front(&mut second, second_size)?;
+        cases::read_part(input, first)?;
+        cases::read_part(input, second)?;
+        print_answer(rt, compare::compare_records(first, second))?;
+        Ok(())
+    }
 }
 
 fn main(rt: HostRuntime) -> io::Result<()> {
-    let mut input = rt.reader();
-    cases::run_cases(&rt, "bad case", || run_case(&rt, &mut input))
+    cases::run_cases(&rt, "bad case", Vectors { input: rt.reader() })
 }

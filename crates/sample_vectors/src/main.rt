@@ -13,9 +13,10 @@
 // `bad line`.
 #![tactic(auto)]
 
-ghost use Rattle.std.specs.Prelude.{◌≤◌, IfSome};
+ghost use Rattle.std.specs.Prelude.{◌≡◌, ◌*◌, ◌≤◌, length, IfSome};
+ghost use Rattle.cases.specs.Cases.{EndsWithInput};
 
-use cases::Stop;
+use cases::{Cases, Stop};
 use numbers::Refusal;
 use std::io;
 use std::io::Read;
@@ -67,44 +68,81 @@ fn request_of(line: [u8; 24]) -> Option<Request> {
     }
 }
 
-// The number and the place of a reply, both 0 where the sample is taken.
-fn number_and_place<T: Copy>(answer: Result<T, Refusal>) -> (u8, usize) {
-    match answer {
+// The hexadecimal digits, by their values.
+const DIGITS: [u8; 16] = *b"0123456789abcdef";
+
+// Spells bytes in a reply, two digits a byte.
+fn put_digits(bytes: &[u8], out: &mut [u8])
+    requires { length out.old ≡ 2 * length bytes.now }
+{
+    for (i, byte) in bytes.iter().enumerate() {
+        out[2 * i] = DIGITS[usize::from(byte / 16)];
+        out[2 * i + 1] = DIGITS[usize::from(byte % 16)];
+    }
+}
+
+// A reply with its number and its place, both 0 where the sample is taken, and dashes for what is handed out.
+fn reply_of<T: Copy>(answer: Result<T, Refusal>) -> [u8; 36] {
+    let (number, place) = match answer {
         Ok(_) => (0, 0),
         Err(refusal) => (refusal.cause.number(), refusal.place.0),
-    }
+    };
+    let mut reply = *b"000 0000000000000000 ------------ -\n";
+    reply[0] = b'0' + number / 100;
+    reply[1] = b'0' + number / 10 % 10;
+    reply[2] = b'0' + number % 10;
+    put_digits(&place.to_be_bytes(), &mut reply[4..20]);
+    reply
+}
+
+// Prints a reply.
+fn send(rt: &impl Print, reply: &[u8; 36]) -> io::Result<()> {
+    rt.write_all(reply)
 }
 
 // Prints the reply to reading a word, with its count: 1 where the word is not normal, and 0 of a refused one.
 fn print_read(rt: &impl Print, code: u32, word: [u8; 4]) -> io::Result<()> {
     let read = sample::read_word(code, word);
-    let [a, b, c, d, e, f] = read.pair;
-    let pair = u64::from_be_bytes([0, 0, a, b, c, d, e, f]);
-    let (number, place) = number_and_place(read.answer);
-    let count = u8::from(read.answer.unwrap_or(false));
-    println!(rt; "{number:03} {place:016x} {pair:012x} {count}")
+    let mut reply = reply_of(read.answer);
+    put_digits(&read.pair, &mut reply[21..33]);
+    reply[34] = if read.answer.unwrap_or(false) {
+        b'1'
+    } else {
+        b'0'
+    };
+    send(rt, &reply)
 }
 
 // Prints the reply to writing a pair, which has no count.
 fn print_written(rt: &impl Print, code: u32, pair: [u8; 6]) -> io::Result<()> {
     let written = sample::write_pair(code, pair);
-    let word = u32::from_be_bytes(written.word);
-    let (number, place) = number_and_place(written.answer);
-    println!(rt; "{number:03} {place:016x} {word:08x}---- -")
+    let mut reply = reply_of(written.answer);
+    put_digits(&written.word, &mut reply[21..29]);
+    send(rt, &reply)
 }
 
-// Reads a line and answers it.
-fn run_line(rt: &impl Print, input: &mut impl Read) -> Result<(), Stop> {
-    match request_of(cases::read_first(input)?) {
-        Some(Request::Read { code, word }) => print_read(rt, code, word)?,
-        Some(Request::Write { code, pair }) => print_written(rt, code, pair)?,
-        None => println!(rt; "bad line")?,
+// The vectors that an input holds.
+#[derive(Drop)]
+struct Vectors<R> {
+    input: R,
+}
+
+impl<R: Read> Cases for Vectors<R> {
+    // The run is at its end only where the input is.
+    ghost step = { λ old answer _. EndsWithInput (R.remaining old.input) answer };
+
+    // Reads a line and answers it.
+    fn run_next(&mut self, rt: &impl Print) -> Result<(), Stop> {
+        match request_of(cases::read_first(&mut self.input)?) {
+            Some(Request::Read { code, word }) => print_read(rt, code, word)?,
+            Some(Request::Write { code, pair }) => print_written(rt, code, pair)?,
+            None => println!(rt; "bad line")?,
+        }
+        Ok(())
     }
-    Ok(())
 }
 
 // A line that is cut short is the last.
 fn main(rt: HostRuntime) -> io::Result<()> {
-    let mut input = rt.reader();
-    cases::run_cases(&rt, "bad line", || run_line(&rt, &mut input))
+    cases::run_cases(&rt, "bad line", Vectors { input: rt.reader() })
 }

@@ -18,7 +18,11 @@
 // nearest is answered by `bad case`, and is the last; a written reel that isn't read again, by `not read`.
 #![tactic(auto)]
 
-use cases::Stop;
+ghost use Rattle.std.specs.Prelude.{◌≡◌, IfErr};
+ghost use Rattle.cases.specs.Cases.{EndsWithInput};
+ghost use Rattle.cases.specs.declared.Stop.TheVariants.{BadCase};
+
+use cases::{Cases, Stop};
 use record::{Counted, Taken};
 use std::io;
 use std::io::Read;
@@ -33,7 +37,9 @@ enum Way {
 impl TryFrom<u8> for Way {
     type Error = Stop;
 
-    fn try_from(byte: u8) -> Result<Way, Stop> {
+    fn try_from(byte: u8) -> Result<Way, Stop>
+        ensures { IfErr result (λ stop. stop ≡ BadCase) }
+    {
         match byte {
             0 => Ok(Way::Exact),
             1 => Ok(Way::Nearest),
@@ -79,7 +85,7 @@ fn write(
                 print!(rt; "taken {traces} {samples} {length}")?;
                 print_reel(rt, length, out, again)
             }
-            Err(refusal) => cases::print_refused(rt, refusal, out),
+            Err(refusal) => println!(rt; "{}", cases::refused_line(refusal, out)),
         },
         Way::Nearest => match write_reel::write_nearest(record, code, out) {
             Ok(
@@ -93,35 +99,46 @@ fn write(
                 print!(rt; "taken {traces} {samples} {length} {count}")?;
                 print_reel(rt, length, out, again)
             }
-            Err(refusal) => cases::print_refused(rt, refusal, out),
+            Err(refusal) => println!(rt; "{}", cases::refused_line(refusal, out)),
         },
     }
 }
 
-// Reads a case and runs it.
-fn run_case(rt: &impl Print, input: &mut impl Read) -> Result<(), Stop> {
-    let [way, code]: [u8; 2] = cases::read_first(input)?;
-    let room = cases::read_length(input)?;
-    let size = cases::read_length(input)?;
-    let mut record = [0; 210000];
-    let mut out = [0; 210000];
-    let mut again = [0; 210000];
-    let record = cases::front(&mut record, size)?;
-    let out = cases::front(&mut out, room)?;
-    cases::read_part(input, record)?;
-    digests::fill(0xa5, out);
-    write(
-        rt,
-        Way::try_from(way)?,
-        u32::from(code),
-        record,
-        out,
-        &mut again,
-    )?;
-    Ok(())
+// The vectors that an input holds.
+#[derive(Drop)]
+struct Vectors<R> {
+    input: R,
+}
+
+impl<R: Read> Cases for Vectors<R> {
+    // The run is at its end only where the input is.
+    ghost step = { λ old answer _. EndsWithInput (R.remaining old.input) answer };
+
+    // Reads a case and runs it.
+    fn run_next(&mut self, rt: &impl Print) -> Result<(), Stop> {
+        let input = &mut self.input;
+        let [way, code]: [u8; 2] = cases::read_first(input)?;
+        let room = cases::read_length(input)?;
+        let size = cases::read_length(input)?;
+        let mut record = [0; 210000];
+        let mut out = [0; 210000];
+        let mut again = [0; 210000];
+        let record = cases::front(&mut record, size)?;
+        let out = cases::front(&mut out, room)?;
+        cases::read_part(input, record)?;
+        digests::fill(0xa5, out);
+        write(
+            rt,
+            Way::try_from(way)?,
+            u32::from(code),
+            record,
+            out,
+            &mut again,
+        )?;
+        Ok(())
+    }
 }
 
 fn main(rt: HostRuntime) -> io::Result<()> {
-    let mut input = rt.reader();
-    cases::run_cases(&rt, "bad case", || run_case(&rt, &mut input))
+    cases::run_cases(&rt, "bad case", Vectors { input: rt.reader() })
 }

@@ -1,5 +1,5 @@
 -- One more turn, that answered the same.
-use Rattle.std.proofs.Common.{ℕ, ◌+◌, replicate, subst, of_calls}
+use Rattle.std.proofs.Common.{ℕ, ◌+◌, replicate, subst, rules}
 use Rattle.std.proofs.lemmas.Fn.{FoldsTo-push}
 use Rattle.std.proofs.lemmas.List.{replicate_more}
 use Rattle.std.specs.List.{FoldsTo}
@@ -9,4 +9,4 @@ FoldsTo-replicate_more : {F A : Type 0} (step : F → A → F → Type 0) (n : �
 FoldsTo-replicate_more step n a f g h before last = subst (λ l. FoldsTo step f l h) (replicate_more n a) (FoldsTo-push step f (replicate n a) g a h before last)
 
 pub loop-preserved : goal.loop-preserved
-loop-preserved g c = (search of_calls, FoldsTo-replicate_more _ _ _ _ _ _ c.loop.invariant.1 c.in-Ok.ensures)
+loop-preserved g c = FoldsTo-replicate_more _ _ _ _ _ _ c.loop.invariant (search rules)

@@ -1,9 +1,8 @@
--- It may still be called, and was called once for each turn, each time for a case that went well.
+-- A case was run for each turn, each time one that went well.
 use Rattle.std.proofs.Common.{replicate}
-use denote.Param.Always.{always_mut}
 use Rattle.std.specs.List.{FoldsTo}
 use Rattle.std.specs.Prelude.{Ok}
 use Rattle.cases.proofs.run_cases.Given as goal
 
 abbrev pub invariant-loop : goal.invariant-loop
-invariant-loop g l = always_mut g.F.FnMut l.case × FoldsTo (goal.F-step g) l.initial.case (replicate l.counter (Ok tt)) l.case
+invariant-loop g l = FoldsTo g.C.Cases.step l.initial.cases (replicate l.counter (Ok tt)) l.cases
