@@ -4,7 +4,7 @@ use mathlib.Core.Path.{◌≡◌, refl, sym, ap, ◌∙◌, subst}
 use mathlib.Core.Logic.{⊎_elim}
 use mathlib.Core.List.{List, [], ◌∷◌}
 use mathlib.Core.Bool.{Bool, true, false, ◌&&◌}
-use Prim.Native.Nat.{ℕ, zero, suc, ◌+◌, ◌≤◌, ◌<◌}
+use Prim.Native.Nat.{ℕ, zero, suc, ◌+◌, ◌%◌, ◌≤◌, ◌<◌}
 use native.Mathlib.Nat.{eq-or-lt_of_le}
 use native.Mathlib.Omega.{arith}
 use borrow.Author.Tests.{leb-true, eqb-true, lt-leb, lt-ltb, le-ltb}
@@ -18,20 +18,31 @@ use Rattle.look_up.specs.Parts.{in_row, width_of, the_field}
 
 -- ## A test of each field
 
--- a field of two bytes or more that begins at lo or behind it and ends before hi
+-- a field of two or four bytes that begins at lo or behind it and ends before hi
 pub record Lies (lo hi b w : ℕ) : Type 0 where
   pub low : lo ≤ b
   pub high : b + w ≤ hi
   pub least : 2 ≤ w
+  pub most : w ≤ 4
+  pub even : w % 2 ≡ 0
 
 abbrev lies_in : ℕ → ℕ → Field → Bool
-lies_in lo hi f = leb lo f.begins && (leb (f.begins + f.width) hi && leb 2 f.width)
+lies_in lo hi f =
+    leb lo f.begins && (leb (f.begins + f.width) hi && (leb 2 f.width && (leb f.width 4 && eqb (f.width % 2) 0)))
 
 lies_true : (lo hi : ℕ) (f : Field) → lies_in lo hi f ≡ true → Lies lo hi f.begins f.width
 lies_true lo hi f e =
     let p = and_true (leb lo f.begins) _ e in
     let q = and_true (leb (f.begins + f.width) hi) _ p.1 in
-    record { low = leb-true _ _ p.0; high = leb-true _ _ q.0; least = leb-true _ _ q.1 }
+    let r = and_true (leb 2 f.width) _ q.1 in
+    let s = and_true (leb f.width 4) _ r.1 in
+    record {
+      low = leb-true _ _ p.0;
+      high = leb-true _ _ q.0;
+      least = leb-true _ _ r.0;
+      most = leb-true _ _ s.0;
+      even = eqb-true _ _ s.1;
+    }
 
 abbrev each_lies : ℕ → ℕ → List Field → Bool
 each_lies lo hi [] = true
@@ -178,7 +189,7 @@ told_in k b = go (eqb k 0)
     wider h l t =
         record {
           is = t.is;
-          lies = λ p. let y = t.lies p in record { low = omega (arith, y.low); high = omega (arith, y.high); least = y.least };
+          lies = λ p. let y = t.lies p in record { low = omega (arith, y.low); high = omega (arith, y.high); least = y.least; most = y.most; even = y.even };
           missing = t.missing;
         }
 

@@ -161,7 +161,7 @@ fn put_fields(layout: Layout, reel: &[u8], out: &mut [u8])
     put_tag(1, 3200, &mut out[0..3]);
     put_text(layout, reel, &mut out[3..3203]);
     put_tag(2, 60, &mut out[3203..3206]);
-    out[3206..3266].copy_from_slice(&reel[3200..3260]);
+    slices::copy(&reel[3200..3260], &mut out[3206..3266]);
 }
 
 // The same, the format code replaced by 0. Byte number 1 would stand at the place 6 of the record.

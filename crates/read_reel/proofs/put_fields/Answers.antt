@@ -4,8 +4,9 @@ use Rattle.record.proofs.HeaderLaws.{size_text}
 use Rattle.read_reel.specs.Copied.{tag_bytes, fields_copied}
 use Rattle.reel.specs.Meaning.{card_text_by}
 use Rattle.numbers.proofs.Filling.{start, lend, close}
-use Rattle.numbers.proofs.WalkLaws.{bytes_between, size_bytes}
+use Rattle.numbers.proofs.WalkLaws.{bytes_between, copied, size_bytes}
 use Rattle.numbers.specs.Walk.{bytes_at}
+use Rattle.std.proofs.Common.{rules}
 use lib.ListN.{length}
 use mathlib.Core.List.{◌++◌}
 use mathlib.Core.Path.{refl, sym, ap, ◌∙◌}
@@ -23,7 +24,7 @@ returns c =
     let w₁ = lend (tag_bytes 1 3200) (text ++ (tag_bytes 2 60 ++ z)) 3 w₀ (omega arith) refl c.put_tag.ensures in
     let w₂ = lend text (tag_bytes 2 60 ++ z) 3203 w₁ (omega arith) (size_text b.args.layout s) c.put_text.ensures in
     let w₃ = lend (tag_bytes 2 60) z 3206 w₂ (omega arith) refl c.put_tag-2.ensures in
-    close z 3266 w₃ (omega arith) (size_bytes s 3200 60) (c.copy_from_slice.ensures.after ∙ bytes_between s 3200 3260 60 (omega (arith, b.requires.0)) refl)
+    close z 3266 w₃ (omega arith) (size_bytes s 3200 60) (copied _ _ c.copy.ensures (search rules) ∙ bytes_between s 3200 3260 60 (omega (arith, b.requires.0)) refl)
 
 pub shape_of-out : goal.shape_of-out
 shape_of-out c =

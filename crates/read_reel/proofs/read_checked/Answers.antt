@@ -11,10 +11,10 @@ use Rattle.read_reel.proofs.read_checked.Goals as goal
 owns : (c : Start) → let o = c.args.own in Own o.layout c.args.reel.now o.code o.samples o.interval o.width o.stride o.traces
 owns c = own c.args.own.layout c.args.reel.now (sym c.requires)
 
-fits : (c : Start) → let o = c.args.own in Fit c.args.reel.now o.samples o.stride o.traces
+fits : (c : Start) → let o = c.args.own in Fit c.args.reel.now o.code o.samples o.interval o.width o.stride o.traces
 fits c =
     let o = c.args.own in
-    fit o.layout c.args.reel.now o.code o.samples o.interval o.width o.stride o.traces o.samples_most (owns c)
+    fit o.layout c.args.reel.now o.code o.samples o.interval o.width o.stride o.traces (owns c)
 
 -- the record's length, by the bytes of a trace
 lengths : (c : After-trace_length) → 3273 + c.args.own.traces * c.trace_length.result ≡ record_length c.args.own.traces c.args.own.samples
