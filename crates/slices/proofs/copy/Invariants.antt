@@ -1,5 +1,5 @@
 -- The bytes before i are copied, those behind are still to come.
-use Rattle.std.proofs.Common.{length, drop}
+use Rattle.std.proofs.Common.{drop}
 use Rattle.numbers.proofs.Filling.{Filling}
 use Rattle.slices.proofs.copy.Given as goal
 

@@ -1,8 +1,7 @@
 -- `slices::put` meets its contract. Assumes nothing.
-use Rattle.std.proofs.Common.{sym, refl, ◌∙◌, ◌≡◌, length}
-use Rattle.numbers.specs.BigEndian.{bytes_of}
+use Rattle.std.proofs.Common.{sym, ◌∙◌}
 use Rattle.numbers.proofs.ByteLaws.{length_bytes}
-use Rattle.numbers.proofs.WalkLaws.{copied, left_alone}
+use Rattle.numbers.proofs.WalkLaws.{left_alone}
 use Rattle.slices.proofs.put.Goals as goal
 
 pub returns-else-out-SIZE : goal.returns-else-out-SIZE
