@@ -14,7 +14,7 @@ use Rattle.numbers.specs.Cause.{refuse_if, then}
 use Rattle.numbers.specs.Outcome.{Said, taken, refused, Outcome}
 use Rattle.numbers.specs.Places.{place_no}
 use Rattle.numbers.specs.declared.Place.{Place}
-use Rattle.std.proofs.Common.{Ok, Err}
+use Rattle.std.proofs.Common.{Result, Ok, Err}
 use Rattle.numbers.specs.declared.Cause.TheVariants as cause
 use Rattle.numbers.specs.Cause.{Check}
 use Rattle.numbers.specs.Cause as check
@@ -32,7 +32,7 @@ use Rattle.record.specs.Judged as judged
 use Rattle.numbers.specs.declared.Refusal.{Refusal}
 use Rattle.numbers.specs.Cause.{cause_no}
 use Rattle.record.proofs.FormLaws.{count_most, headed, held_length}
-use Rattle.record.proofs.JudgedLaws.{Own}
+use Rattle.record.proofs.JudgedLaws.{Own, refused_is}
 use Rattle.fit.proofs.FitLaws.{target_form}
 use Rattle.write_reel.specs.Reel.{reel_of, reel_length}
 use Rattle.write_reel.specs.Writing.{reel_length_of, write_causes, write_end, write_outcome}
@@ -104,6 +104,10 @@ module _ (s : List ℕ) (code : ℕ) (out : List ℕ) where
   pub refused_end : (r : Refusal) → target_causes s code ≡ check.Refused (cause_no r.cause) r.place → outcome (Err r) out ≡ write_outcome s code out
   refused_end r e = refused_by_number (cause_no r.cause) r.place e
 
+  -- the same of a record that was judged
+  pub write_refused : (r : Refusal) → judged.judged (Err r) ≡ record_found s (target_causes s code) → outcome (Err r) out ≡ write_outcome s code out
+  write_refused r e = refused_end r (refused_is s (target_causes s code) (sym e))
+
   -- a record that can be written under the code is valid
   pub own_form : (n t : ℕ) → Own s (target_causes s code) n t → (is_code code ≡ true) × Own s (form_causes s) n t
   unfolding target_causes
@@ -155,6 +159,14 @@ module _ (s : List ℕ) (code : ℕ) (out : List ℕ) where
 
   pub nearest_call_refused : (r : Refusal) → before ≡ check.Refused (cause_no r.cause) r.place → counted_outcome (Err r) out ≡ nearest_outcome s code out
   nearest_call_refused r e = nearest_refused_by_number (cause_no r.cause) r.place e
+
+  -- behind a code that was found to be one, what the record's own judging finds
+  pub behind_code : (r : Refusal) → ◌≡◌ {A = Result (Unit {0}) Refusal} (Ok tt) (pick (is_code code) (Ok tt) (Err r)) → record_found s before ≡ record_judged s
+  behind_code r e = ap (λ (b : Bool). record_found s (then (refuse_if (not b) 11 0) (form_causes s))) (is_one (is_code code) e)
+    where
+      is_one : (b : Bool) → ◌≡◌ {A = Result (Unit {0}) Refusal} (Ok tt) (pick b (Ok tt) (Err r)) → b ≡ true
+      is_one true p = refl
+      is_one false p = cc
 
   pub own_valid : (n t : ℕ) → Own s before n t → (is_code code ≡ true) × Own s (form_causes s) n t
   own_valid n t o =

@@ -210,6 +210,7 @@ fn write_checked(record: &[u8], code: u32, own: Numbers, reel: &mut [u8]) -> Res
 }
 
 // Writes a record under a target code as a reel, into the front of a reel buffer.
+#[tactic(auto, using(crate::proofs::WriteLaws::write_refused))]
 pub fn write_reel(record: &[u8], code: u32, reel: &mut [u8]) -> Result<Taken, Refusal>
     ensures { outcome result reel.new ≡ write_outcome «record».now code reel.old }
 {
@@ -218,6 +219,7 @@ pub fn write_reel(record: &[u8], code: u32, reel: &mut [u8]) -> Result<Taken, Re
 }
 
 // Whether the code is one of the codes and the record valid, by the causes 11, 12 and 13, and its N and T where none applies.
+#[tactic(auto, using(crate::proofs::WriteLaws::behind_code))]
 fn judge_target_and_form(record: &[u8], code: u32) -> Result<Numbers, Refusal>
     ensures { judged result ≡ record_found «record».now (then (refuse_if (not (is_code code)) 11 0) (form_causes «record».now)) }
 {

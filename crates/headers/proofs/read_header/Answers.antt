@@ -1,5 +1,5 @@
 -- `headers::read_header` meets its contract. Assumes nothing.
-use Rattle.std.proofs.Common.{rules, ◌≡◌, ◌∙◌, sym, ap, length, arith}
+use Rattle.std.proofs.Common.{rules, ℕ, ◌≡◌, ◌∙◌, sym, ap, length, arith}
 use borrow.Author.Tests.{ne_eqb}
 use Rattle.numbers.proofs.BoolLaws.{and_false}
 use Rattle.numbers.proofs.ByteLaws.{all_bytes}
@@ -27,7 +27,7 @@ returns c =
     let lowered : c.lower-2.new.out ≡ group_lowered 4 72 70 h (group_lowered 7 40 68 h h) =
     c.lower-2.ensures ∙ ap (group_lowered 4 72 70 h) (c.lower.ensures ∙ ap (group_lowered 7 40 68 h) held) in
     let filled : c.fill_field-2.new.out ≡ field_filled h a.i 0 117 (field_filled h a.n 0 115 (group_lowered 4 72 70 h (group_lowered 7 40 68 h h))) =
-    c.fill_field-2.ensures ∙ ap (field_filled h a.i 0 117) (c.fill_field.ensures ∙ ap (field_filled h a.n 0 115) lowered) in
+    c.fill_field-2.ensures ∙ ap (field_filled h a.i 0 117) (c.fill_field.ensures ∙ ap (λ (n : ℕ). field_filled h n 0 115 c.lower-2.new.out) {y = a.n} (grind arith) ∙ ap (field_filled h a.n 0 115) lowered) in
     let bytes = all_bytes a.reel.now (λ j. omega (arith, c.type_inv.reel j)) in
     filled ∙ header_stored a.reel.now h a.at.0 whole.1 a.n a.i ∙ sym (header_is a.reel.now bytes a.n a.i a.at.0)
     ∙ sym (header_read_lem a.reel.now a.n a.i a.at.0 a.out.now whole.0 c.in-Some-as_mut_array.ensures.cases.long)

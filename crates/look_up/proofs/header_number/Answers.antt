@@ -1,5 +1,5 @@
 -- `look_up::header_number` meets its contract. Assumes nothing.
-use Rattle.std.proofs.Common.{arith, ◌+◌, ◌*◌, ◌≤◌, length, refl, subst, ℕ, sym}
+use Rattle.std.proofs.Common.{arith, ◌+◌, ◌*◌, ◌≤◌, length, ℕ}
 use native.Mathlib.Nat.{mul-le-mul}
 use Rattle.reel.specs.Layout.{traces_of, stride_of}
 use Rattle.reel.proofs.CheckLaws.{reel_fine, inside}
@@ -11,17 +11,20 @@ trace_number-requires c =
     let n = (reel_fine c.args.reel.now c.requires.0.fine).numbers in
     (omega (arith, c.requires.0.samples, n.n_high), omega (arith, c.requires.0.interval, n.i_high))
 
--- a trace begins within the reel
-within : (c : In-Some) → let a = c.args in 3600 + c.in-Some.before * a.own.stride ≤ length a.reel.now
-within c =
+-- behind no more traces than the reel has, its bytes aren't at their end yet
+within : (c : In-Some) (m : ℕ) → m ≤ traces_of c.args.reel.now → 3600 + m * c.args.own.stride ≤ length c.args.reel.now
+within c m l =
     let a = c.args in
     let s = a.reel.now in
-    let l : c.in-Some.before ≤ traces_of s = omega (arith, c.requires.1, c.in-Some.ensures) in
     let w : a.own.stride ≤ stride_of s = omega (arith, c.requires.0.stride) in
     omega (arith, mul-le-mul l w, inside s (reel_fine s c.requires.0.fine))
 
+-- nor behind those before a trace, or with it
+fits : (c : In-Some) → (3600 + c.in-Some.before * c.args.own.stride ≤ length c.args.reel.now) × (3600 + c.args.trace * c.args.own.stride ≤ length c.args.reel.now)
+fits c = (within c c.in-Some.before (omega (arith, c.requires.1, c.in-Some.ensures)), within c c.args.trace c.requires.1)
+
 pub overflow_mul-start : goal.overflow_mul-start
-overflow_mul-start c = record { fits = omega (arith, within (goal.at.overflow_mul-start c).In-Some, c.well_formed.0) }
+overflow_mul-start c = record { fits = omega (arith, fits (goal.at.overflow_mul-start c).In-Some, c.well_formed.0) }
 
 pub overflow_add-start : goal.overflow_add-start
-overflow_add-start c = record { fits = omega (arith, within (goal.at.overflow_add-start c).In-Some, c.well_formed.0) }
+overflow_add-start c = record { fits = omega (arith, fits (goal.at.overflow_add-start c).In-Some, c.well_formed.0) }

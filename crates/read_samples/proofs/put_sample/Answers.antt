@@ -11,7 +11,7 @@ returns c =
     let out = c.args.out.now in
     let bits : c.of_signed.result ≡ bits_of 16 c.args.pair.e = search rules in
     let wide : c.of_signed-2.result ≡ bits_of 32 c.args.pair.m = search rules in
-    let front : c.put.new.out ≡ bytes_of 2 (bits_of 16 c.args.pair.e) = copied (bytes_of 2 c.of_signed.result) _ c.put.ensures (search rules) ∙ ap (bytes_of 2) bits in
-    let behind : c.put-2.new.out ≡ bytes_of 4 (bits_of 32 c.args.pair.m) = copied (bytes_of 4 c.of_signed-2.result) _ c.put-2.ensures (search rules) ∙ ap (bytes_of 4) wide in
+    let front : c.put.new.out ≡ bytes_of 2 (bits_of 16 c.args.pair.e) = copied (bytes_of 2 _) _ c.put.ensures (search rules) ∙ ap (bytes_of 2) (omega arith ∙ bits) in
+    let behind : c.put-2.new.out ≡ bytes_of 4 (bits_of 32 c.args.pair.m) = copied (bytes_of 4 _) _ c.put-2.ensures (search rules) ∙ ap (bytes_of 4) (omega arith ∙ wide) in
     let size : length out ≡ 2 + (length (c.put.new.out ++ drop 2 out) - 2) = rw front (omega (arith, c.requires, length-drop 2 out)) in
     in_turn 2 (length (c.put.new.out ++ drop 2 out) - 2) out size refl front behind

@@ -17,7 +17,3 @@ returns-in_err-check_code c =
     let e = c.in_err-check_code.field-0.0 in
     let q : judged c.from_residual.result ≡ Refused (cause_no e.cause) e.place = search rules in
     q ∙ ap (behind c.args.«record».now) (checked_answer (is_code c.args.code) _ c.in_err-check_code.ensures)
-
-pub returns : goal.returns
-unfolding behind
-returns c = c.judge_record.ensures ∙ ap (behind c.args.«record».now) (checked_answer (is_code c.args.code) _ c.in_ok-check_code.ensures)

@@ -30,8 +30,7 @@ pub returns : goal.returns
 returns c =
     let f = (goal.at.returns c).After-field_at-p in
     let a = f.args in
-    let new = bytes_of 2 c.number.result in
     let p = place_no f.field_at-p.result in
-    over a.out.now new p (p + 2) refl (copied _ _ c.put.ensures (c.put-arg-1.given.2 ∙ omega arith))
-    ∙ ap (λ (x : ℕ). overwritten a.out.now x new) (place f)
-    ∙ ap (λ (x : ℕ). overwritten a.out.now (byte_place 0 3225) (bytes_of 2 x)) c.number.ensures
+    let new : c.put.new.out ≡ bytes_of 2 (code_no a.code) =
+    copied (bytes_of 2 _) _ c.put.ensures (c.put-arg-1.given.2 ∙ omega arith) ∙ ap (bytes_of 2) (omega arith ∙ c.number.ensures) in
+    over a.out.now (bytes_of 2 (code_no a.code)) p (p + 2) refl new ∙ ap (λ (x : ℕ). overwritten a.out.now x (bytes_of 2 (code_no a.code))) (place f)
