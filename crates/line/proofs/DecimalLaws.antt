@@ -55,6 +55,10 @@ opened n h = simp (le-ltb n 10 h)
 pub decimal_more : (n : ℕ) → 10 ≤ n → n < 2 ^ 64 → decimal_of n ≡ decimal_of (n / 10) ++ digit (n % 10) ∷ []
 decimal_more n h g = opened n h ∙ ap (λ l. l ++ digit (n % 10) ∷ []) (sym (shorter (n / 10) (omega arith)))
 
--- There is room for the last digit.
+-- A number below 10 ^ 19 has at most 19 digits,
+pub decimal_short : (n : ℕ) → n < 10 ^ 19 → length (decimal_of n) ≤ 19
+decimal_short n h = rw (shorter n h) (size_in 19 n)
+
+-- so there is room for the last digit.
 pub decimal_room : (n : ℕ) → n < 2 ^ 64 → length (decimal_of (n / 10)) ≤ 19
-decimal_room n h = rw (shorter (n / 10) (omega arith)) (size_in 19 (n / 10))
+decimal_room n h = decimal_short (n / 10) (omega arith)
