@@ -10,6 +10,9 @@ ghost use Rattle.cases.specs.declared.Stop.{Stop};
 ghost use Rattle.cases.specs.declared.Stop.TheVariants.{BadCase, Failed};
 ghost use Rattle.digests.specs.Digest.{digest_of};
 
+mod closure;
+
+pub use closure::run_cases;
 use numbers::Refusal;
 use std::io::Read;
 use std::{fmt, io};
@@ -92,7 +95,7 @@ pub trait Cases {
 
 // Runs cases until one of them stops the run, and answers what is no case with that line.
 // A proved loop has to end, and nothing says that the input does. So the loop counts its turns, up to a number that no run reaches.
-pub fn run_cases<C: Cases + Drop>(rt: &impl Print, bad: &str, mut cases: C) -> io::Result<()>
+pub fn run_all<C: Cases + Drop>(rt: &impl Print, bad: &str, mut cases: C) -> io::Result<()>
     ensures { (n : ℕ) × (last : C) × FoldsTo C.step cases (replicate n (Ok tt)) last × Follows C.step n last result }
 {
     for _ in 0..u64::MAX {

@@ -144,5 +144,5 @@ impl<R: Read> Cases for Vectors<R> {
 
 // A line that is cut short is the last.
 fn main(rt: HostRuntime) -> io::Result<()> {
-    cases::run_cases(&rt, "bad line", Vectors { input: rt.reader() })
+    cases::run_all(&rt, "bad line", Vectors { input: rt.reader() })
 }

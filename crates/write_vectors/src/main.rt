@@ -140,5 +140,5 @@ impl<R: Read> Cases for Vectors<R> {
 }
 
 fn main(rt: HostRuntime) -> io::Result<()> {
-    cases::run_cases(&rt, "bad case", Vectors { input: rt.reader() })
+    cases::run_all(&rt, "bad case", Vectors { input: rt.reader() })
 }

@@ -1,0 +1,2 @@
+-- A run over cases, turn by turn.
+pub mod RunLaws
