@@ -8,8 +8,8 @@ use crate::Stop;
 use std::io;
 
 // Runs cases, each by a call of the closure, until one of them stops the run, and answers what is no case with that line.
-// `run_all` is the same of a value that has cases to run. This one asks that the closure may be called: nothing in a closure's type says so,
-// and no type that holds one can keep it as its invariant.
+// `run_all` is the same of a value that has cases to run, and says why the loop counts its turns. This one asks that the closure may be
+// called: nothing in a closure's type says so, and without a heap no type that holds one can keep it as its invariant.
 pub fn run_cases<F: FnMut() -> Result<(), Stop>>(
     rt: &impl Print,
     bad: &str,
@@ -35,7 +35,7 @@ mod tests {
     use std::cell::Cell;
     use std::fmt;
     use std::fmt::{Display, Write};
-    use std::io::Print;
+    use std::io::{ErrorKind, Print};
 
     // What is left of a text, of which each part that is written has to be the next.
     #[derive(Drop)]
@@ -75,10 +75,11 @@ mod tests {
         }
     }
 
-    // Three cases that go well, and then each way in which a run stops: the lines that it prints, and whether it went well.
+    // Three cases that go well, and then each way in which a run stops: the lines that it prints, and what it answers.
     #[test]
     fn runs_until_a_case_stops(rt: HostRuntime) {
-        for (way, lines, well) in [(0, 0, true), (1, 1, true), (2, 0, false)] {
+        let failed = Err(ErrorKind::TimedOut);
+        for (way, lines, want) in [(0, 0, Ok(())), (1, 1, Ok(())), (2, 0, failed)] {
             let page = Page {
                 lines: Cell::new(0),
             };
@@ -91,10 +92,10 @@ mod tests {
                 Err(match way {
                     0 => Stop::AtEnd,
                     1 => Stop::BadCase,
-                    _ => Stop::Failed(io::Error::other("failed")),
+                    _ => Stop::Failed(io::Error::from(ErrorKind::TimedOut)),
                 })
             });
-            assert_eq!(rt; answer.is_ok(), well, "way {way}");
+            assert_eq!(rt; answer.map_err(|e| e.kind()), want, "way {way}");
             assert_eq!(rt; calls, 4, "way {way}");
             assert_eq!(rt; page.lines.get(), lines, "way {way}");
         }
